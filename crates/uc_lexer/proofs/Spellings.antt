@@ -37,7 +37,7 @@ other_digit c o d = false≢true (sym (ap not (digit_word c d)) ∙ o)
 apart_sym : (p q : ℕ → Bool) → Apart p q → Apart q p
 apart_sym p q a c x y = a c y x
 
-Begins-append : (p : ℕ → Bool) (xs ys : List ℕ) → Begins p xs → Begins p (xs ++ ys)
+pub Begins-append : (p : ℕ → Bool) (xs ys : List ℕ) → Begins p xs → Begins p (xs ++ ys)
 Begins-append p [] ys b = absurd b
 Begins-append p (x ∷ xs) ys b = b
 
@@ -53,7 +53,7 @@ IsBvType bytes kind = (digits : List ℕ) × (bytes ≡ codes "bv" ++ digits) ×
 abbrev pub IsBvLiteral : List ℕ → TokenKind → Type 0
 IsBvLiteral bytes kind = (value : List ℕ) × (width : List ℕ) × (bytes ≡ value ++ (codes "bv" ++ width)) × IsDigits value × IsDigits width × (kind ≡ BvLit (value_of value) (value_of width))
 
-literal_digit : (bytes value width : List ℕ) → bytes ≡ value ++ (codes "bv" ++ width) → Begins is_digit value → Begins is_digit bytes
+pub literal_digit : (bytes value width : List ℕ) → bytes ≡ value ++ (codes "bv" ++ width) → Begins is_digit value → Begins is_digit bytes
 literal_digit bytes value width e b = subst (λ (t : List ℕ). Begins is_digit t) (sym e) (Begins-append is_digit value (codes "bv" ++ width) b)
 
 -- what begins with a letter is a word

@@ -4,6 +4,8 @@ use Rattle.uc_lexer.specs.declared.place.Place.{Place}
 use Rattle.uc_lexer.specs.declared.token.Token.{Token}
 use Rattle.uc_lexer.specs.declared.fault.LexFault.{LexFault}
 use Rattle.uc_lexer.specs.declared.fault.LexFault.TheVariants.{BadByte, BadNumber, OpenComment}
+use Rattle.uc_lexer.specs.declared.error.LexError.{LexError}
+use Rattle.uc_lexer.specs.declared.error.LexError.TheVariants.{NoMemory, Fault}
 use Rattle.uc_lexer.specs.Gap.{Skips, IsOpenComment}
 use Rattle.uc_lexer.specs.Places.{place_of}
 use Rattle.uc_lexer.specs.Spelling.{IsToken, IsBadNumber, IsBadByte}
@@ -61,6 +63,11 @@ Tokens file text tokens = Reads file text 0 tokens None
 -- this is the first fault of the text
 abbrev pub FirstFault : ℕ → List ℕ → LexFault → Type 0
 FirstFault file text fault = (tokens : List Token) × Reads file text 0 tokens (Some fault)
+
+-- a fault that is answered is the first of the text
+abbrev pub IsLexError : ℕ → List ℕ → LexError → Type 0
+IsLexError file text NoMemory = Unit {0}
+IsLexError file text (Fault fault) = FirstFault file text fault
 
 -- a text has at most one list of tokens or first fault
 abbrev pub HasOneReading : Type 0
