@@ -152,7 +152,7 @@ fn state_in(s: &Scope, primed: bool) -> &State
 }
 
 /// What a unary operator gives.
-#[tactic(auto, unfolding(crate::specs::Operators::unary))]
+#[tactic(auto)]
 fn unary(operator: UnaryOperator, operand: &Value) -> Result<Value, EvalError>
     ensures { IfOk result (λ v. v ≡ unary operator operand.now) }
 {

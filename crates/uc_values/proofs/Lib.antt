@@ -1,0 +1,4 @@
+pub mod Shapes
+pub mod Scalars
+pub mod Fitting
+pub mod Stores
