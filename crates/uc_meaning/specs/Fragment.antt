@@ -2,9 +2,7 @@
 use Rattle.std.specs.Prelude.{◌≡◌, ℕ, ◌+◌, Bool, true, false, not, ◌&&◌, nat_eq, nat_le, IsTrue, List, [], ◌∷◌, map, length, Option, Some, None}
 use Rattle.std.specs.List.{list_all, list_any, flat_map, filter_map}
 use Rattle.uc_syntax.specs.declared.type_expression.TypeExpr.{TypeExpr}
-use Rattle.uc_syntax.specs.declared.type_expression.TypeExpr.TheOpen.{TypeExpr-F}
-use Rattle.uc_syntax.specs.declared.type_expression.TypeExpr.TheOpen.TypeExpr-F.{Boolean}
-use Rattle.uc_syntax.specs.declared.type_expression.TypeExpr.TheViews.{out-TypeExpr}
+use Rattle.uc_syntax.specs.declared.type_expression.TypeExpr.TheVariants.{Boolean}
 use Rattle.uc_syntax.specs.declared.expression.Expr.{Expr}
 use Rattle.uc_syntax.specs.declared.expression.Expr.TheOpen.{Expr-F}
 use Rattle.uc_syntax.specs.declared.expression.Expr.TheOpen.Expr-F.{Or, Unary, Selected}
@@ -17,9 +15,7 @@ use Rattle.uc_syntax.specs.declared.expression.UnaryOperator.TheVariants.{Not}
 use Rattle.uc_syntax.specs.declared.statement.Target.{Target}
 use Rattle.uc_syntax.specs.declared.statement.TargetPart.{TargetPart}
 use Rattle.uc_syntax.specs.declared.statement.Stmt.{Stmt}
-use Rattle.uc_syntax.specs.declared.statement.Stmt.TheOpen.{Stmt-F}
-use Rattle.uc_syntax.specs.declared.statement.Stmt.TheOpen.Stmt-F.{Assign}
-use Rattle.uc_syntax.specs.declared.statement.Stmt.TheViews.{out-Stmt}
+use Rattle.uc_syntax.specs.declared.statement.Stmt.TheVariants.{Assign}
 use Rattle.uc_syntax.specs.declared.declaration.Decl.{Decl}
 use Rattle.uc_syntax.specs.declared.declaration.Decl.TheVariants.{Variables, Init, Next, Invariant, Control}
 use Rattle.uc_syntax.specs.declared.declaration.VariableKind.TheVariants.{Variable}
@@ -29,6 +25,7 @@ use Rattle.uc_syntax.specs.declared.declaration.WrittenRun.TheVariants.{Unroll}
 use Rattle.uc_syntax.specs.declared.declaration.Module.{Module}
 use Rattle.uc_meaning.specs.declared.scope.Scope.{Scope}
 use Rattle.uc_meaning.specs.Lookup.{System}
+use Rattle.uc_meaning.specs.Lines.{main_declarations}
 
 -- how many variables a design may have, and how many steps a run may be unrolled
 abbrev pub most_variables : ℕ
@@ -74,40 +71,38 @@ assigns_one primed names (t ∷ []) (e ∷ []) = written_by primed names t && is
 assigns_one primed names ts es = false
 
 -- an assignment of one variable, primed in a `next` block
-abbrev pub assigns_form : Bool → List ℕ → Stmt-F Stmt → Bool
-assigns_form primed names (Assign place targets sources) = assigns_one primed names targets sources
-assigns_form primed names other = false
+abbrev pub assigns : Bool → List ℕ → Stmt → Bool
+assigns primed names (Assign place targets sources) = assigns_one primed names targets sources
+assigns primed names other = false
 
-unfoldable pub assigns : Bool → List ℕ → Stmt → Bool
-assigns primed names s = assigns_form primed names (out-Stmt s)
-
-abbrev pub targets_form : Stmt-F Stmt → List ℕ
-targets_form (Assign place targets sources) = map (λ t. t.name) targets
-targets_form other = []
+abbrev pub targets_of : Stmt → List ℕ
+targets_of (Assign place targets sources) = map (λ t. t.name) targets
+targets_of other = []
 
 -- the variables that a block writes, in order
-unfoldable pub targets_in : List Stmt → List ℕ
-targets_in block = flat_map (λ s. targets_form (out-Stmt s)) block
+abbrev pub targets_in : List Stmt → List ℕ
+targets_in block = flat_map targets_of block
 
 -- no number stands twice
 unfoldable pub all_differ : List ℕ → Bool
 all_differ [] = true
 all_differ (x ∷ xs) = not (holds_name xs x) && all_differ xs
 
-abbrev pub is_boolean_form : TypeExpr-F TypeExpr → Bool
-is_boolean_form (Boolean place) = true
-is_boolean_form other = false
-
 abbrev pub is_boolean : TypeExpr → Bool
-is_boolean type = is_boolean_form (out-TypeExpr type)
+is_boolean (Boolean place) = true
+is_boolean other = false
 
 -- the variables of a module, in order
 abbrev pub names_in : Decl → List ℕ
 names_in (Variables place kind names type) = map (λ i. i.name) names
 names_in other = []
 
-unfoldable pub variable_names : List Decl → List ℕ
+abbrev pub variable_names : List Decl → List ℕ
 variable_names decls = flat_map names_in decls
+
+-- the variables of main, in order
+abbrev pub variables : System → List ℕ
+variables system = variable_names (main_declarations system)
 
 -- what a declaration names: its variables, or its formula
 abbrev pub declared_in : Decl → List ℕ
@@ -115,7 +110,7 @@ declared_in (Variables place kind names type) = map (λ i. i.name) names
 declared_in (Invariant place i formula) = i.name ∷ []
 declared_in other = []
 
-unfoldable pub declared_names : List Decl → List ℕ
+abbrev pub declared_names : List Decl → List ℕ
 declared_names decls = flat_map declared_in decls
 
 -- `unroll(N); check; print_results;`

@@ -1,0 +1,340 @@
+-- What follows from a design's being in the fragment.
+use Rattle.std.proofs.Common.{◌≡◌, ℕ, suc, ◌+◌, List, [], ◌∷◌, ◌++◌, map, length, length-append, get_or, drop, ◌<◌, ◌≤◌, Option, Some, None, Bool, true, false, not, ◌&&◌, ◌||◌, refl, ap, ◌∙◌, sym, subst, arith, rules, append-nil}
+use Rattle.std.specs.Prelude.{nat_eq, cond, IsTrue, if◌then◌else◌, slice_get, is_some, nat_le}
+use Rattle.std.specs.Option.{option_and_then}
+use Rattle.std.specs.List.{list_all, list_any, find, filter, filter_map, flat_map, position_from}
+use Rattle.std.proofs.lemmas.Bool.Decides.{nat_tests}
+use Rattle.std.proofs.lemmas.Grind.{flat_map-append}
+use Rattle.uc_syntax.specs.declared.place.Place.{Place}
+use Rattle.uc_syntax.specs.declared.place.Identifier.{Identifier}
+use Rattle.uc_syntax.specs.declared.type_expression.TypeExpr.{TypeExpr}
+use Rattle.uc_syntax.specs.declared.type_expression.TypeExpr.TheVariants.{Boolean}
+use Rattle.uc_syntax.specs.declared.type_expression.TypeExpr.TheOpen.TypeExpr-F.{Boolean as BooleanForm}
+use Rattle.uc_syntax.specs.declared.type_expression.TypeExpr.TheViews.{roll-TypeExpr}
+use Rattle.uc_syntax.specs.declared.type_expression.TypeExpr.TheFolds.{fold-TypeExpr, fold-roll-TypeExpr}
+use Rattle.uc_syntax.specs.declared.statement.Stmt.{Stmt}
+use Rattle.uc_syntax.specs.declared.statement.Stmt.TheVariants.{Assign}
+use Rattle.uc_syntax.specs.declared.statement.Stmt.TheOpen.Stmt-F.{Assign as AssignForm}
+use Rattle.uc_syntax.specs.declared.statement.Stmt.TheViews.{roll-Stmt}
+use Rattle.uc_syntax.specs.declared.statement.Stmt.TheFolds.{fold-Stmt, fold-roll-Stmt}
+use Rattle.uc_syntax.specs.declared.declaration.Decl.{Decl}
+use Rattle.uc_syntax.specs.declared.declaration.Decl.TheVariants.{Variables, Init, Next, Invariant, Control}
+use Rattle.uc_syntax.specs.declared.declaration.VariableKind.{VariableKind}
+use Rattle.uc_syntax.specs.declared.declaration.VariableKind.TheVariants.{Variable}
+use Rattle.uc_syntax.specs.declared.declaration.Module.{Module}
+use Rattle.uc_values.specs.declared.ty.Ty.{Ty}
+use Rattle.uc_values.specs.declared.ty.Ty.TheVariants.{Bool as boolean_type}
+use Rattle.uc_values.proofs.Shapes.{and_true}
+use Rattle.uc_meaning.specs.Lookup.{System, InstanceParts, bound_to, first_some, or_else, some_if, names_one, is_named, main_module, module_from, module_at, instance_in, instances_of, variable_in, variable_of}
+use Rattle.uc_meaning.specs.Types.{Written, enums_form, enums_in, enums_of_module, types_in, types_in_block, types_in_form, types_of_module, modules_form, modules_brought, imported_by, label_in, label_of, type_form, type_by, type_through, type_of_written}
+use Rattle.uc_meaning.specs.Cells.{InstanceAt, module_of_instance, Cell, longest_chain, as_list, main_instance, instances, instances_from, instances_below, cells_in, cells_of, cell_of, same_path}
+use Rattle.uc_meaning.specs.Fragment.{is_boolean, is_simple_decl, assigns, assigns_one, names_in, variable_names, variables, holds_name, most_variables, all_differ, declared_names, at_most_one, is_init, is_next, is_control, are_simple, InFragment}
+use Rattle.uc_meaning.specs.declared.scope.Scope.{Scope}
+use Rattle.uc_meaning.specs.Expressions.{Elsewhere, reads, name, meaning_of, meant_reading, name_meaning, global_meaning, module_meaning, declared_meaning, in_cell, state_in}
+use Rattle.uc_meaning.specs.Plain.{AreVariables, IsTop, ReadsCell}
+use Rattle.uc_meaning.proofs.Lists.{drop_turn, position_found, position_past}
+
+pub append-map : {A B : Type 0} (f : A → B) (xs ys : List A) → map f (xs ++ ys) ≡ map f xs ++ map f ys
+append-map f [] ys = refl
+append-map f (x ∷ xs) ys = ap (λ zs. f x ∷ zs) (append-map f xs ys)
+
+-- a simple module declares no instance
+no_instance : (names : List ℕ) (d : Decl) → is_simple_decl names d ≡ true → instance_in d ≡ None
+no_instance names (Variables place Variable ids type) h = refl
+no_instance names (Init place block) h = refl
+no_instance names (Next place block) h = refl
+no_instance names (Invariant place i formula) h = refl
+no_instance names (Control place commands) h = refl
+no_instance names other h = cc
+
+pub no_instances : (names : List ℕ) (ds : List Decl) → list_all (is_simple_decl names) ds ≡ true → filter_map instance_in ds ≡ []
+no_instances names [] h = refl
+no_instances names (d ∷ ds) h =
+    let both : (is_simple_decl names d ≡ true) × (list_all (is_simple_decl names) ds ≡ true) = and_true h in
+    rw (no_instance names d both.0) (no_instances names ds both.1)
+
+-- the written type of a boolean variable
+pub boolean_through : (n : ℕ) (system : System) (m : Module) (p : Place) → type_through (suc n) system m (Boolean p) ≡ boolean_type
+unfolding type_through type_by roll-TypeExpr denote.Hole.Carrier.roll
+boolean_through n system m p = ap (λ f. f m) (fold-roll-TypeExpr (Module → Ty) (type_form system (type_through n system)) (BooleanForm p))
+
+pub boolean_written : (system : System) (m : Module) (type : TypeExpr) → is_boolean type ≡ true → type_of_written system m type ≡ boolean_type
+unfolding type_of_written
+boolean_written system m (Boolean p) h =
+    let n : length (flat_map (λ c. c.decls) system.modules) + 1 ≡ suc (length (flat_map (λ c. c.decls) system.modules)) = omega arith in
+    ap (λ k. type_through k system m (Boolean p)) n ∙ boolean_through (length (flat_map (λ c. c.decls) system.modules)) system m p
+boolean_written system m other h = cc
+
+-- main alone is in use
+pub fragment_main : (system : System) (f : InFragment system) → main_module system ≡ Some f.code
+fragment_main system f = ap (λ k. slice_get system.modules k) f.first ∙ ap (λ ms. slice_get ms 0) f.only
+
+pub all_simple : (system : System) (f : InFragment system) → list_all (is_simple_decl (variable_names f.code.decls)) f.code.decls ≡ true
+all_simple system f = (and_true f.simple).0
+
+pub fragment_instances : (system : System) (f : InFragment system) → instances system ≡ main_instance f.code ∷ []
+unfolding instances instances_from
+fragment_instances system f =
+    ap (λ m. flat_map (λ n. instances_from longest_chain system (main_instance n)) (as_list m)) (fragment_main system f)
+    ∙ append-nil (instances_from longest_chain system (main_instance f.code))
+    ∙ ap (λ is. main_instance f.code ∷ flat_map (instances_from 31 system) (flat_map (λ i. map (λ m. record { path = i.name ∷ []; code = m; is_bound = λ x. is_some (bound_to i x) }) (module_of_instance system i)) is)) (no_instances (variable_names f.code.decls) f.code.decls (all_simple system f))
+
+-- the cell of a boolean variable of main
+abbrev pub variable_cell : ℕ → Cell
+variable_cell x = record { path = []; name = x; kind = Variable; type = boolean_type }
+
+names_as_cells : (system : System) (m : Module) (type : TypeExpr) → type_of_written system m type ≡ boolean_type → (ids : List Identifier) →
+    map (λ i. record { path = []; name = i.name; kind = Variable; type = type_of_written system m type }) (filter (λ (i : Identifier). true) ids) ≡ map variable_cell (map (λ i. i.name) ids)
+names_as_cells system m type is [] = refl
+names_as_cells system m type is (i ∷ ids) =
+    ap (λ t. record { path = []; name = i.name; kind = Variable; type = t } ∷ map (λ j. record { path = []; name = j.name; kind = Variable; type = type_of_written system m type }) (filter (λ (j : Identifier). true) ids)) is
+    ∙ ap (λ cs. variable_cell i.name ∷ cs) (names_as_cells system m type is ids)
+
+cells_of_decl : (system : System) (m : Module) (names : List ℕ) (d : Decl) → is_simple_decl names d ≡ true →
+    cells_in system (main_instance m) d ≡ map variable_cell (names_in d)
+cells_of_decl system m names (Variables place Variable ids type) h = names_as_cells system m type (boolean_written system m type h) ids
+cells_of_decl system m names (Init place block) h = refl
+cells_of_decl system m names (Next place block) h = refl
+cells_of_decl system m names (Invariant place i formula) h = refl
+cells_of_decl system m names (Control place commands) h = refl
+cells_of_decl system m names other h = cc
+
+cells_of_decls : (system : System) (m : Module) (names : List ℕ) (ds : List Decl) → list_all (is_simple_decl names) ds ≡ true →
+    flat_map (cells_in system (main_instance m)) ds ≡ map variable_cell (variable_names ds)
+cells_of_decls system m names [] h = refl
+cells_of_decls system m names (d ∷ ds) h =
+    ap (λ cs. cs ++ flat_map (cells_in system (main_instance m)) ds) (cells_of_decl system m names d (and_true h).0)
+    ∙ ap (λ cs. map variable_cell (names_in d) ++ cs) (cells_of_decls system m names ds (and_true h).1)
+    ∙ sym (append-map variable_cell (names_in d) (variable_names ds))
+
+pub fragment_cells : (system : System) (f : InFragment system) → cells_of system ≡ map variable_cell (variable_names f.code.decls)
+unfolding cells_of
+fragment_cells system f =
+    ap (flat_map (λ here. flat_map (cells_in system here) here.code.decls)) (fragment_instances system f)
+    ∙ append-nil (flat_map (cells_in system (main_instance f.code)) f.code.decls)
+    ∙ cells_of_decls system f.code (variable_names f.code.decls) f.code.decls (all_simple system f)
+
+pub fragment_names : (system : System) (f : InFragment system) → variables system ≡ variable_names f.code.decls
+fragment_names system f =
+    ap (λ m. variable_names (flat_map (λ n. n.decls) (as_list m))) (fragment_main system f) ∙ ap variable_names (append-nil f.code.decls)
+
+turned : (x y : ℕ) → nat_eq x y ≡ nat_eq y x
+turned x y = grind (arith, nat_tests)
+
+place_among : (x : ℕ) (k : ℕ) (names : List ℕ) →
+    position_from (λ c. same_path c.path [] && nat_eq c.name x) k (map variable_cell names) ≡ position_from (nat_eq x) k names
+unfolding same_path
+place_among x k [] = refl
+place_among x k (y ∷ ys) =
+    ap (λ b. cond b (Some k) (position_from (λ c. same_path c.path [] && nat_eq c.name x) (k + 1) (map variable_cell ys))) (turned y x)
+    ∙ ap (λ o. cond (nat_eq x y) (Some k) o) (place_among x (k + 1) ys)
+
+pub fragment_cell_of : (system : System) (f : InFragment system) (x : ℕ) → cell_of system [] x ≡ position_from (nat_eq x) 0 (variable_names f.code.decls)
+unfolding cell_of
+fragment_cell_of system f x =
+    ap (position_from (λ c. same_path c.path [] && nat_eq c.name x) 0) (fragment_cells system f) ∙ place_among x 0 (variable_names f.code.decls)
+
+are_variables : (names : List ℕ) → AreVariables (map variable_cell names)
+are_variables [] = tt
+are_variables (x ∷ xs) = (refl, refl, are_variables xs)
+
+pub fragment_kinds : (system : System) → InFragment system → AreVariables (cells_of system)
+fragment_kinds system f = subst AreVariables (sym (fragment_cells system f)) (are_variables (variable_names f.code.decls))
+
+-- no declaration of the fragment writes an enum or names another module
+enums_none : (p : Place) → enums_in (Boolean p) ≡ []
+unfolding enums_in roll-TypeExpr denote.Hole.Carrier.roll
+enums_none p = fold-roll-TypeExpr (List Written) enums_form (BooleanForm p)
+
+modules_none : (p : Place) → fold-TypeExpr (List ℕ) modules_form (Boolean p) ≡ []
+unfolding roll-TypeExpr denote.Hole.Carrier.roll
+modules_none p = fold-roll-TypeExpr (List ℕ) modules_form (BooleanForm p)
+
+types_none : (primed : Bool) (names : List ℕ) (s : Stmt) → assigns primed names s ≡ true → fold-Stmt (List TypeExpr) types_in_form s ≡ []
+unfolding roll-Stmt denote.Hole.Carrier.roll
+types_none primed names (Assign place ts es) h = fold-roll-Stmt (List TypeExpr) types_in_form (AssignForm place ts es)
+types_none primed names other h = cc
+
+types_of_block : (primed : Bool) (names : List ℕ) (block : List Stmt) → list_all (assigns primed names) block ≡ true → types_in_block block ≡ []
+types_of_block primed names [] h = refl
+types_of_block primed names (s ∷ ss) h =
+    ap (λ ts. ts ++ types_in_block ss) (types_none primed names s (and_true h).0) ∙ types_of_block primed names ss (and_true h).1
+
+enums_of_boolean : (type : TypeExpr) → is_boolean type ≡ true → enums_in type ≡ []
+enums_of_boolean (Boolean p) h = enums_none p
+enums_of_boolean other h = cc
+
+modules_of_boolean : (type : TypeExpr) → is_boolean type ≡ true → fold-TypeExpr (List ℕ) modules_form type ≡ []
+modules_of_boolean (Boolean p) h = modules_none p
+modules_of_boolean other h = cc
+
+enums_of_decl : (names : List ℕ) (d : Decl) → is_simple_decl names d ≡ true → flat_map enums_in (types_in d) ≡ []
+enums_of_decl names (Variables place Variable ids type) h = append-nil (enums_in type) ∙ enums_of_boolean type h
+enums_of_decl names (Init place block) h = ap (flat_map enums_in) (types_of_block false names block h)
+enums_of_decl names (Next place block) h = ap (flat_map enums_in) (types_of_block true names block (and_true h).0)
+enums_of_decl names (Invariant place i formula) h = refl
+enums_of_decl names (Control place commands) h = refl
+enums_of_decl names other h = cc
+
+modules_of_decl : (names : List ℕ) (d : Decl) → is_simple_decl names d ≡ true → flat_map (fold-TypeExpr (List ℕ) modules_form) (types_in d) ≡ []
+modules_of_decl names (Variables place Variable ids type) h = append-nil (fold-TypeExpr (List ℕ) modules_form type) ∙ modules_of_boolean type h
+modules_of_decl names (Init place block) h = ap (flat_map (fold-TypeExpr (List ℕ) modules_form)) (types_of_block false names block h)
+modules_of_decl names (Next place block) h = ap (flat_map (fold-TypeExpr (List ℕ) modules_form)) (types_of_block true names block (and_true h).0)
+modules_of_decl names (Invariant place i formula) h = refl
+modules_of_decl names (Control place commands) h = refl
+modules_of_decl names other h = cc
+
+imports_of_decl : (names : List ℕ) (d : Decl) → is_simple_decl names d ≡ true → imported_by d ≡ []
+imports_of_decl names (Variables place Variable ids type) h = refl
+imports_of_decl names (Init place block) h = refl
+imports_of_decl names (Next place block) h = refl
+imports_of_decl names (Invariant place i formula) h = refl
+imports_of_decl names (Control place commands) h = refl
+imports_of_decl names other h = cc
+
+flat_none : {A B : Type 0} (f : A → List B) (p : A → Bool) → ((x : A) → p x ≡ true → f x ≡ []) → (xs : List A) → list_all p xs ≡ true → flat_map f xs ≡ []
+flat_none f p each [] h = refl
+flat_none f p each (x ∷ xs) h = ap (λ ys. ys ++ flat_map f xs) (each x (and_true h).0) ∙ flat_none f p each xs (and_true h).1
+
+flat_flat : {A B C : Type 0} (g : B → List C) (f : A → List B) (xs : List A) → flat_map g (flat_map f xs) ≡ flat_map (λ x. flat_map g (f x)) xs
+flat_flat g f [] = refl
+flat_flat g f (x ∷ xs) = flat_map-append g (f x) (flat_map f xs) ∙ ap (λ ys. flat_map g (f x) ++ ys) (flat_flat g f xs)
+
+pub fragment_labels : (system : System) (f : InFragment system) (x : ℕ) → label_of system f.code x ≡ None
+unfolding label_of modules_brought first_some
+fragment_labels system f x =
+    let names = variable_names f.code.decls in
+    let enums : enums_of_module f.code ≡ [] = flat_flat enums_in types_in f.code.decls ∙ flat_none (λ d. flat_map enums_in (types_in d)) (is_simple_decl names) (enums_of_decl names) f.code.decls (all_simple system f) in
+    let mods : flat_map (fold-TypeExpr (List ℕ) modules_form) (types_of_module f.code) ≡ [] = flat_flat (fold-TypeExpr (List ℕ) modules_form) types_in f.code.decls ∙ flat_none (λ d. flat_map (fold-TypeExpr (List ℕ) modules_form) (types_in d)) (is_simple_decl names) (modules_of_decl names) f.code.decls (all_simple system f) in
+    let imports : flat_map imported_by f.code.decls ≡ [] = flat_none imported_by (is_simple_decl names) (imports_of_decl names) f.code.decls (all_simple system f) in
+    rw (enums, mods, imports) refl
+
+-- the variables of the declarations from one on
+pub names_turn : (ds : List Decl) (k : ℕ) (d : Decl) → k < length ds → d ≡ get_or ds k d → variable_names (drop k ds) ≡ names_in d ++ variable_names (drop (k + 1) ds)
+names_turn ds k d within is = ap variable_names (drop_turn ds k d within is)
+
+pub names_found : (x k from j : ℕ) (ds : List Decl) (d : Decl) (all : Option ℕ) → k < length ds → d ≡ get_or ds k d →
+    position_from (nat_eq x) from (variable_names (drop k ds)) ≡ all → position_from (nat_eq x) from (names_in d) ≡ Some j → Some j ≡ all
+names_found x k from j ds d all within is h found =
+    sym (ap (position_from (nat_eq x) from) (names_turn ds k d within is) ∙ position_found (nat_eq x) from j (names_in d) (variable_names (drop (k + 1) ds)) found) ∙ h
+
+pub names_more : (x k from : ℕ) (ds : List Decl) (d : Decl) (all : Option ℕ) (total : ℕ) → k < length ds → d ≡ get_or ds k d →
+    (position_from (nat_eq x) from (variable_names (drop k ds)) ≡ all) × (from + length (variable_names (drop k ds)) ≡ total) → position_from (nat_eq x) from (names_in d) ≡ None →
+    (position_from (nat_eq x) (from + length (names_in d)) (variable_names (drop (k + 1) ds)) ≡ all) × ((from + length (names_in d)) + length (variable_names (drop (k + 1) ds)) ≡ total)
+names_more x k from ds d all total within is h none =
+    let e = ap length (names_turn ds k d within is) ∙ length-append (names_in d) (variable_names (drop (k + 1) ds)) in (
+      sym (ap (position_from (nat_eq x) from) (names_turn ds k d within is) ∙ position_past (nat_eq x) from (names_in d) (variable_names (drop (k + 1) ds)) none) ∙ h.0,
+      omega (arith, e, h.1),
+    )
+
+-- a name that a list holds stands at some place
+pub has_place : (x k : ℕ) (xs : List ℕ) → holds_name xs x ≡ true → position_from (nat_eq x) k xs ≡ None → ⊥
+has_place x k [] h n = cc
+has_place x k (y ∷ ys) h n = by_test (nat_eq x y) h n (has_place x (k + 1) ys)
+  where
+    by_test : (b : Bool) → (b || holds_name ys x) ≡ true → cond b (Some k) (position_from (nat_eq x) (k + 1) ys) ≡ None → (holds_name ys x ≡ true → position_from (nat_eq x) (k + 1) ys ≡ None → ⊥) → ⊥
+    by_test true h n more = cc
+    by_test false h n more = more h n
+
+named : (x : ℕ) (is : List Identifier) → holds_name (map (λ i. i.name) is) x ≡ true → names_one x is ≡ true
+named x [] e = e
+named x (i ∷ is) e = ap (λ b. b || names_one x is) (turned i.name x) ∙ by_first (nat_eq x i.name) e (named x is)
+  where
+    by_first : (b : Bool) → (b || holds_name (map (λ j. j.name) is) x) ≡ true → (holds_name (map (λ j. j.name) is) x ≡ true → names_one x is ≡ true) → (b || names_one x is) ≡ true
+    by_first true e more = refl
+    by_first false e more = more e
+
+unnamed : (x : ℕ) (is : List Identifier) → holds_name (map (λ i. i.name) is) x ≡ false → names_one x is ≡ false
+unnamed x [] e = e
+unnamed x (i ∷ is) e = ap (λ b. b || names_one x is) (turned i.name x) ∙ by_first (nat_eq x i.name) e (unnamed x is)
+  where
+    by_first : (b : Bool) → (b || holds_name (map (λ j. j.name) is) x) ≡ false → (holds_name (map (λ j. j.name) is) x ≡ false → names_one x is ≡ false) → (b || names_one x is) ≡ false
+    by_first true e more = e
+    by_first false e more = more e
+
+-- the declaration of a variable
+variable_found : (names : List ℕ) (x : ℕ) (d : Decl) → is_simple_decl names d ≡ true → holds_name (names_in d) x ≡ true → (type : TypeExpr) × (variable_in x d ≡ Some (Variable, type)) × (is_boolean type ≡ true)
+variable_found names x (Variables place Variable ids type) h has = (type, ap (λ b. some_if b (Variable, type)) (named x ids has), h)
+variable_found names x (Init place block) h has = cc
+variable_found names x (Next place block) h has = cc
+variable_found names x (Invariant place i formula) h has = cc
+variable_found names x (Control place commands) h has = cc
+variable_found names x other h has = cc
+
+variable_missed : (names : List ℕ) (x : ℕ) (d : Decl) → is_simple_decl names d ≡ true → holds_name (names_in d) x ≡ false → variable_in x d ≡ None
+variable_missed names x (Variables place Variable ids type) h has = ap (λ b. some_if b (Variable, type)) (unnamed x ids has)
+variable_missed names x (Init place block) h has = refl
+variable_missed names x (Next place block) h has = refl
+variable_missed names x (Invariant place i formula) h has = refl
+variable_missed names x (Control place commands) h has = refl
+variable_missed names x other h has = cc
+
+held_first : (x : ℕ) (xs ys : List ℕ) (b : Bool) → holds_name xs x ≡ b → holds_name (xs ++ ys) x ≡ true → b ≡ false → holds_name ys x ≡ true
+held_first x [] ys b e h f = h
+held_first x (z ∷ xs) ys b e h f = by_test (nat_eq x z) e h (held_first x xs ys b)
+  where
+    by_test : (t : Bool) → (t || holds_name xs x) ≡ b → (t || holds_name (xs ++ ys) x) ≡ true → (holds_name xs x ≡ b → holds_name (xs ++ ys) x ≡ true → b ≡ false → holds_name ys x ≡ true) → holds_name ys x ≡ true
+    by_test true e h more = cc
+    by_test false e h more = more e h f
+
+pub variable_among : (names : List ℕ) (x : ℕ) (ds : List Decl) → list_all (is_simple_decl names) ds ≡ true → holds_name (variable_names ds) x ≡ true →
+    (type : TypeExpr) × (first_some (variable_in x) ds ≡ Some (Variable, type)) × (is_boolean type ≡ true)
+unfolding first_some
+variable_among names x [] h has = cc
+variable_among names x (d ∷ ds) h has = by_test (holds_name (names_in d) x) refl (variable_among names x ds (and_true h).1)
+  where
+    by_test : (b : Bool) → holds_name (names_in d) x ≡ b → (holds_name (variable_names ds) x ≡ true → (type : TypeExpr) × (first_some (variable_in x) ds ≡ Some (Variable, type)) × (is_boolean type ≡ true)) →
+        (type : TypeExpr) × (or_else (variable_in x d) (first_some (variable_in x) ds) ≡ Some (Variable, type)) × (is_boolean type ≡ true)
+    by_test true e more =
+        let f = variable_found names x d (and_true h).0 e in
+        (f.0, ap (λ o. or_else o (first_some (variable_in x) ds)) f.1, f.2)
+    by_test false e more =
+        let r = more (held_first x (names_in d) (variable_names ds) false e has refl) in
+        (r.0, ap (λ o. or_else o (first_some (variable_in x) ds)) (variable_missed names x d (and_true h).0 e) ∙ r.1, r.2)
+
+pub fragment_variable : (system : System) (f : InFragment system) (x : ℕ) → holds_name (variables system) x ≡ true →
+    (type : TypeExpr) × (variable_of f.code x ≡ Some (Variable, type)) × (type_of_written system f.code type ≡ boolean_type)
+fragment_variable system f x has =
+    let v = variable_among (variable_names f.code.decls) x f.code.decls (all_simple system f) (ap (λ ns. holds_name ns x) (sym (fragment_names system f)) ∙ has) in
+    (v.0, v.1, boolean_written system f.code v.0 v.2)
+
+pub main_at_top : (system : System) (f : InFragment system) → module_at system [] ≡ Some f.code
+unfolding module_from
+main_at_top system f = ap (λ m. option_and_then (λ n. module_from system n []) m) (fragment_main system f)
+
+-- a variable is read in its cell
+pub fragment_reads : (system : System) (f : InFragment system) (x : ℕ) → holds_name (variables system) x ≡ true → ReadsCell system x
+unfolding meaning_of
+fragment_reads system f x has other s top primed =
+    let v = fragment_variable system f x has in
+    ap (λ ls. meant_reading other (name_meaning system s x primed (find (λ l. nat_eq l.name x) ls))) top.locals
+    ∙ ap (λ p. meant_reading other (global_meaning system s x primed (module_at system p))) top.path
+    ∙ ap (λ m. meant_reading other (global_meaning system s x primed m)) (main_at_top system f)
+    ∙ ap (λ l. meant_reading other (module_meaning system s x primed f.code l)) (fragment_labels system f x)
+    ∙ ap (λ d. meant_reading other (declared_meaning system s f.code x primed d)) v.1
+    ∙ ap (λ t. reads t (in_cell (state_in s primed) (cell_of system s.path x))) v.2
+    ∙ ap (λ p. reads boolean_type (in_cell (state_in s primed) (cell_of system p x))) top.path
+
+-- the place that a walk over the variables finds is that of the cell
+pub fragment_place : (system : System) (f : InFragment system) (x k : ℕ) (names : List ℕ) → names ≡ variables system → Some k ≡ position_from (nat_eq x) 0 names → cell_of system [] x ≡ Some k
+fragment_place system f x k names is found =
+    fragment_cell_of system f x ∙ ap (position_from (nat_eq x) 0) (sym (fragment_names system f)) ∙ ap (position_from (nat_eq x) 0) (sym is) ∙ sym found
+
+last_of : (a b c d e f : Bool) → (a && (b && (c && (d && (e && f))))) ≡ true → f ≡ true
+last_of true true true true true f h = h
+last_of a b c d e f h = cc
+
+pub fragment_size : (system : System) (f : InFragment system) (names : List ℕ) → names ≡ variables system → length names ≤ most_variables
+fragment_size system f names is =
+    let ds = f.code.decls in
+    let few : nat_le (length (variable_names ds)) most_variables ≡ true =
+        last_of (list_all (is_simple_decl (variable_names ds)) ds) (all_differ (declared_names ds)) (at_most_one is_init ds) (at_most_one is_next ds) (at_most_one is_control ds) (nat_le (length (variable_names ds)) most_variables) f.simple in
+    let e : length names ≡ length (variable_names ds) = ap length (is ∙ fragment_names system f) in
+    grind (arith, nat_tests, few, e)
+
+counted : (js : List Identifier) → length js ≡ length (map (λ i. i.name) js)
+counted [] = refl
+counted (j ∷ js) = ap suc (counted js)
+
+pub same_length : (is : List Identifier) (names : List ℕ) → map (λ i. i.name) is ≡ names → length is ≡ length names
+same_length is names e = counted is ∙ ap length e
