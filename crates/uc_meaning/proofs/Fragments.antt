@@ -5,6 +5,8 @@ use Rattle.std.specs.Option.{option_and_then}
 use Rattle.std.specs.List.{list_all, list_any, find, filter, filter_map, flat_map, position_from}
 use Rattle.std.proofs.lemmas.Bool.Decides.{nat_tests}
 use Rattle.std.proofs.lemmas.Grind.{flat_map-append}
+use Rattle.std.proofs.lemmas.List.{drop_all}
+use Rattle.std.proofs.lemmas.List.Folds.{list_all-append}
 use Rattle.uc_syntax.specs.declared.place.Place.{Place}
 use Rattle.uc_syntax.specs.declared.place.Identifier.{Identifier}
 use Rattle.uc_syntax.specs.declared.type_expression.TypeExpr.{TypeExpr}
@@ -25,12 +27,14 @@ use Rattle.uc_syntax.specs.declared.declaration.Module.{Module}
 use Rattle.uc_values.specs.declared.ty.Ty.{Ty}
 use Rattle.uc_values.specs.declared.ty.Ty.TheVariants.{Bool as boolean_type}
 use Rattle.uc_values.proofs.Shapes.{and_true}
-use Rattle.uc_meaning.specs.Lookup.{System, InstanceParts, bound_to, first_some, or_else, some_if, names_one, is_named, main_module, module_from, module_at, instance_in, instances_of, variable_in, variable_of}
+use Rattle.uc_meaning.specs.Lookup.{System, InstanceParts, bound_to, first_some, or_else, some_if, names_one, is_named, main_module, module_from, module_at, instance_in, instances_of, init_in, next_in, next_of, variable_in, variable_of}
 use Rattle.uc_meaning.specs.Types.{Written, enums_form, enums_in, enums_of_module, types_in, types_in_block, types_in_form, types_of_module, modules_form, modules_brought, imported_by, label_in, label_of, type_form, type_by, type_through, type_of_written}
 use Rattle.uc_meaning.specs.Cells.{InstanceAt, module_of_instance, Cell, longest_chain, as_list, main_instance, instances, instances_from, instances_below, cells_in, cells_of, cell_of, same_path}
-use Rattle.uc_meaning.specs.Fragment.{is_boolean, is_simple_decl, assigns, assigns_one, names_in, variable_names, variables, holds_name, most_variables, all_differ, declared_names, at_most_one, is_init, is_next, is_control, are_simple, InFragment}
+use Rattle.uc_meaning.specs.Fragment.{is_boolean, is_simple_decl, assigns, assigns_one, names_in, variable_names, variables, holds_name, most_variables, all_differ, declared_names, targets_in, at_most_one, at_most_one_after, is_init, is_next, is_control, are_simple, InFragment}
 use Rattle.uc_meaning.specs.declared.scope.Scope.{Scope}
 use Rattle.uc_meaning.specs.Expressions.{Elsewhere, reads, name, meaning_of, meant_reading, name_meaning, global_meaning, module_meaning, declared_meaning, in_cell, state_in}
+use Rattle.uc_meaning.specs.Lines.{main_declarations}
+use Rattle.uc_meaning.specs.Steps.{main_next}
 use Rattle.uc_meaning.specs.Plain.{AreVariables, IsTop, ReadsCell}
 use Rattle.uc_meaning.proofs.Lists.{drop_turn, position_found, position_past}
 
@@ -192,6 +196,10 @@ imports_of_decl names (Invariant place i formula) h = refl
 imports_of_decl names (Control place commands) h = refl
 imports_of_decl names other h = cc
 
+or_false : {a b : Bool} → (a || b) ≡ false → (a ≡ false) × (b ≡ false)
+or_false {a = true} h = cc
+or_false {a = false} h = (refl, h)
+
 flat_none : {A B : Type 0} (f : A → List B) (p : A → Bool) → ((x : A) → p x ≡ true → f x ≡ []) → (xs : List A) → list_all p xs ≡ true → flat_map f xs ≡ []
 flat_none f p each [] h = refl
 flat_none f p each (x ∷ xs) h = ap (λ ys. ys ++ flat_map f xs) (each x (and_true h).0) ∙ flat_none f p each xs (and_true h).1
@@ -338,3 +346,136 @@ counted (j ∷ js) = ap suc (counted js)
 
 pub same_length : (is : List Identifier) (names : List ℕ) → map (λ i. i.name) is ≡ names → length is ≡ length names
 same_length is names e = counted is ∙ ap length e
+
+-- where at most one declaration is of a kind, what such declarations give is what the first one gives
+none_of : {B : Type 0} (p : Decl → Bool) (f : Decl → List B) → ((d : Decl) → p d ≡ false → f d ≡ []) → (ds : List Decl) → list_any p ds ≡ false → flat_map f ds ≡ []
+none_of p f other [] h = refl
+none_of p f other (d ∷ ds) h = ap (λ ys. ys ++ flat_map f ds) (other d (or_false h).0) ∙ none_of p f other ds (or_false h).1
+
+no_init : (d : Decl) → is_init d ≡ false → init_in d ≡ []
+no_init (Init place block) h = cc
+no_init other h = refl
+
+no_next : (d : Decl) → is_next d ≡ false → next_in d ≡ []
+no_next (Next place block) h = cc
+no_next other h = refl
+
+after_one : (p : Decl → Bool) (d : Decl) (ds : List Decl) → at_most_one p (d ∷ ds) ≡ true → p d ≡ true → list_any p ds ≡ false
+unfolding at_most_one
+after_one p d ds h e = by_test (p d) h e
+  where
+    not_true : (b : Bool) → not b ≡ true → b ≡ false
+    not_true true h = cc
+    not_true false h = refl
+    by_test : (b : Bool) → at_most_one_after b (at_most_one p ds) (list_any p ds) ≡ true → b ≡ true → list_any p ds ≡ false
+    by_test true h e = not_true (list_any p ds) h
+    by_test false h e = cc
+
+after_none : (p : Decl → Bool) (d : Decl) (ds : List Decl) → at_most_one p (d ∷ ds) ≡ true → p d ≡ false → at_most_one p ds ≡ true
+unfolding at_most_one
+after_none p d ds h e = by_test (p d) h e
+  where
+    by_test : (b : Bool) → at_most_one_after b (at_most_one p ds) (list_any p ds) ≡ true → b ≡ false → at_most_one p ds ≡ true
+    by_test true h e = cc
+    by_test false h e = h
+
+-- Before turn k of a walk over declarations none of the kind was met.
+pub record NoneBefore {B : Type 0} (p : Decl → Bool) (f : Decl → List B) (ds : List Decl) (k : ℕ) : Type 0 where
+  pub rest : flat_map f (drop k ds) ≡ flat_map f ds
+  pub most : at_most_one p (drop k ds) ≡ true
+
+pub none_begin : {B : Type 0} (p : Decl → Bool) (f : Decl → List B) (ds : List Decl) → at_most_one p ds ≡ true → NoneBefore p f ds 0
+none_begin p f ds h = record { rest = refl; most = h }
+
+pub init_found : (ds : List Decl) (k : ℕ) (d : Decl) (place : Place) (block : List Stmt) → NoneBefore is_init init_in ds k → k < length ds → d ≡ get_or ds k d → d ≡ Init place block → block ≡ flat_map init_in ds
+init_found ds k d place block before within is form =
+    let turn : drop k ds ≡ Init place block ∷ drop (k + 1) ds = drop_turn ds k d within is ∙ ap (λ x. x ∷ drop (k + 1) ds) form in
+    let one : at_most_one is_init (Init place block ∷ drop (k + 1) ds) ≡ true = ap (at_most_one is_init) (sym turn) ∙ before.most in
+    sym (append-nil block)
+    ∙ ap (λ ys. block ++ ys) (sym (none_of is_init init_in no_init (drop (k + 1) ds) (after_one is_init (Init place block) (drop (k + 1) ds) one refl)))
+    ∙ sym (ap (flat_map init_in) turn) ∙ before.rest
+
+pub next_found : (ds : List Decl) (k : ℕ) (d : Decl) (place : Place) (block : List Stmt) → NoneBefore is_next next_in ds k → k < length ds → d ≡ get_or ds k d → d ≡ Next place block → block ≡ flat_map next_in ds
+next_found ds k d place block before within is form =
+    let turn : drop k ds ≡ Next place block ∷ drop (k + 1) ds = drop_turn ds k d within is ∙ ap (λ x. x ∷ drop (k + 1) ds) form in
+    let one : at_most_one is_next (Next place block ∷ drop (k + 1) ds) ≡ true = ap (at_most_one is_next) (sym turn) ∙ before.most in
+    sym (append-nil block)
+    ∙ ap (λ ys. block ++ ys) (sym (none_of is_next next_in no_next (drop (k + 1) ds) (after_one is_next (Next place block) (drop (k + 1) ds) one refl)))
+    ∙ sym (ap (flat_map next_in) turn) ∙ before.rest
+
+none_more : {B : Type 0} (p : Decl → Bool) (f : Decl → List B) → ((d : Decl) → p d ≡ false → f d ≡ []) → (ds : List Decl) (k : ℕ) (d : Decl) → NoneBefore p f ds k → k < length ds → d ≡ get_or ds k d → p d ≡ false → NoneBefore p f ds (k + 1)
+none_more p f other ds k d before within is h =
+    let turn : drop k ds ≡ d ∷ drop (k + 1) ds = drop_turn ds k d within is in
+    record {
+      rest = sym (ap (λ ys. ys ++ flat_map f (drop (k + 1) ds)) (other d h)) ∙ sym (ap (flat_map f) turn) ∙ before.rest;
+      most = after_none p d (drop (k + 1) ds) (ap (at_most_one p) (sym turn) ∙ before.most) h;
+    }
+
+pub init_more : (ds : List Decl) (k : ℕ) (d : Decl) → NoneBefore is_init init_in ds k → k < length ds → d ≡ get_or ds k d → ((place : Place) (block : List Stmt) → d ≡ Init place block → ⊥) → NoneBefore is_init init_in ds (k + 1)
+init_more ds k d before within is never = none_more is_init init_in no_init ds k d before within is (kind d never)
+  where
+    kind : (e : Decl) → ((place : Place) (block : List Stmt) → e ≡ Init place block → ⊥) → is_init e ≡ false
+    kind (Init place block) never = absurd (never place block refl)
+    kind other never = refl
+
+pub next_more : (ds : List Decl) (k : ℕ) (d : Decl) → NoneBefore is_next next_in ds k → k < length ds → d ≡ get_or ds k d → ((place : Place) (block : List Stmt) → d ≡ Next place block → ⊥) → NoneBefore is_next next_in ds (k + 1)
+next_more ds k d before within is never = none_more is_next next_in no_next ds k d before within is (kind d never)
+  where
+    kind : (e : Decl) → ((place : Place) (block : List Stmt) → e ≡ Next place block → ⊥) → is_next e ≡ false
+    kind (Next place block) never = absurd (never place block refl)
+    kind other never = refl
+
+pub none_end : {B : Type 0} (p : Decl → Bool) (f : Decl → List B) (ds : List Decl) (k : ℕ) → NoneBefore p f ds k → length ds ≤ k → [] ≡ flat_map f ds
+none_end p f ds k before past = sym (ap (flat_map f) (drop_all k ds past)) ∙ before.rest
+
+init_simple : (names : List ℕ) (d : Decl) → is_simple_decl names d ≡ true → list_all (assigns false names) (init_in d) ≡ true
+init_simple names (Init place block) h = h
+init_simple names other h = refl
+
+next_simple : (names : List ℕ) (d : Decl) → is_simple_decl names d ≡ true → list_all (assigns true names) (next_in d) ≡ true
+next_simple names (Next place block) h = (and_true h).0
+next_simple names other h = refl
+
+all_of : {A B : Type 0} (q : B → Bool) (f : A → List B) (p : A → Bool) → ((x : A) → p x ≡ true → list_all q (f x) ≡ true) → (xs : List A) → list_all p xs ≡ true → list_all q (flat_map f xs) ≡ true
+all_of q f p each [] h = refl
+all_of q f p each (x ∷ xs) h =
+    list_all-append q (f x) (flat_map f xs) ∙ ap (λ b. b && list_all q (flat_map f xs)) (each x (and_true h).0) ∙ all_of q f p each xs (and_true h).1
+
+once : (names : List ℕ) (ds : List Decl) → list_all (is_simple_decl names) ds ≡ true → at_most_one is_next ds ≡ true → all_differ (targets_in (flat_map next_in ds)) ≡ true
+unfolding all_differ
+once names [] h m = refl
+once names (d ∷ ds) h m = by_kind d (and_true h).0 m (once names ds (and_true h).1)
+  where
+    by_kind : (e : Decl) → is_simple_decl names e ≡ true → at_most_one is_next (e ∷ ds) ≡ true → (at_most_one is_next ds ≡ true → all_differ (targets_in (flat_map next_in ds)) ≡ true) → all_differ (targets_in (flat_map next_in (e ∷ ds))) ≡ true
+    by_kind (Next place block) k m more =
+        ap (λ ys. all_differ (targets_in (block ++ ys))) (none_of is_next next_in no_next ds (after_one is_next (Next place block) ds m refl))
+        ∙ ap (λ ys. all_differ (targets_in ys)) (append-nil block) ∙ (and_true k).1
+    by_kind other k m more = more (after_none is_next other ds m refl)
+
+last_parts : (a b c d e f : Bool) → (a && (b && (c && (d && (e && f))))) ≡ true → (c ≡ true) × (d ≡ true)
+last_parts true true true true true f h = (refl, refl)
+last_parts a b c d e f h = cc
+
+pub fragment_most : (system : System) (f : InFragment system) → (at_most_one is_init f.code.decls ≡ true) × (at_most_one is_next f.code.decls ≡ true)
+fragment_most system f =
+    let ds = f.code.decls in
+    last_parts (list_all (is_simple_decl (variable_names ds)) ds) (all_differ (declared_names ds)) (at_most_one is_init ds) (at_most_one is_next ds) (at_most_one is_control ds) (nat_le (length (variable_names ds)) most_variables) f.simple
+
+pub fragment_declarations : (system : System) (f : InFragment system) → main_declarations system ≡ f.code.decls
+fragment_declarations system f = ap (λ m. flat_map (λ n. n.decls) (as_list m)) (fragment_main system f) ∙ append-nil f.code.decls
+
+pub fragment_next : (system : System) (f : InFragment system) → main_next system ≡ flat_map next_in f.code.decls
+fragment_next system f = ap (λ m. flat_map next_of (as_list m)) (fragment_main system f) ∙ append-nil (next_of f.code)
+
+pub fragment_init_simple : (system : System) (f : InFragment system) → list_all (assigns false (variables system)) (flat_map init_in f.code.decls) ≡ true
+fragment_init_simple system f =
+    ap (λ ns. list_all (assigns false ns) (flat_map init_in f.code.decls)) (fragment_names system f)
+    ∙ all_of (assigns false (variable_names f.code.decls)) init_in (is_simple_decl (variable_names f.code.decls)) (init_simple (variable_names f.code.decls)) f.code.decls (all_simple system f)
+
+pub fragment_next_simple : (system : System) (f : InFragment system) → list_all (assigns true (variables system)) (flat_map next_in f.code.decls) ≡ true
+fragment_next_simple system f =
+    ap (λ ns. list_all (assigns true ns) (flat_map next_in f.code.decls)) (fragment_names system f)
+    ∙ all_of (assigns true (variable_names f.code.decls)) next_in (is_simple_decl (variable_names f.code.decls)) (next_simple (variable_names f.code.decls)) f.code.decls (all_simple system f)
+
+pub fragment_once : (system : System) (f : InFragment system) → all_differ (targets_in (flat_map next_in f.code.decls)) ≡ true
+fragment_once system f = once (variable_names f.code.decls) f.code.decls (all_simple system f) (fragment_most system f).1

@@ -15,7 +15,9 @@ use Rattle.uc_syntax.specs.declared.expression.Expr.TheOpen.Expr-F.{If, Iff, Imp
 use Rattle.uc_syntax.specs.declared.expression.Expr.TheViews.{roll-Expr, out-Expr, Or, Unary, Selected, the_lemmas}
 use Rattle.uc_syntax.specs.declared.expression.Expr.TheFolds.{fold-roll-Expr}
 use Rattle.uc_syntax.specs.declared.statement.Target.{Target}
-use Rattle.uc_meaning.specs.Fragment.{is_simple, is_simple_form, is_not, has_none, reads_variable, written_by, assigns_one}
+use Rattle.uc_syntax.specs.declared.statement.Stmt.{Stmt}
+use Rattle.uc_syntax.specs.declared.statement.Stmt.TheVariants.{Assign}
+use Rattle.uc_meaning.specs.Fragment.{is_simple, is_simple_form, is_not, has_none, reads_variable, holds_name, written_by, assigns, assigns_one}
 
 pub simple_or : (names : List ℕ) (place : Place) (operands : List Expr) (marks : List Place) →
     is_simple names (Or place operands marks) ≡ list_all (is_simple names) operands
@@ -126,3 +128,23 @@ pub no_other : (names : List ℕ) (e : Expr) → is_simple names e ≡ true →
 no_other names e h a b c =
     other_layer names (out-Expr e) (ap (is_simple names) (rolled e) ∙ h)
     (λ p os ms is. a p os ms (sym (rolled e) ∙ is)) (λ p o x is. b p o x (sym (rolled e) ∙ is)) (λ p q ss is. c p q ss (sym (rolled e) ∙ is))
+
+-- the target of a simple assignment is a variable alone
+none : {A : Type 0} (xs : List A) → has_none xs ≡ true → xs ≡ []
+none [] h = refl
+none (x ∷ xs) h = cc
+
+pub written_name : (primed : Bool) (names : List ℕ) (t : Target) → written_by primed names t ≡ true → (t.parts ≡ []) × (holds_name names t.name ≡ true)
+written_name true names t h = (none t.parts (and_true h).0, (and_true (and_true h).1).1)
+written_name false names t h = (none t.parts (and_true h).0, (and_true (and_true h).1).1)
+
+pub assign_parts : (primed : Bool) (names : List ℕ) (s : Stmt) (place : Place) (ts : List Target) (es : List Expr) → s ≡ Assign place ts es → assigns primed names s ≡ true →
+    (list_all (written_by primed names) ts ≡ true) × (list_all (is_simple names) es ≡ true)
+assign_parts primed names s place ts es is h =
+    let h' : assigns_one primed names ts es ≡ true = sym (ap (assigns primed names) is) ∙ h in
+    (assigned_targets primed names ts es h', assigned_sources primed names ts es h')
+
+-- a simple statement is an assignment
+pub no_other_statement : (primed : Bool) (names : List ℕ) (s : Stmt) → assigns primed names s ≡ true → ((place : Place) (ts : List Target) (es : List Expr) → s ≡ Assign place ts es → ⊥) → ⊥
+no_other_statement primed names (Assign place ts es) h never = never place ts es refl
+no_other_statement primed names other h never = cc

@@ -24,7 +24,7 @@ use Rattle.uc_syntax.specs.declared.declaration.Command.TheVariants.{Run, Check,
 use Rattle.uc_syntax.specs.declared.declaration.WrittenRun.TheVariants.{Unroll}
 use Rattle.uc_syntax.specs.declared.declaration.Module.{Module}
 use Rattle.uc_meaning.specs.declared.scope.Scope.{Scope}
-use Rattle.uc_meaning.specs.Lookup.{System}
+use Rattle.uc_meaning.specs.Lookup.{System, init_in}
 use Rattle.uc_meaning.specs.Lines.{main_declarations}
 
 -- how many variables a design may have, and how many steps a run may be unrolled
@@ -139,14 +139,14 @@ abbrev pub is_control : Decl → Bool
 is_control (Control place commands) = true
 is_control other = false
 
+abbrev pub at_most_one_after : Bool → Bool → Bool → Bool
+at_most_one_after true rest more = not more
+at_most_one_after false rest more = rest
+
 -- at most one element passes
 unfoldable pub at_most_one : {A : Type 0} → (A → Bool) → List A → Bool
 at_most_one p [] = true
 at_most_one p (x ∷ xs) = at_most_one_after (p x) (at_most_one p xs) (list_any p xs)
-  where
-    at_most_one_after : Bool → Bool → Bool → Bool
-    at_most_one_after true rest more = not more
-    at_most_one_after false rest more = rest
 
 -- the declarations of a module that runs today: at most 12 boolean variables, at most one `init`, `next` and `control` block, and no name twice
 abbrev pub are_simple : List Decl → Bool
@@ -154,6 +154,10 @@ are_simple decls =
     list_all (is_simple_decl (variable_names decls)) decls
     && (all_differ (declared_names decls)
     && (at_most_one is_init decls && (at_most_one is_next decls && (at_most_one is_control decls && nat_le (length (variable_names decls)) most_variables))))
+
+-- the init block of main; none is the empty block
+abbrev pub main_init : System → List Stmt
+main_init system = flat_map init_in (main_declarations system)
 
 -- A design of one such module.
 pub record InFragment (system : System) : Type 0 where

@@ -1,6 +1,7 @@
 //! The meaning of a design: its states, runs and lines, and a plain program that computes it.
 #![tactic(auto)]
 
+mod code;
 mod evaluation;
 mod line;
 mod operators;
@@ -9,6 +10,7 @@ mod overflow;
 mod path;
 mod scope;
 
+pub use code::{CodeEnd, run_code};
 pub use evaluation::{EvalError, eval_all, eval_expr, is_true};
 pub use line::{At, Choices, Line, Trace, What};
 pub use ordered::Ordered;

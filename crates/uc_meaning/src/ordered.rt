@@ -1,14 +1,16 @@
 //! A checked design.
 
-ghost use Rattle.std.specs.Prelude.{◌≡◌, ◌+◌, ◌≤◌, [], true, map, length, nat_eq, Some};
-ghost use Rattle.std.specs.List.{position_from};
+ghost use Rattle.std.specs.Prelude.{◌≡◌, ◌+◌, ◌≤◌, [], true, false, map, length, nat_eq, Some};
+ghost use Rattle.std.specs.List.{position_from, list_all, flat_map};
 ghost use Rattle.uc_meaning.specs.Cells.{cell_of};
 ghost use Rattle.uc_meaning.specs.Lines.{main_declarations};
+ghost use Rattle.uc_meaning.specs.Lookup.{init_in, next_in};
+ghost use Rattle.uc_meaning.specs.Steps.{main_next};
 ghost use Rattle.uc_meaning.specs.Plain.{ReadsCell};
-ghost use Rattle.uc_meaning.specs.Fragment.{InFragment, variables, names_in, variable_names, holds_name, most_variables};
+ghost use Rattle.uc_meaning.specs.Fragment.{InFragment, variables, names_in, variable_names, holds_name, main_init, assigns, targets_in, all_differ, at_most_one, is_init, is_next, most_variables};
 
 use std::marker::Model;
-use uc_syntax::{Decl, Design, Identifier};
+use uc_syntax::{Decl, Design, Identifier, Stmt};
 
 /// A design that keeps the rules, with the number of main. Contracts see its modules and that number.
 #[derive(Drop)]
@@ -72,6 +74,25 @@ impl Ordered {
         }
     }
 
+    /// Main's `init` block; none is the empty block.
+    pub fn init_block(&self) -> &[Stmt]
+        ensures is { result.now ≡ main_init self.now }
+        ensures simple { list_all (assigns false (variables self.now)) result.now ≡ true }
+    {
+        self.keeps_fragment();
+        init_block(self.declarations())
+    }
+
+    /// Main's `next` block; none is the empty block.
+    pub fn next_block(&self) -> &[Stmt]
+        ensures is { result.now ≡ main_next self.now }
+        ensures simple { list_all (assigns true (variables self.now)) result.now ≡ true }
+        ensures once { all_differ (targets_in result.now) ≡ true }
+    {
+        self.keeps_fragment();
+        next_block(self.declarations())
+    }
+
     /// The place of a variable's cell.
     pub fn cell(&self, name: u32) -> usize
         requires { holds_name (variables self.now) name ≡ true }
@@ -84,6 +105,30 @@ impl Ordered {
             None => unreachable!(),
         }
     }
+}
+
+fn init_block(decls: &[Decl]) -> &[Stmt]
+    requires { at_most_one is_init decls.now ≡ true }
+    ensures { result.now ≡ flat_map init_in decls.now }
+{
+    for decl in decls {
+        if let Decl::Init(_, block) = decl {
+            return block.as_slice();
+        }
+    }
+    &[]
+}
+
+fn next_block(decls: &[Decl]) -> &[Stmt]
+    requires { at_most_one is_next decls.now ≡ true }
+    ensures { result.now ≡ flat_map next_in decls.now }
+{
+    for decl in decls {
+        if let Decl::Next(_, block) = decl {
+            return block.as_slice();
+        }
+    }
+    &[]
 }
 
 /// The first place of a name among the variables of a few declarations.
