@@ -1,5 +1,5 @@
 -- What follows from a design's being in the fragment.
-use Rattle.std.proofs.Common.{◌≡◌, ℕ, suc, ◌+◌, List, [], ◌∷◌, ◌++◌, map, length, length-append, get_or, drop, ◌<◌, ◌≤◌, Option, Some, None, Bool, true, false, not, ◌&&◌, ◌||◌, refl, ap, ◌∙◌, sym, subst, arith, rules, append-nil}
+use Rattle.std.proofs.Common.{◌≡◌, ℕ, suc, ◌+◌, List, [], ◌∷◌, ◌++◌, map, length, length-append, get_or, drop, ◌<◌, ◌≤◌, Option, Some, None, Bool, true, false, not, ◌&&◌, ◌||◌, refl, ap, ◌∙◌, sym, subst, arith, rules, append-nil, eq-eqb}
 use Rattle.std.specs.Prelude.{nat_eq, cond, IsTrue, if◌then◌else◌, slice_get, is_some, nat_le}
 use Rattle.std.specs.Option.{option_and_then}
 use Rattle.std.specs.List.{list_all, list_any, find, filter, filter_map, flat_map, position_from}
@@ -29,9 +29,13 @@ use Rattle.uc_values.specs.declared.ty.Ty.TheVariants.{Bool as boolean_type}
 use Rattle.uc_values.proofs.Shapes.{and_true}
 use Rattle.uc_meaning.specs.Lookup.{System, InstanceParts, bound_to, first_some, or_else, some_if, names_one, is_named, main_module, module_from, module_at, instance_in, instances_of, init_in, next_in, next_of, variable_in, variable_of}
 use Rattle.uc_meaning.specs.Types.{Written, enums_form, enums_in, enums_of_module, types_in, types_in_block, types_in_form, types_of_module, modules_form, modules_brought, imported_by, label_in, label_of, type_form, type_by, type_through, type_of_written}
-use Rattle.uc_meaning.specs.Cells.{InstanceAt, module_of_instance, Cell, longest_chain, as_list, main_instance, instances, instances_from, instances_below, cells_in, cells_of, cell_of, same_path}
+use Rattle.uc_meaning.specs.Cells.{InstanceAt, module_of_instance, Cell, longest_chain, as_list, main_instance, instances, instances_from, instances_below, cells_in, cells_of, cell_of, same_path, modules_in_use, constants_in, constants_of, FunctionParts, functions_in, functions_of, FitAll, FitTables, IsInterpretation, IsState}
 use Rattle.uc_meaning.specs.Fragment.{is_boolean, is_simple_decl, assigns, assigns_one, names_in, variable_names, variables, holds_name, most_variables, all_differ, declared_names, targets_in, at_most_one, at_most_one_after, is_init, is_next, is_control, are_simple, InFragment}
+use Rattle.uc_values.specs.declared.value.Value.{Value}
+use Rattle.uc_values.specs.declared.table.Table.{Table}
 use Rattle.uc_meaning.specs.declared.scope.Scope.{Scope}
+use Rattle.uc_meaning.specs.declared.scope.State.{State}
+use Rattle.uc_meaning.specs.declared.scope.Interp.{Interp}
 use Rattle.uc_meaning.specs.Expressions.{Elsewhere, reads, name, meaning_of, meant_reading, name_meaning, global_meaning, module_meaning, declared_meaning, in_cell, state_in}
 use Rattle.uc_meaning.specs.Lines.{main_declarations}
 use Rattle.uc_meaning.specs.Steps.{main_next}
@@ -479,3 +483,78 @@ fragment_next_simple system f =
 
 pub fragment_once : (system : System) (f : InFragment system) → all_differ (targets_in (flat_map next_in f.code.decls)) ≡ true
 fragment_once system f = once (variable_names f.code.decls) f.code.decls (all_simple system f) (fragment_most system f).1
+
+-- no constant and no function is in use
+no_constant : (system : System) (m : Module) (names : List ℕ) (d : Decl) → is_simple_decl names d ≡ true → constants_in system m d ≡ []
+no_constant system m names (Variables place Variable ids type) h = refl
+no_constant system m names (Init place block) h = refl
+no_constant system m names (Next place block) h = refl
+no_constant system m names (Invariant place i formula) h = refl
+no_constant system m names (Control place commands) h = refl
+no_constant system m names other h = cc
+
+no_function : (system : System) (m : Module) (names : List ℕ) (d : Decl) → is_simple_decl names d ≡ true → functions_in system m d ≡ []
+no_function system m names (Variables place Variable ids type) h = refl
+no_function system m names (Init place block) h = refl
+no_function system m names (Next place block) h = refl
+no_function system m names (Invariant place i formula) h = refl
+no_function system m names (Control place commands) h = refl
+no_function system m names other h = cc
+
+pub fragment_in_use : (system : System) (f : InFragment system) → modules_in_use system ≡ f.code ∷ []
+unfolding modules_in_use
+fragment_in_use system f =
+    ap (λ is. filter (λ m. list_any (λ i. nat_eq i.code.name m.name) is) system.modules) (fragment_instances system f)
+    ∙ ap (filter (λ m. nat_eq f.code.name m.name || false)) f.only
+    ∙ ap (λ b. cond (b || false) (f.code ∷ []) []) (eq-eqb f.code.name f.code.name refl)
+
+pub fragment_constants : (system : System) (f : InFragment system) → constants_of system ≡ []
+unfolding constants_of
+fragment_constants system f =
+    ap (flat_map (λ m. flat_map (constants_in system m) m.decls)) (fragment_in_use system f)
+    ∙ append-nil (flat_map (constants_in system f.code) f.code.decls)
+    ∙ flat_none (constants_in system f.code) (is_simple_decl (variable_names f.code.decls)) (no_constant system f.code (variable_names f.code.decls)) f.code.decls (all_simple system f)
+
+pub fragment_functions : (system : System) (f : InFragment system) → functions_of system ≡ []
+unfolding functions_of
+fragment_functions system f =
+    ap (flat_map (λ m. flat_map (functions_in system m) m.decls)) (fragment_in_use system f)
+    ∙ append-nil (flat_map (functions_in system f.code) f.code.decls)
+    ∙ flat_none (functions_in system f.code) (is_simple_decl (variable_names f.code.decls)) (no_function system f.code (variable_names f.code.decls)) f.code.decls (all_simple system f)
+
+-- an interpretation of the fragment has nothing to say
+abbrev pub nothing_said : Interp
+nothing_said = record { consts = []; tables = [] }
+
+none_fit : (ts : List Ty) (vs : List Value) → ts ≡ [] → FitAll ts vs → vs ≡ []
+unfolding FitAll
+none_fit ts [] e h = refl
+none_fit [] (v ∷ vs) e h = absurd h
+none_fit (t ∷ ts) (v ∷ vs) e h = cc
+
+none_tabled : (fs : List FunctionParts) (ts : List Table) → fs ≡ [] → FitTables fs ts → ts ≡ []
+unfolding FitTables
+none_tabled fs [] e h = refl
+none_tabled [] (t ∷ ts) e h = absurd h
+none_tabled (f ∷ fs) (t ∷ ts) e h = cc
+
+pub fragment_interp : (system : System) (f : InFragment system) (i : Interp) → IsInterpretation system i → i ≡ nothing_said
+fragment_interp system f i fits =
+    let cs : i.consts ≡ [] = none_fit (map (λ c. c.type) (constants_of system)) i.consts (ap (map (λ c. c.type)) (fragment_constants system f)) fits.constants in
+    let ts : i.tables ≡ [] = none_tabled (functions_of system) i.tables (fragment_functions system f) fits.tables in
+    ap (λ xs. record i { consts = xs }) cs ∙ ap (λ xs. record { consts = []; tables = xs }) ts
+
+length_map : {A B : Type 0} (f : A → B) (xs : List A) → length (map f xs) ≡ length xs
+length_map f [] = refl
+length_map f (x ∷ xs) = ap suc (length_map f xs)
+
+-- as many values fit as there are types
+pub fit_length : (ts : List Ty) (vs : List Value) → FitAll ts vs → length vs ≡ length ts
+unfolding FitAll
+fit_length [] [] h = refl
+fit_length (t ∷ ts) (v ∷ vs) h = ap suc (fit_length ts vs h.1)
+fit_length [] (v ∷ vs) h = absurd h
+fit_length (t ∷ ts) [] h = absurd h
+
+pub state_length : (system : System) (s : State) → IsState system s → length s.cells ≡ length (cells_of system)
+state_length system s h = fit_length (map (λ c. c.type) (cells_of system)) s.cells h ∙ length_map (λ c. c.type) (cells_of system)
