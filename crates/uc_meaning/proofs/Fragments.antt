@@ -340,7 +340,7 @@ pub fragment_size : (system : System) (f : InFragment system) (names : List ℕ)
 fragment_size system f names is =
     let ds = f.code.decls in
     let few : nat_le (length (variable_names ds)) most_variables ≡ true =
-        last_of (list_all (is_simple_decl (variable_names ds)) ds) (all_differ (declared_names ds)) (at_most_one is_init ds) (at_most_one is_next ds) (at_most_one is_control ds) (nat_le (length (variable_names ds)) most_variables) f.simple in
+    last_of (list_all (is_simple_decl (variable_names ds)) ds) (all_differ (declared_names ds)) (at_most_one is_init ds) (at_most_one is_next ds) (at_most_one is_control ds) (nat_le (length (variable_names ds)) most_variables) f.simple in
     let e : length names ≡ length (variable_names ds) = ap length (is ∙ fragment_names system f) in
     grind (arith, nat_tests, few, e)
 
@@ -371,6 +371,7 @@ after_one p d ds h e = by_test (p d) h e
     not_true : (b : Bool) → not b ≡ true → b ≡ false
     not_true true h = cc
     not_true false h = refl
+
     by_test : (b : Bool) → at_most_one_after b (at_most_one p ds) (list_any p ds) ≡ true → b ≡ true → list_any p ds ≡ false
     by_test true h e = not_true (list_any p ds) h
     by_test false h e = cc
@@ -544,7 +545,7 @@ fragment_interp system f i fits =
     let ts : i.tables ≡ [] = none_tabled (functions_of system) i.tables (fragment_functions system f) fits.tables in
     ap (λ xs. record i { consts = xs }) cs ∙ ap (λ xs. record { consts = []; tables = xs }) ts
 
-length_map : {A B : Type 0} (f : A → B) (xs : List A) → length (map f xs) ≡ length xs
+pub length_map : {A B : Type 0} (f : A → B) (xs : List A) → length (map f xs) ≡ length xs
 length_map f [] = refl
 length_map f (x ∷ xs) = ap suc (length_map f xs)
 
@@ -558,3 +559,16 @@ fit_length (t ∷ ts) [] h = absurd h
 
 pub state_length : (system : System) (s : State) → IsState system s → length s.cells ≡ length (cells_of system)
 state_length system s h = fit_length (map (λ c. c.type) (cells_of system)) s.cells h ∙ length_map (λ c. c.type) (cells_of system)
+
+pub count_more : (ds : List Decl) (k : ℕ) (d : Decl) (is : List Identifier) (count total : ℕ) → k < length ds → d ≡ get_or ds k d → map (λ i. i.name) is ≡ names_in d →
+    count + length (variable_names (drop k ds)) ≡ total → (count + length is) + length (variable_names (drop (k + 1) ds)) ≡ total
+count_more ds k d is count total within at names h =
+    let e = ap length (names_turn ds k d within at) ∙ length-append (names_in d) (variable_names (drop (k + 1) ds)) in
+    omega (arith, e, h, same_length is (names_in d) names)
+
+pub count_end : (ds : List Decl) (k count total : ℕ) → length ds ≤ k → count + length (variable_names (drop k ds)) ≡ total → count ≡ total
+count_end ds k count total past h = omega (arith, h, ap (λ xs. length (variable_names xs)) (drop_all k ds past))
+
+pub fragment_count : (system : System) (f : InFragment system) (names : List ℕ) → names ≡ variables system → length names ≡ length (cells_of system)
+fragment_count system f names is =
+    ap length (is ∙ fragment_names system f) ∙ sym (length_map variable_cell (variable_names f.code.decls)) ∙ ap length (sym (fragment_cells system f))

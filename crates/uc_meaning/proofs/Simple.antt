@@ -30,9 +30,6 @@ pub simple_unary : (names : List ℕ) (place : Place) (operator : UnaryOperator)
 unfolding is_simple roll-Expr denote.Hole.Carrier.roll
 simple_unary names place operator e = fold-roll-Expr Bool (is_simple_form names) (UnaryForm place operator e)
 
-
-
-
 -- an element of a list that passes, passes
 pub all_at : {A : Type 0} (p : A → Bool) (xs : List A) (k : ℕ) (x : A) → list_all p xs ≡ true → k < length xs → x ≡ get_or xs k x → p x ≡ true
 all_at p xs k x h within is = elim_test (p x) refl

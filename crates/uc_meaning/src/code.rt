@@ -1,19 +1,22 @@
 //! Sequential code.
 
-ghost use Rattle.std.specs.Prelude.{◌≡◌, slice_set, true, false, IfOk};
+ghost use Rattle.std.specs.Prelude.{◌≡◌, ◌+◌, ◌≤◌, [], length, slice_set, true, false, IfOk};
 ghost use Rattle.std.specs.List.{list_all};
 ghost use Rattle.uc_meaning.specs.Code.{set_name, write_all, run};
 ghost use Rattle.uc_meaning.specs.Plain.{IsTop};
 ghost use Rattle.uc_meaning.specs.Fragment.{variables, holds_name, assigns, written_by};
-ghost use Rattle.uc_meaning.specs.Ends.{IsEnd, GoesTo, begun};
+ghost use Rattle.uc_meaning.specs.Cells.{IsInterpretation, cells_of};
+ghost use Rattle.uc_meaning.specs.Steps.{init, scope_of, state_of};
+ghost use Rattle.uc_meaning.specs.Ends.{IsEnd, IsInitEnd, init_begun, first_unfit, booleans, length_used, counted_from, GoesTo, begun};
 
 use crate::evaluation::{EvalError, eval_all};
 use crate::ordered::Ordered;
-use crate::scope::{Scope, Site};
+use crate::path::Path;
+use crate::scope::{Interp, Scope, Site, State};
 use std::alloc::Global;
 use uc_items::{Items, at};
 use uc_syntax::{Stmt, Target};
-use uc_values::{Value, copy};
+use uc_values::{Ty, Value, copy, copy_all, fits};
 
 /// How code ends.
 #[derive(Drop)]
@@ -55,12 +58,7 @@ pub fn run_code(
 }
 
 /// Runs an assignment.
-fn run_statement(
-    alloc: Global,
-    d: &Ordered,
-    s: Scope,
-    statement: &Stmt,
-) -> Result<Scope, EvalError>
+fn run_statement(alloc: Global, d: &Ordered, s: Scope, statement: &Stmt) -> Result<Scope, EvalError>
     requires top { IsTop s }
     requires simple { assigns false (variables d.now) statement.now ≡ true }
     ensures { IfOk result (λ t. GoesTo d.now s statement.now t) }
@@ -125,4 +123,104 @@ fn set_cell(cells: &mut Items<Value>, k: usize, value: Value)
     if k < cells.len() {
         cells.set(k, value);
     }
+}
+
+/// Runs all init code from the state that the choices begin with.
+pub fn init_end(
+    alloc: Global,
+    d: &Ordered,
+    i: &Interp,
+    choices: &[Value],
+) -> Result<CodeEnd, EvalError>
+    requires interp { IsInterpretation d.now i.now }
+    ensures { IfOk result (λ end. IsInitEnd d.now i.now choices.now end) }
+{
+    d.keeps_fragment();
+    let count = d.cell_count();
+    match first_unfit(count, choices) {
+        Some(n) => Ok(CodeEnd::BadChoice(n)),
+        None => {
+            let end = init_from(alloc, d, i, count, choices)?;
+            Ok(end)
+        }
+    }
+}
+
+/// Runs all init code, where so many choices are the values of the cells.
+fn init_from(
+    alloc: Global,
+    d: &Ordered,
+    i: &Interp,
+    count: usize,
+    choices: &[Value],
+) -> Result<CodeEnd, EvalError>
+    requires interp { IsInterpretation d.now i.now }
+    requires cells { count ≡ length (cells_of d.now) }
+    requires enough { count ≤ length choices.now }
+    ensures { IfOk result (λ end. IsEnd choices.now end (init d.now (init_begun d.now i.now choices.now))) }
+{
+    d.keeps_fragment();
+    let scope = main_scope(alloc, d, i, &choices[..count])?;
+    let end = run_code(alloc, d, scope, d.init_block(), &choices[count..])?;
+    Ok(counted_from(count, choices.len(), end))
+}
+
+/// The same end, where the choices are counted from an earlier one.
+fn counted_from(count: usize, all: usize, end: CodeEnd) -> CodeEnd
+    requires { count + length_used end ≤ all }
+    ensures { result ≡ counted_from count end }
+{
+    match end {
+        CodeEnd::Ended {
+            scope,
+            violated,
+            used,
+        } => CodeEnd::Ended {
+            scope,
+            violated,
+            used: count + used,
+        },
+        CodeEnd::Stopped => CodeEnd::Stopped,
+        CodeEnd::BadChoice(n) => CodeEnd::BadChoice(count + n),
+    }
+}
+
+/// The scope of main in a state.
+fn main_scope(alloc: Global, d: &Ordered, i: &Interp, cells: &[Value]) -> Result<Scope, EvalError>
+    requires interp { IsInterpretation d.now i.now }
+    ensures { IfOk result (λ s. s ≡ scope_of i.now [] (state_of cells.now)) }
+{
+    d.keeps_fragment();
+    let cells = copy_all(alloc, cells)?;
+    Ok(Scope {
+        path: Path::main(alloc),
+        before: State { cells },
+        after: None,
+        at_entry: None,
+        copies: Items::new(alloc),
+        locals: Items::new(alloc),
+        interp: Interp {
+            consts: Items::new(alloc),
+            tables: Items::new(alloc),
+        },
+    })
+}
+
+/// The place of the first of so many truth values that is missing or none.
+fn first_unfit(count: usize, choices: &[Value]) -> Option<usize>
+    ensures { result ≡ first_unfit 0 (booleans count) choices.now }
+{
+    for k in 0..count {
+        match at(choices, k) {
+            Some(value) => {
+                if !fits(&Ty::Bool, value) {
+                    return Some(k);
+                }
+            }
+            None => {
+                return Some(k);
+            }
+        }
+    }
+    None
 }

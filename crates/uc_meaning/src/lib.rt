@@ -11,7 +11,7 @@ mod path;
 mod scope;
 mod step;
 
-pub use code::{CodeEnd, run_code};
+pub use code::{CodeEnd, init_end, run_code};
 pub use evaluation::{EvalError, eval_all, eval_expr, is_true};
 pub use line::{At, Choices, Line, Trace, What};
 pub use ordered::Ordered;

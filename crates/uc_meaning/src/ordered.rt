@@ -2,7 +2,7 @@
 
 ghost use Rattle.std.specs.Prelude.{◌≡◌, ◌+◌, ◌≤◌, [], true, false, map, length, nat_eq, Some};
 ghost use Rattle.std.specs.List.{position_from, list_all, flat_map};
-ghost use Rattle.uc_meaning.specs.Cells.{cell_of};
+ghost use Rattle.uc_meaning.specs.Cells.{cell_of, cells_of};
 ghost use Rattle.uc_meaning.specs.Lines.{main_declarations};
 ghost use Rattle.uc_meaning.specs.Lookup.{init_in, next_in};
 ghost use Rattle.uc_meaning.specs.Steps.{main_next};
@@ -93,6 +93,14 @@ impl Ordered {
         next_block(self.declarations())
     }
 
+    /// How many cells a state has.
+    pub fn cell_count(&self) -> usize
+        ensures { result ≡ length (cells_of self.now) }
+    {
+        self.keeps_fragment();
+        count_variables(self.declarations())
+    }
+
     /// The place of a variable's cell.
     pub fn cell(&self, name: u32) -> usize
         requires { holds_name (variables self.now) name ≡ true }
@@ -145,6 +153,18 @@ fn place_of(decls: &[Decl], name: u32) -> Option<usize>
         before += identifiers.len();
     }
     None
+}
+
+/// How many variables a few declarations name.
+fn count_variables(decls: &[Decl]) -> usize
+    requires { length (variable_names decls.now) ≤ most_variables }
+    ensures { result ≡ length (variable_names decls.now) }
+{
+    let mut count = 0;
+    for decl in decls {
+        count += variables_of(decl).len();
+    }
+    count
 }
 
 /// The variables that a declaration names.

@@ -3,9 +3,9 @@
 ghost use Rattle.std.specs.Prelude.{◌≡◌, IfOk};
 
 use crate::path::Path;
+use std::alloc::{AllocError, Global};
 use uc_items::Items;
 use uc_syntax::Place;
-use std::alloc::{AllocError, Global};
 use uc_values::{Table, Ty, Value, copy_all};
 
 /// A value for each constant and a table for each function of the modules in use, by module and declaration.

@@ -14,7 +14,7 @@ returns-in-Some c =
 pub loop-decl-preserved : goal.loop-decl-preserved
 loop-decl-preserved c =
     let more =
-        names_more c.args.name c.loop-decl.decl-index c.loop-decl.before c.args.decls.now c.decl-item.result (position_from (nat_eq c.args.name) 0 (variable_names c.args.decls.now)) (length (variable_names c.args.decls.now))
-        c.loop-decl-test.true c.decl-item.is c.loop-decl.invariant
-        (ap (position_from (nat_eq c.args.name) c.loop-decl.before) (sym c.variables_of-identifiers.ensures) ∙ sym c.place_from.ensures ∙ c.in_default.is) in
+    names_more c.args.name c.loop-decl.decl-index c.loop-decl.before c.args.decls.now c.decl-item.result (position_from (nat_eq c.args.name) 0 (variable_names c.args.decls.now)) (length (variable_names c.args.decls.now))
+    c.loop-decl-test.true c.decl-item.is c.loop-decl.invariant
+    (ap (position_from (nat_eq c.args.name) c.loop-decl.before) (sym c.variables_of-identifiers.ensures) ∙ sym c.place_from.ensures ∙ c.in_default.is) in
     rw (same_length c.variables_of-identifiers.result.now (names_in c.decl-item.result) c.variables_of-identifiers.ensures) more
