@@ -4,3 +4,7 @@ pub mod Fitting
 pub mod Stores
 pub mod Agreement
 pub mod Words
+pub mod Counting
+pub mod Numbered
+pub mod Everywhere
+pub mod Widths

@@ -1,10 +1,12 @@
 -- When two values of a type are the same: part by part, and arrays where they hold the same at every index.
-use Rattle.std.specs.Prelude.{ℕ, ◌^◌, Bool, true, false, ◌&&◌, ◌||◌, nat_eq, if◌then◌else◌, List, [], ◌∷◌, length, map, Option, Some, None}
+use Rattle.std.specs.Prelude.{ℕ, ◌^◌, Bool, true, false, ◌&&◌, ◌||◌, nat_eq, if◌then◌else◌, List, [], ◌∷◌, length, map, Option, Some, None, IsTrue, ◌≡◌, ◌↔◌}
 use Rattle.std.specs.List.{list_all}
-use Rattle.uc_values.specs.Values.{Form, same_scalar, lists, indices, parts_of}
-use Rattle.uc_values.specs.Arrays.{element_at}
+use Rattle.uc_values.specs.Types.{is_scalar}
+use Rattle.uc_values.specs.Values.{Form, fits, same_scalar, lists, indices, parts_of}
+use Rattle.uc_values.specs.Arrays.{element_at, at}
 use Rattle.uc_values.specs.declared.ty.Field.{Field}
 use Rattle.uc_values.specs.declared.ty.Ty.{Ty}
+use Rattle.uc_values.specs.declared.ty.Ty.TheVariants.{Arr}
 use Rattle.uc_values.specs.declared.ty.Ty.TheFolds.{fold-Ty}
 use Rattle.uc_values.specs.declared.ty.Ty.TheOpen.{Ty-F}
 use Rattle.uc_values.specs.declared.ty.Ty.TheOpen.Ty-F.{Bool as boolean_type, Bv as bits_type, Enum as enum_type, Rec as record_type, Arr as array_type}
@@ -67,3 +69,12 @@ sames fs = map (λ f. record { name = f.name; ty = sameness f.ty }) fs
 -- each of the first values passes or stands among the second
 abbrev pub all_or_listed : (Value → Bool) → List Value → List Value → Bool
 all_or_listed test is js = list_all (λ i. lists js i || test i) is
+
+-- two arrays hold the same at every index that fits
+abbrev pub Agrees : Ty → Ty → Value → Value → Type 0
+Agrees index element a b = (i : Value) → IsTrue (fits index i) → IsTrue (same element (at a i) (at b i))
+
+-- the answer says of fitting arrays whether they hold the same at every index that fits
+abbrev pub IsAgreement : Ty → Value → Value → Bool → Type 0
+IsAgreement ty a b answer =
+    (index element : Ty) → ty ≡ Arr index element → IsTrue (is_scalar index) → IsTrue (fits ty a) → IsTrue (fits ty b) → IsTrue answer ↔ Agrees index element a b

@@ -4,7 +4,7 @@ ghost use Rattle.std.specs.Prelude.{◌≡◌, length, map};
 ghost use Rattle.std.specs.List.{list_all};
 ghost use Rattle.uc_values.specs.Values.{indices, lists};
 ghost use Rattle.uc_values.specs.Arrays.{at};
-ghost use Rattle.uc_values.specs.Sameness.{same, sameness, same_parts, joined, are_all, all_or_listed, sames};
+ghost use Rattle.uc_values.specs.Sameness.{same, sameness, same_parts, joined, are_all, all_or_listed, sames, IsAgreement};
 
 use crate::array::{lookup, same_scalar};
 use crate::fit::lists;
@@ -14,7 +14,8 @@ use crate::value::Value;
 /// Whether two values of a type are the same. For arrays this takes a step for each pair of an
 /// exception of the one and an exception of the other.
 pub fn same(left: &Value, right: &Value, ty: &Ty) -> bool
-    ensures { result ≡ same ty.now left.now right.now }
+    ensures value { result ≡ same ty.now left.now right.now }
+    ensures arrays { IsAgreement ty.now left.now right.now result }
 {
     same_values(ty, left, right)
 }
