@@ -1,6 +1,6 @@
 -- Blanks and comments in front of a text end at one place.
 use Rattle.std.specs.Prelude.{◌⊎◌}
-use Rattle.std.proofs.Common.{◌≡◌, ◌≢◌, ℕ, ◌==◌, Bool, true, false, List, [], ◌∷◌, ◌++◌, length, get_or, refl, sym, ap, ◌∙◌, subst, arith, inl, inr}
+use Rattle.std.proofs.Common.{◌≡◌, ◌≢◌, ℕ, ◌==◌, true, List, [], ◌∷◌, ◌++◌, get_or, refl, sym, ap, ◌∙◌, subst, inl, inr}
 use Rattle.std.proofs.lemmas.Bool.{false≢true}
 use Rattle.uc_lexer.specs.Bytes.{is_blank}
 use Rattle.uc_lexer.specs.Gap.{Skips, here, blank, line, block, HasNoGap, IsOpenComment, IsLine, EndsLine, IsBlock, IsOpen}

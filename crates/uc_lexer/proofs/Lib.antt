@@ -15,3 +15,4 @@ pub mod Next
 pub mod GapEnds
 pub mod Unique
 pub mod Turns
+pub mod Rising

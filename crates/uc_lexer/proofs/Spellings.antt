@@ -1,15 +1,15 @@
 -- The longest spelling of words and numbers.
 use Rattle.std.specs.Prelude.{◌⊎◌, codes, unwrap_or}
-use Rattle.std.proofs.Common.{◌≡◌, ℕ, ◌+◌, ◌≤◌, ◌<◌, Bool, true, false, not, ◌&&◌, ◌==◌, if◌then◌else◌, List, [], ◌∷◌, ◌++◌, length, Option, Some, None, refl, sym, ap, ◌∙◌, subst, arith, inl, inr}
+use Rattle.std.proofs.Common.{◌≡◌, ℕ, ◌<◌, Bool, true, false, not, ◌&&◌, ◌==◌, if◌then◌else◌, List, [], ◌∷◌, ◌++◌, length, Option, Some, None, refl, sym, ap, ◌∙◌, subst, arith, inl, inr}
 use Rattle.std.proofs.lemmas.Bool.{and_parts, false≢true, eqb-true, not-true}
-use Rattle.std.proofs.lemmas.List.{length-append, append_assoc, append-nil}
+use Rattle.std.proofs.lemmas.List.{append-nil}
 use Rattle.uc_lexer.specs.declared.token.TokenKind.{TokenKind}
 use Rattle.uc_lexer.specs.declared.token.TokenKind.TheVariants.{Name, BvType, Number, BvLit, LessUnsigned, LessEqualUnsigned, GreaterUnsigned, GreaterEqualUnsigned}
 use Rattle.uc_lexer.specs.Bytes.{is_digit, is_letter, is_word, AreAll, Begins, value_of}
 use Rattle.uc_lexer.specs.Table.{keywords, signs, IsAmong}
 use Rattle.uc_lexer.specs.Spelling.{IsWord, IsDigits, Spells, name, keyword, bv_type, number, bv_literal, sign, MayEnd, Stands, IsLongest, RunsOn}
-use Rattle.uc_lexer.specs.Reading.{front, behind, is_nil, lookup, behind_bv, digits_alone, type_digits, unlisted, word_kind, width_digits, may_end}
-use Rattle.uc_lexer.proofs.Fronts.{front-behind, front-all, front-whole, front-longest, behind-stops, AreAll-weaker, AreAll-append}
+use Rattle.uc_lexer.specs.Reading.{front, behind, is_nil, lookup, digits_alone, type_digits, unlisted, word_kind}
+use Rattle.uc_lexer.proofs.Fronts.{front-behind, front-all, front-whole, front-longest, AreAll-weaker}
 use Rattle.uc_lexer.proofs.Numbers.{all_in_front}
 use Rattle.uc_lexer.proofs.Tables.{each-among, lookup-some, lookup-none, lookup-among, keywords_distinct, keyword_letter, keyword_word, sign_other, is_other, ends_freely}
 use Rattle.uc_lexer.proofs.Classes.{letter_word, digit_word, digit_letter}

@@ -1,8 +1,7 @@
 -- A text has one reading.
-use Rattle.std.specs.Prelude.{◌⊎◌}
-use Rattle.std.proofs.Common.{◌≡◌, ◌≢◌, ℕ, ◌+◌, ◌-◌, ◌≤◌, ◌<◌, ◌==◌, not, Bool, true, false, List, [], ◌∷◌, ◌++◌, length, take, drop, Option, Some, None, Result, Ok, Err, refl, sym, ap, ◌∙◌, subst, arith, inl, inr}
+use Rattle.std.proofs.Common.{◌≡◌, ℕ, ◌+◌, ◌-◌, ◌≤◌, ◌<◌, ◌==◌, not, Bool, true, List, [], ◌∷◌, ◌++◌, length, take, drop, Option, Some, None, Result, Ok, Err, refl, sym, ap, ◌∙◌, subst, arith, inl, inr}
 use Rattle.std.proofs.lemmas.Bool.{false≢true, and_parts, not-true}
-use Rattle.std.proofs.lemmas.List.{append_cancel_left, take-append-drop, length-take-le, length-drop, drop-drop, drop_all, length-append}
+use Rattle.std.proofs.lemmas.List.{take-append-drop, length-take-le, length-drop, drop-drop, drop_all}
 use Rattle.uc_lexer.specs.declared.token.Token.{Token}
 use Rattle.uc_lexer.specs.declared.token.TokenKind.{TokenKind}
 use Rattle.uc_lexer.specs.declared.place.Place.{Place}
@@ -12,13 +11,13 @@ use Rattle.uc_lexer.specs.Bytes.{is_blank, is_digit, is_letter, Begins}
 use Rattle.uc_lexer.specs.Gap.{Skips, HasNoGap, IsOpenComment}
 use Rattle.uc_lexer.specs.Places.{place_of}
 use Rattle.uc_lexer.specs.Table.{signs}
-use Rattle.uc_lexer.specs.Spelling.{Spells, name, keyword, bv_type, number, bv_literal, sign, Stands, IsLongest, IsToken, IsBadNumber, IsBadByte, IsWithinLimits, RunsOn}
-use Rattle.uc_lexer.specs.Text.{Progress, IsNext, IsNextToken, IsNextFault, ComesNext, Reads, ends, fails, goes_on, HasOneReading}
+use Rattle.uc_lexer.specs.Spelling.{Spells, name, keyword, bv_type, number, bv_literal, sign, IsLongest, IsToken, IsBadNumber, IsBadByte, IsWithinLimits, RunsOn}
+use Rattle.uc_lexer.specs.Text.{Progress, IsNext, Reads, ends, fails, goes_on, HasOneReading}
 use Rattle.uc_lexer.specs.Reading.{lookup}
 use Rattle.uc_lexer.proofs.Fronts.{append-take, append-drop}
-use Rattle.uc_lexer.proofs.Tables.{is_start, is_other, lookup-among, signs_distinct, sign_start, keyword_letter}
+use Rattle.uc_lexer.proofs.Tables.{is_start, lookup-among, signs_distinct, sign_start, keyword_letter}
 use Rattle.uc_lexer.proofs.Classes.{letter_word, digit_word, word_start}
-use Rattle.uc_lexer.proofs.Spellings.{spelled_begins, spelled_some, word_same, others_first, Begins-append, literal_digit}
+use Rattle.uc_lexer.proofs.Spellings.{spelled_begins, word_same, others_first, Begins-append, literal_digit}
 use Rattle.uc_lexer.proofs.Literals.{digits_same}
 use Rattle.uc_lexer.proofs.GapEnds.{IsStop, skips_same}
 

@@ -7,7 +7,7 @@ use Rattle.uc_lexer.specs.declared.fault.LexFault.TheVariants.{BadByte, BadNumbe
 use Rattle.uc_lexer.specs.declared.error.LexError.{LexError}
 use Rattle.uc_lexer.specs.declared.error.LexError.TheVariants.{NoMemory, Fault}
 use Rattle.uc_lexer.specs.Gap.{Skips, IsOpenComment}
-use Rattle.uc_lexer.specs.Places.{place_of}
+use Rattle.uc_lexer.specs.Places.{place_of, IsBefore}
 use Rattle.uc_lexer.specs.Spelling.{IsToken, IsBadNumber, IsBadByte}
 
 -- a text of a file, and the offset up to which its tokens were taken
@@ -72,3 +72,13 @@ IsLexError file text (Fault fault) = FirstFault file text fault
 -- a text has at most one list of tokens or first fault
 abbrev pub HasOneReading : Type 0
 HasOneReading = (file : ℕ) (text : List ℕ) (tokens others : List Token) (fault other : Option LexFault) → Reads file text 0 tokens fault → Reads file text 0 others other → (tokens ≡ others) × (fault ≡ other)
+
+-- each token ends before the next one, and has an earlier place
+abbrev pub Rises : List Token → Type 0
+Rises [] = Unit {0}
+Rises (token ∷ []) = Unit {0}
+Rises (token ∷ next ∷ tokens) = (token.end ≤ next.start) × IsBefore token.place next.place × Rises (next ∷ tokens)
+
+-- the tokens of a text rise
+abbrev pub HasRisingTokens : Type 0
+HasRisingTokens = (file : ℕ) (text : List ℕ) (tokens : List Token) (fault : Option LexFault) → Reads file text 0 tokens fault → Rises tokens

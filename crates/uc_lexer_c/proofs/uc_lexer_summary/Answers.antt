@@ -1,7 +1,5 @@
-use Rattle.std.proofs.Common.{◌≡◌, ◌++◌, [], ◌∷◌, ℕ, List, length, Option, Some, None, refl, ap, subst, ◌∙◌, arith}
+use Rattle.std.proofs.Common.{◌≡◌, ◌++◌, [], ◌∷◌, length, Some, None, refl, ap, ◌∙◌, arith}
 use Rattle.std.proofs.lemmas.List.{length_push}
-use Rattle.uc_lexer.specs.declared.token.Token.{Token}
-use Rattle.uc_lexer.specs.declared.fault.LexFault.{LexFault}
 use Rattle.uc_lexer.specs.Text.{Progress}
 use Rattle.uc_lexer.proofs.Turns.{one_more, no_more, first_fault}
 use Rattle.uc_lexer.proofs.Unique.{one_reading}

@@ -1,5 +1,3 @@
-use Rattle.std.proofs.Common.{ap, arith}
-use Rattle.uc_lexer.specs.Text.{Progress}
 use Rattle.uc_lexer.proofs.Turns.{none_yet, one_more, no_more, first_fault}
 use Rattle.uc_lexer.proofs.whole.tokens.Goals as goal
 

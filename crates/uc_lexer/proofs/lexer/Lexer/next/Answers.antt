@@ -1,4 +1,4 @@
-use Rattle.std.proofs.Common.{Option, Some, None, Result, Ok, Err, rules}
+use Rattle.std.proofs.Common.{Some, None, Ok, Err, rules}
 use Rattle.uc_lexer.specs.Text.{IsNext}
 use Rattle.uc_lexer.proofs.Unique.{next_same}
 use Rattle.uc_lexer.proofs.lexer.Lexer.next.Goals as goal
