@@ -1,12 +1,16 @@
--- The numbered calls of a source or a sink in memory.
-use Rattle.std.specs.Prelude.{◌≡◌, ◌+◌, ◌-◌, ◌^◌, min, Contains}
-use Rattle.uc_io.specs.declared.calls.Calls.{Calls}
+-- The calls of a source or a sink in memory.
+use Rattle.std.specs.Prelude.{ℕ, ◌+◌, ◌-◌, ◌^◌, List, min, Contains}
 
--- the next call is one of those that fail
-abbrev pub IsToFail : Calls → Type 0
-IsToFail calls = Contains calls.fails.items calls.next
+-- At most so many bytes a call, the numbers of the calls that fail, and the number of the next call. The first has 0, and
+-- the last number is that of every later call.
+pub record Plan : Type 0 where
+  pub piece : ℕ
+  pub fails : List ℕ
+  pub next : ℕ
 
--- One call more was made, of those that fail as before. The last number is that of every later call.
-pub record CountsCall (old new : Calls) : Type 0 where
-  pub next : new.next ≡ min (old.next + 1) (2 ^ 64 - 1)
-  pub fails : new.fails.items ≡ old.fails.items
+-- the next call fails
+abbrev pub IsToFail : Plan → Type 0
+IsToFail plan = Contains plan.fails plan.next
+
+abbrev pub after_call : Plan → Plan
+after_call plan = record plan { next = min (plan.next + 1) (2 ^ 64 - 1) }

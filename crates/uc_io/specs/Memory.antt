@@ -1,7 +1,11 @@
--- Texts in memory.
+-- Texts and a sink in memory.
 use Rattle.std.specs.Prelude.{ℕ, List, [], ◌∷◌, Option, Some, None, String, Vec, string_bytes, slice_get, drop, if◌then◌else◌}
 use Rattle.std.specs.Str.{bytes_eq}
 use Rattle.std.specs.declared.alloc.Global.{Global}
+use Rattle.uc_io.specs.Calls.{Plan}
+use Rattle.uc_io.specs.declared.calls.Calls.{Calls}
+use Rattle.uc_io.specs.declared.mem_sink.MemSink.{MemSink}
+use Rattle.uc_io.specs.declared.mem_texts.MemTexts.{MemTexts}
 use Rattle.uc_io.specs.declared.mem_texts.Reading.{Reading}
 
 -- a name and the bytes under it
@@ -21,3 +25,31 @@ bytes_of (Some file) = file.1.items
 abbrev pub left_in : List File → Option Reading → List ℕ
 left_in files None = []
 left_in files (Some place) = drop place.position (bytes_of (slice_get files place.file))
+
+abbrev pub plan_of : Calls → Plan
+plan_of calls = record { piece = calls.piece; fails = calls.fails.items; next = calls.next }
+
+-- the meanings of texts in memory
+
+abbrev pub texts_held : MemTexts → List ℕ → Option (List ℕ)
+texts_held texts = held_in texts.files.items
+
+abbrev pub texts_left : MemTexts → List ℕ
+texts_left texts = left_in texts.files.items texts.reading
+
+abbrev pub texts_faults : MemTexts → ℕ
+texts_faults texts = texts.calls.faults
+
+abbrev pub texts_plan : MemTexts → Plan
+texts_plan texts = plan_of texts.calls
+
+-- and those of a sink in memory
+
+abbrev pub sink_taken : MemSink → List ℕ
+sink_taken sink = sink.taken.items
+
+abbrev pub sink_faults : MemSink → ℕ
+sink_faults sink = sink.calls.faults
+
+abbrev pub sink_plan : MemSink → Plan
+sink_plan sink = plan_of sink.calls
