@@ -17,3 +17,6 @@ pub use read::{ReadError, read_all};
 pub use sink::Sink;
 pub use texts::Texts;
 pub use write::{WriteFault, write_whole};
+
+#[cfg(test)]
+mod tests;
