@@ -1,4 +1,4 @@
-ghost use Rattle.std.specs.Prelude.{◌≡◌, ◌<◌, ◌≤◌, [], ◌++◌, true, take, length, min, IsErr, IfOk, OnErr};
+ghost use Rattle.std.specs.Prelude.{◌≡◌, ◌<◌, ◌≤◌, [], ◌++◌, true, take, length, min, IsErr, IfOk, OnOk, OnErr};
 ghost use Rattle.uc_io.specs.Calls.{IsToFail, after_call};
 ghost use Rattle.uc_io.specs.Faults.{Rose};
 
@@ -55,6 +55,7 @@ impl Sink for MemSink {
         ensures front { IfOk result (λ count. sink_taken self.new ≡ sink_taken self.old ++ take count bytes.now) }
         ensures failed { OnErr result (sink_taken self.new ≡ sink_taken self.old) }
         ensures cause { OnErr result (Rose (sink_faults self.old) (sink_faults self.new)) }
+        ensures no_fault { OnOk result (sink_faults self.new ≡ sink_faults self.old) }
         ensures later { sink_faults self.old ≤ sink_faults self.new }
     {
         self.calls.begin()?;

@@ -1,4 +1,4 @@
-ghost use Rattle.std.specs.Prelude.{◌≡◌, ◌↔◌, ◌≤◌, ◌<◌, [], true, Some, None, drop, length, min, is_some, unwrap_or, IsErr, IfOk, OnErr, MatchOption, slice_get};
+ghost use Rattle.std.specs.Prelude.{◌≡◌, ◌↔◌, ◌≤◌, ◌<◌, [], true, Some, None, drop, length, min, is_some, unwrap_or, IsErr, IfOk, OnOk, OnErr, MatchOption, slice_get};
 ghost use Rattle.uc_io.specs.Calls.{IsToFail, after_call};
 ghost use Rattle.uc_io.specs.Faults.{Rose};
 ghost use Rattle.uc_io.specs.Memory.{held_in, bytes_of, left_in};
@@ -61,6 +61,7 @@ impl Texts for MemTexts {
         ensures opened { IfOk result (λ found. texts_left self.new ≡ unwrap_or (texts_held self.old name.now) []) }
         ensures failed { OnErr result (texts_left self.new ≡ texts_left self.old) }
         ensures cause { OnErr result (Rose (texts_faults self.old) (texts_faults self.new)) }
+        ensures no_fault { OnOk result (texts_faults self.new ≡ texts_faults self.old) }
         ensures later { texts_faults self.old ≤ texts_faults self.new }
         ensures holding { texts_held self.new ≡ texts_held self.old }
     {
@@ -78,6 +79,7 @@ impl Texts for MemTexts {
         ensures gives { IfOk result (λ count. Gives (texts_left self.old) count buffer.new (texts_left self.new)) }
         ensures failed { OnErr result (texts_left self.new ≡ texts_left self.old) }
         ensures cause { OnErr result (Rose (texts_faults self.old) (texts_faults self.new)) }
+        ensures no_fault { OnOk result (texts_faults self.new ≡ texts_faults self.old) }
         ensures later { texts_faults self.old ≤ texts_faults self.new }
         ensures holding { texts_held self.new ≡ texts_held self.old }
     {

@@ -50,6 +50,7 @@ pub fn read_all<X: Texts>(
         ⊎ LeavesAllBut (limit + 1) (unwrap_or (X.held texts.old name.now) []) (X.left texts.new) }
 
     ensures cause { IsErrOf result ReadError.ReadFault → Rose (X.faults texts.old) (X.faults texts.new) }
+    ensures no_fault { (¬ IsErrOf result ReadError.ReadFault) → X.faults texts.new ≡ X.faults texts.old }
     ensures later { X.faults texts.old ≤ X.faults texts.new }
     ensures telling { X.tells texts.new ≡ X.tells texts.old }
     ensures holding { X.held texts.new ≡ X.held texts.old }
@@ -82,6 +83,7 @@ fn read_piece<X: Texts>(
         (LeavesAllBut (limit + 1) (bytes.old.items ++ X.left texts.old) (X.left texts.new)) }
 
     ensures cause { IsErrOf result ReadError.ReadFault → Rose (X.faults texts.old) (X.faults texts.new) }
+    ensures no_fault { (¬ IsErrOf result ReadError.ReadFault) → X.faults texts.new ≡ X.faults texts.old }
     ensures later { X.faults texts.old ≤ X.faults texts.new }
     ensures telling { X.tells texts.new ≡ X.tells texts.old }
     ensures holding { X.held texts.new ≡ X.held texts.old }
@@ -105,6 +107,7 @@ fn read_open<X: Texts>(alloc: Global, texts: &mut X, limit: usize) -> Result<Vec
     ensures opened { IsErrOf result ReadError.NoText → ⊥ }
 
     ensures cause { IsErrOf result ReadError.ReadFault → Rose (X.faults texts.old) (X.faults texts.new) }
+    ensures no_fault { (¬ IsErrOf result ReadError.ReadFault) → X.faults texts.new ≡ X.faults texts.old }
     ensures later { X.faults texts.old ≤ X.faults texts.new }
     ensures telling { X.tells texts.new ≡ X.tells texts.old }
     ensures holding { X.held texts.new ≡ X.held texts.old }

@@ -24,6 +24,7 @@ pub trait Sink {
 
         ensures cause { OnErr result (Rose (faults self.old) (faults self.new)) }
         ensures none { IfOk result (λ count. count ≡ 0 → 0 < length bytes.now → Rose (faults self.old) (faults self.new)) }
+        ensures no_fault { IfOk result (λ count. 0 < count → faults self.new ≡ faults self.old) }
         ensures later { faults self.old ≤ faults self.new }
         ensures telling { tells self.new ≡ tells self.old };
 }

@@ -1,4 +1,4 @@
-ghost use Rattle.std.specs.Prelude.{◌≡◌, ℕ, ◌≤◌, List, [], Option, Bool, length, IsTrue, IfOk, OnErr, is_some, unwrap_or};
+ghost use Rattle.std.specs.Prelude.{◌≡◌, ℕ, ◌≤◌, List, [], Option, Bool, length, IsTrue, IfOk, OnOk, OnErr, is_some, unwrap_or};
 ghost use Rattle.uc_io.specs.Faults.{Rose};
 ghost use Rattle.uc_io.specs.Texts.{Gives};
 
@@ -27,6 +27,7 @@ pub trait Texts {
         ensures failed { OnErr result (IsTrue (tells self.old) → left self.new ≡ left self.old) }
 
         ensures cause { OnErr result (Rose (faults self.old) (faults self.new)) }
+        ensures no_fault { OnOk result (faults self.new ≡ faults self.old) }
         ensures later { faults self.old ≤ faults self.new }
         ensures telling { tells self.new ≡ tells self.old }
         ensures holding { held self.new ≡ held self.old };
@@ -40,6 +41,7 @@ pub trait Texts {
         ensures failed { OnErr result (IsTrue (tells self.old) → left self.new ≡ left self.old) }
 
         ensures cause { OnErr result (Rose (faults self.old) (faults self.new)) }
+        ensures no_fault { OnOk result (faults self.new ≡ faults self.old) }
         ensures later { faults self.old ≤ faults self.new }
         ensures telling { tells self.new ≡ tells self.old }
         ensures holding { held self.new ≡ held self.old };

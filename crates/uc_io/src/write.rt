@@ -15,6 +15,7 @@ pub fn write_whole<K: Sink>(sink: &mut K, bytes: &[u8]) -> Result<(), WriteFault
         GrewByFront (K.taken sink.old) (K.taken sink.new) bytes.now) }
 
     ensures cause { OnErr result (Rose (K.faults sink.old) (K.faults sink.new)) }
+    ensures no_fault { OnOk result (K.faults sink.new ≡ K.faults sink.old) }
     ensures later { K.faults sink.old ≤ K.faults sink.new }
     ensures telling { K.tells sink.new ≡ K.tells sink.old }
 {

@@ -7,7 +7,7 @@ invariant-pieces g l = let texts = g.X.Texts in record {
   within : length l.bytes.items ≤ l.limit;
   room : length l.buffer ≡ 8192;
   bytes : IsTrue (texts.tells l.fn.texts) → texts.left l.fn.texts ≡ l.bytes.items ++ texts.left l.texts;
-  later : texts.faults l.fn.texts ≤ texts.faults l.texts;
+  no_fault : texts.faults l.texts ≡ texts.faults l.fn.texts;
   telling : texts.tells l.texts ≡ texts.tells l.fn.texts;
   holding : texts.held l.texts ≡ texts.held l.fn.texts;
 }

@@ -1,4 +1,4 @@
-use Rattle.std.proofs.Common.{arith, append_assoc, length-drop, take-add}
+use Rattle.std.proofs.Common.{◌∙◌, arith, append_assoc, length-drop, take-add}
 use Rattle.std.proofs.lemmas.List.{take_rest}
 use Rattle.uc_io.proofs.write.write_whole.Goals as goal
 
@@ -12,6 +12,6 @@ loop-written-preserved g c =
           let before = c.loop-written.invariant.grown told in
           let piece = rw take_rest at (c.in-Ok.ensures.front (rw c.loop-written.invariant.telling told)) in
           rw (piece, before, take-add, append_assoc);
-      later = omega arith;
+      no_fault = c.in-Ok.ensures.no_fault (omega arith) ∙ c.loop-written.invariant.no_fault;
       telling = cc;
     }

@@ -6,7 +6,7 @@ abbrev pub invariant-loop-written : goal.invariant-loop-written
 invariant-loop-written g l = let sink = g.K.Sink in record {
   within : l.written ≤ length l.bytes;
   grown : IsTrue (sink.tells l.fn.sink) → sink.taken l.sink ≡ sink.taken l.fn.sink ++ take l.written l.bytes;
-  later : sink.faults l.fn.sink ≤ sink.faults l.sink;
+  no_fault : sink.faults l.sink ≡ sink.faults l.fn.sink;
   telling : sink.tells l.sink ≡ sink.tells l.fn.sink;
 }
 
