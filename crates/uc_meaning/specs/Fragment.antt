@@ -25,7 +25,10 @@ use Rattle.uc_syntax.specs.declared.declaration.WrittenRun.TheVariants.{Unroll}
 use Rattle.uc_syntax.specs.declared.declaration.Module.{Module}
 use Rattle.uc_meaning.specs.declared.scope.Scope.{Scope}
 use Rattle.uc_meaning.specs.Lookup.{System, init_in}
-use Rattle.uc_meaning.specs.Lines.{main_declarations}
+use Rattle.uc_meaning.specs.declared.line.Line.{Line}
+use Rattle.uc_meaning.specs.declared.line.At.TheVariants.{Exactly}
+use Rattle.uc_meaning.specs.declared.line.What.TheVariants.{Formula}
+use Rattle.uc_meaning.specs.Lines.{main_declarations, formula_of}
 
 -- how many variables a design may have, and how many steps a run may be unrolled
 abbrev pub most_variables : ℕ
@@ -165,3 +168,14 @@ pub record InFragment (system : System) : Type 0 where
   pub only : system.modules ≡ code ∷ []
   pub first : system.main ≡ 0
   pub simple : IsTrue (are_simple code.decls)
+
+-- A line of such a design: an invariant of main after just so many steps.
+pub record IsFragmentLine (system : System) (line : Line) : Type 0 where
+  pub steps : ℕ
+  pub decl : ℕ
+  pub formula : Expr
+  pub at : line.at ≡ Exactly steps
+  pub what : line.what ≡ Formula [] decl
+  pub arity : line.arity ≡ 1
+  pub is_invariant : formula_of system [] decl ≡ Some (false, formula)
+  pub simple : is_simple (variables system) formula ≡ true

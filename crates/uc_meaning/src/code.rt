@@ -186,7 +186,12 @@ fn counted_from(count: usize, all: usize, end: CodeEnd) -> CodeEnd
 }
 
 /// The scope of main in a state.
-fn main_scope(alloc: Global, d: &Ordered, i: &Interp, cells: &[Value]) -> Result<Scope, EvalError>
+pub fn main_scope(
+    alloc: Global,
+    d: &Ordered,
+    i: &Interp,
+    cells: &[Value],
+) -> Result<Scope, EvalError>
     requires interp { IsInterpretation d.now i.now }
     ensures { IfOk result (λ s. s ≡ scope_of i.now [] (state_of cells.now)) }
 {

@@ -10,6 +10,7 @@ mod overflow;
 mod path;
 mod scope;
 mod step;
+mod trace;
 
 pub use code::{CodeEnd, init_end, run_code};
 pub use evaluation::{EvalError, eval_all, eval_expr, is_true};
@@ -19,3 +20,4 @@ pub use overflow::{Wide, WideOp};
 pub use path::Path;
 pub use scope::{Interp, Local, Scope, Site, State, copy_state};
 pub use step::step_holds;
+pub use trace::accepts_trace;
