@@ -1,0 +1,4 @@
+pub mod Scan
+pub mod GateClauses
+pub mod Evaluation
+pub mod Propagating
