@@ -1,6 +1,8 @@
 //! Clauses.
 
-ghost use Rattle.std.specs.Prelude.{◌≡◌, [], ◌∷◌, ◌++◌, length, IfOk, OnOk, OnErr};
+ghost use Rattle.std.specs.Prelude.{◌≡◌, ◌↔◌, [], ◌∷◌, ◌++◌, length, IsTrue, IfOk, OnOk, OnErr};
+ghost use Rattle.std.proofs.Common.{rules};
+ghost use Rattle.std.specs.Cmp.Rules.{comparing};
 
 use crate::Lit;
 use smallvec::SmallVec;
@@ -8,7 +10,7 @@ use std::alloc::{AllocError, Global};
 use std::marker::Model;
 
 /// A list of literals, of which one has to be true. Up to four of them take no memory.
-#[derive(Drop)]
+#[derive(Debug, Drop)]
 pub struct Clause {
     literals: SmallVec<Lit, 4>,
 }
@@ -58,4 +60,30 @@ impl Clause {
     {
         self.literals.len()
     }
+
+    pub fn is_empty(&self) -> bool
+        ensures { IsTrue result ↔ (self.now ≡ []) }
+    {
+        self.literals.is_empty()
+    }
+}
+
+impl PartialEq for Clause {
+    ghost use Rattle.std.specs.Cmp.Lexicographic.{pointwise};
+    ghost use Rattle.uc_circuit.specs.Literals.{same_literal};
+
+    ghost eq = { pointwise same_literal };
+
+    ghost laws = { Prim.search (comparing, rules) };
+
+    fn eq(&self, other: &Clause) -> bool
+        ensures value { result ≡ pointwise same_literal self.now other.now }
+        ensures same { IsTrue result ↔ (self.now ≡ other.now) }
+    {
+        self.literals == other.literals
+    }
+}
+
+impl Eq for Clause {
+    ghost laws = { Prim.search (comparing, rules) };
 }

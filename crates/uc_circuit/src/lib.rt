@@ -9,10 +9,12 @@ mod circuit;
 mod clause;
 mod clause_state;
 mod gate;
+mod laws;
 mod literal;
 
 pub use circuit::Circuit;
 pub use clause::Clause;
 pub use clause_state::{ClauseState, state_of};
 pub use gate::Gate;
+pub use laws::propagation_fixes_gates;
 pub use literal::Lit;

@@ -1,25 +1,16 @@
--- Values of all inputs fix every gate by unit propagation.
-use Rattle.std.proofs.Common.{◌≡◌, ℕ, zero, suc, ◌+◌, ◌<◌, Bool, true, false, not, List, [], ◌∷◌, ◌++◌, Option, None, Some, cond, length, get_or, drop, refl, sym, ◌∙◌, ap, subst, arith}
-use Rattle.std.specs.Prelude.{All, MatchOption}
+-- The values of a circuit's nodes are what the inputs and the functions of the gates make them.
+use Rattle.std.proofs.Common.{◌≡◌, ℕ, zero, suc, ◌+◌, ◌<◌, Bool, false, not, List, [], ◌∷◌, ◌++◌, Option, None, Some, cond, length, get_or, drop, refl, sym, ◌∙◌, ap, subst, arith}
+use Rattle.std.specs.Prelude.{MatchOption}
 use Rattle.std.proofs.Math.Bool.{◌&&◌}
 use Rattle.std.proofs.lemmas.List.{drop-drop, get_or_append_left, get_or-drop, get_or_push, length_push}
-use Rattle.std.proofs.lemmas.List.Elements.{All-contains, Contains-get_or, Contains-append_left, Contains-append_right}
 use Rattle.uc_circuit.specs.declared.literal.Lit.{Lit}
 use Rattle.uc_circuit.specs.declared.gate.Gate.{Gate}
 use Rattle.uc_circuit.specs.declared.gate.Gate.TheVariants.{And, Xor, Mux}
 use Rattle.uc_circuit.specs.Literals.{literal_value}
 use Rattle.uc_circuit.specs.Gates.{gate_value, OperandsBelow}
-use Rattle.uc_circuit.specs.Values.{IsFalse}
 use Rattle.uc_circuit.specs.Circuits.{IsOrdered, evaluate, input_values, inputs_of, value_at}
 use Rattle.uc_circuit.specs.Propagation.{EvaluatesAll}
 use Rattle.uc_circuit.proofs.Evaluation.{get_or-evaluate, length-node_values}
-
--- what holds of each element of two lists, one after the other, holds of each element of either
-pub All-left : {X : Type 0} (P : X → Type 0) (xs ys : List X) → All P (xs ++ ys) → All P xs
-All-left P xs ys all k d h = All-contains P (xs ++ ys) (get_or xs k d) all (Contains-append_left xs ys (get_or xs k d) (Contains-get_or xs k d h))
-
-pub All-right : {X : Type 0} (P : X → Type 0) (xs ys : List X) → All P (xs ++ ys) → All P ys
-All-right P xs ys all k d h = All-contains P (xs ++ ys) (get_or ys k d) all (Contains-append_right xs ys (get_or ys k d) (Contains-get_or ys k d h))
 
 -- the operands of a gate in an ordered circuit
 ordered_at : (nodes : List (Option Gate)) → IsOrdered nodes → (n : ℕ) (g : Gate) → n < length nodes → get_or nodes n None ≡ Some g → OperandsBelow n g
@@ -97,12 +88,3 @@ evaluates_all nodes inputs ordered long = record {
   given = inputs_evaluated nodes inputs [] long;
   gates = λ n g is. gate_evaluated nodes inputs [] n n g (omega arith) (operands_below nodes ordered n g is) is;
 }
-
--- what a value says of a literal
-pub false_in : (v : ℕ → Bool) (values : List (Option Bool)) (l : Lit) → get_or values l.var None ≡ Some (v l.var) → literal_value v l ≡ false → IsFalse values l
-false_in v values l known is = known ∙ ap (λ b. Some b) (sign_of_false l.neg (v l.var) is) where
-  sign_of_false : (s x : Bool) → cond s (not x) x ≡ false → x ≡ s
-  sign_of_false true true e = refl
-  sign_of_false true false e = absurd (cc)
-  sign_of_false false true e = absurd (cc)
-  sign_of_false false false e = refl
