@@ -1,6 +1,6 @@
 //! A circuit: inputs and gates in one numbering, each gate over what stands before it.
 
-ghost use Rattle.std.specs.Prelude.{◌≡◌, ◌<◌, ◌≤◌, ◌+◌, ◌^◌, ◌∷◌, ◌++◌, ℕ, [], None, Some, length, slice_index_or, IfOk, OnErr, IfSome};
+ghost use Rattle.std.specs.Prelude.{◌≡◌, ◌↔◌, ◌<◌, ◌≤◌, ◌+◌, ◌^◌, ◌∷◌, ◌++◌, ℕ, [], None, Some, length, slice_index_or, IsTrue, IfOk, OnErr, IfSome};
 ghost use Rattle.std.specs.Option.{option_copied};
 ghost use Rattle.uc_circuit.specs.Literals.{positive};
 ghost use Rattle.uc_circuit.specs.Gates.{DefineGate, OperandsBelow, clauses_of_gate};
@@ -45,6 +45,12 @@ impl Circuit {
         ensures ordered { IsOrdered self.now }
     {
         self.nodes.len() as u32
+    }
+
+    pub fn is_empty(&self) -> bool
+        ensures { IsTrue result ↔ (self.now ≡ []) }
+    {
+        self.nodes.is_empty()
     }
 
     /// The gate of a number, None for an input.

@@ -11,6 +11,8 @@ mod clause_state;
 mod gate;
 mod laws;
 mod literal;
+#[cfg(test)]
+mod tests;
 
 pub use circuit::Circuit;
 pub use clause::Clause;
