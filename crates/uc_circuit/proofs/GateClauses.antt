@@ -9,6 +9,7 @@ use Rattle.uc_circuit.specs.declared.gate.Gate.TheVariants.{And, Xor, Mux}
 use Rattle.uc_circuit.specs.Literals.{negate, literal_value}
 use Rattle.uc_circuit.specs.Clauses.{IsTrueClause, Satisfies}
 use Rattle.uc_circuit.specs.Gates.{clauses_of_gate, gate_value, DefineGate}
+use Rattle.uc_circuit.proofs.SameLiterals.{beq_same, same_from_beq}
 
 -- the tests that compute
 abbrev pub clause_value : (ℕ → Bool) → List Lit → Bool
@@ -98,16 +99,6 @@ clauses_value-gate : (n : ℕ) (g : Gate) (v : ℕ → Bool) → clauses_value v
 clauses_value-gate n (And a b) v = simp literal_value-negate (and_table (v n) (literal_value v a) (literal_value v b))
 clauses_value-gate n (Xor a b) v = simp literal_value-negate (xor_table (v n) (literal_value v a) (literal_value v b))
 clauses_value-gate n (Mux c t e) v = simp literal_value-negate (mux_table (v n) (literal_value v c) (literal_value v t) (literal_value v e))
-
-same_from_beq : (a b : Bool) → beq a b ≡ true → a ≡ b
-same_from_beq true true e = refl
-same_from_beq false false e = refl
-same_from_beq true false e = absurd (cc)
-same_from_beq false true e = absurd (cc)
-
-beq_same : (a : Bool) → beq a a ≡ true
-beq_same true = refl
-beq_same false = refl
 
 pub gate_defined : (n : ℕ) (g : Gate) → DefineGate (clauses_of_gate n g) n g
 gate_defined n g v = (

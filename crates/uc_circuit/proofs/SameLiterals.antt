@@ -7,22 +7,17 @@ use Rattle.std.proofs.Math.Bool.{beq}
 use Rattle.std.proofs.lemmas.Bool.{and_from, and_parts, eqb-true, eq-eqb}
 use Rattle.uc_circuit.specs.declared.literal.Lit.{Lit}
 use Rattle.uc_circuit.specs.Literals.{same_literal}
+use Rattle.uc_circuit.proofs.Scan.{literal_from_parts}
 
-same_from_beq : (a b : Bool) → beq a b ≡ true → a ≡ b
+pub same_from_beq : (a b : Bool) → beq a b ≡ true → a ≡ b
 same_from_beq true true e = refl
 same_from_beq false false e = refl
 same_from_beq true false e = absurd (cc)
 same_from_beq false true e = absurd (cc)
 
-beq_same : (a : Bool) → beq a a ≡ true
+pub beq_same : (a : Bool) → beq a a ≡ true
 beq_same true = refl
 beq_same false = refl
-
-literal_from_parts : (k l : Lit) → k.var ≡ l.var → k.neg ≡ l.neg → k ≡ l
-literal_from_parts k l v n =
-    let f : ℕ → Lit = λ x. record { var = x; neg = k.neg } in
-    let g : Bool → Lit = λ x. record { var = l.var; neg = x } in
-    ap f v ∙ ap g n
 
 pub same_literal_decides : (k l : Lit) → Decides (same_literal k l) (k ≡ l)
 same_literal_decides k l = (
