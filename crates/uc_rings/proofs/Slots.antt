@@ -1,5 +1,5 @@
 -- Lists of slots in which none stands twice.
-use Rattle.std.proofs.Common.{◌≡◌, ◌≢◌, ℕ, zero, suc, ◌<◌, ◌≤◌, ◌⊎◌, inl, inr, false, not, List, [], ◌∷◌, ◌++◌, length, get_or, refl, sym, ◌∙◌, ap, arith, cond}
+use Rattle.std.proofs.Common.{◌≡◌, ◌≢◌, ℕ, zero, suc, ◌<◌, ◌≤◌, ◌⊎◌, inl, inr, false, not, List, [], ◌∷◌, ◌++◌, length, get_or, refl, sym, ◌∙◌, ap, arith, cond, Bool, true, subst}
 use Rattle.std.specs.Prelude.{All, AllPairs, Contains, filter, eqb}
 use Rattle.std.specs.List.{AllByRecursion, IsDistinct}
 use Rattle.std.proofs.lemmas.Bool.{eq-eqb, eqb-true, ne_eqb}
@@ -91,6 +91,18 @@ others_away s [] away = refl
 others_away s (x ∷ xs) away =
     let off : eqb x s ≡ false = ne_eqb x s (All-head (λ y. y ≢ s) x xs away) in
     ap (λ b. cond (not b) (x ∷ others s xs) (others s xs)) off ∙ ap (λ ys. x ∷ ys) (others_away s xs (All-tail (λ y. y ≢ s) x xs away))
+
+gone_more : (s x : ℕ) (xs : List ℕ) (b : Bool) → eqb x s ≡ b → (Contains xs s → ⊥) → Contains (cond (not b) (x ∷ xs) xs) s → ⊥
+gone_more s x xs true is gone there = gone there
+gone_more s x xs false is gone there =
+    elim (Contains-cons_cases x xs s there) [
+      | inl same ↦ let yes : eqb x s ≡ true = eq-eqb x s (sym same) in cc
+      | inr later ↦ gone later
+    ]
+
+pub others_gone : (s : ℕ) (xs : List ℕ) → Contains (others s xs) s → ⊥
+others_gone s [] there = let h = there.1 in absurd (omega arith)
+others_gone s (x ∷ xs) there = gone_more s x (others s xs) (eqb x s) refl (others_gone s xs) there
 
 pub others_out : (before : List ℕ) (s : ℕ) (after : List ℕ) → NoneTwice (before ++ s ∷ after) → others s (before ++ s ∷ after) ≡ before ++ after
 others_out [] s after apart =

@@ -93,7 +93,8 @@ impl Rings {
     /// Takes a slot out of the list that has it.
     pub fn unlink(&mut self, slot: u32)
         requires { InAList self.old slot }
-        ensures { self.new ≡ without self.old slot }
+        ensures lists { self.new ≡ without self.old slot }
+        ensures free { InNoList self.new slot }
     {
         let Slot {
             list,

@@ -1,7 +1,10 @@
 use Rattle.std.proofs.Common.{◌≡◌, ℕ, ◌<◌, List, Option, None, Some, length, get_or, map, sym, ◌∙◌, ap, subst}
+use Rattle.std.specs.Prelude.{Contains}
+use Rattle.std.proofs.lemmas.List.Elements.{All-map}
 use Rattle.uc_rings.specs.declared.rings.Slot.{Slot}
-use Rattle.uc_rings.specs.Lists.{Lists, InAList, without}
+use Rattle.uc_rings.specs.Lists.{Lists, InAList, InNoList, without}
 use Rattle.uc_rings.specs.Links.{AreLinked, Within, first_without, lists_in, with_next, with_previous}
+use Rattle.uc_rings.proofs.Slots.{others, others_gone}
 use Rattle.uc_rings.proofs.Parts.{Standing, list_read, next_read, out_done, previous_read, standing}
 use Rattle.uc_rings.proofs.rings.Rings.unlink.Goals as goal
 
@@ -52,8 +55,8 @@ invariant_of-self c =
     (c.lead_on.ensures ∙ ap (λ (xs : List Slot). with_next xs c.index.result.now.previous c.index.result.now.next) c.deref_mut-2.ensures.value)
     (c.lead_first.ensures ∙ ap (λ (xs : List (Option ℕ)). first_without xs c.index.result.now.list c.index.result.now.previous c.index.result.now.next) c.deref_mut-3.ensures.value)).linked
 
-pub returns : goal.returns
-returns c =
+pub returns-clause-lists : goal.returns-clause-lists
+returns-clause-lists c =
     let stands : Standing c.self.inside.first.items c.self.inside.slots.items c.args.slot = stands_at c.args.self.now c.self.inside.first.items c.self.inside.slots.items c.args.slot c.self.invariant c.self.view_is c.requires in
     (out_done c.self.inside.first.items c.lead_first.new.first c.self.inside.slots.items c.lead_back.new.slots c.lead_on.new.slots
     c.self.inside.first.len c.self.inside.slots.len c.args.slot c.index.result.now.list c.index.result.now.previous c.index.result.now.next
@@ -65,3 +68,8 @@ returns c =
     (c.lead_on.ensures ∙ ap (λ (xs : List Slot). with_next xs c.index.result.now.previous c.index.result.now.next) c.deref_mut-2.ensures.value)
     (c.lead_first.ensures ∙ ap (λ (xs : List (Option ℕ)). first_without xs c.index.result.now.list c.index.result.now.previous c.index.result.now.next) c.deref_mut-3.ensures.value)).seen
     ∙ ap (λ (r : Lists). without r c.args.slot) c.self.view_is
+
+pub returns-clause-free : goal.returns-clause-free
+returns-clause-free c =
+    subst (λ (r : Lists). InNoList r c.args.slot) (sym (returns-clause-lists c))
+    (All-map (λ (xs : List ℕ). Contains xs c.args.slot → ⊥) (others c.args.slot) c.args.self.now.lists (λ k d h. others_gone c.args.slot (get_or c.args.self.now.lists k d)))
