@@ -6,5 +6,7 @@
 #![tactic(auto)]
 
 mod rings;
+#[cfg(test)]
+mod tests;
 
 pub use rings::Rings;
