@@ -1,0 +1,12 @@
+pub mod Judge
+pub mod Run
+pub mod Opening
+pub mod Leads
+pub mod Second
+pub mod Complete
+pub mod Counts
+pub mod Alike
+pub mod Exact
+pub mod Turns
+pub mod Track
+pub mod Every

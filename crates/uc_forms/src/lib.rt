@@ -1,0 +1,12 @@
+//! Forms.
+#![tactic(auto)]
+
+mod fault;
+mod laws;
+
+pub use fault::Fault;
+pub use laws::{
+    Language, answers_right, deep_is_refused, depths_bound_levels, fault_comes_again,
+    fault_completes, levels_bound_depths, one_answer, one_value, read_is_spelled, spelled_is_read,
+    stand_alike,
+};
