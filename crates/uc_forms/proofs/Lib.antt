@@ -10,3 +10,8 @@ pub mod Exact
 pub mod Turns
 pub mod Track
 pub mod Every
+pub mod Levels
+pub mod Loops
+pub mod Tallies
+pub mod Silent
+pub mod Spelled

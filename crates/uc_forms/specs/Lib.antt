@@ -6,3 +6,5 @@ pub mod Plain
 pub mod Grammar
 pub mod Answer
 pub mod Law
+pub mod Gives
+pub mod Tally

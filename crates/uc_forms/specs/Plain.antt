@@ -136,3 +136,17 @@ pub record IsPlain {T : Alphabet} {N : Type 0} {V : N → Type 0} (rule : Rules 
   pub stays : (n : N) → within (goes_on opens goes (rule n)) (goes n) ≡ true
   pub ready : (n : N) → is_ready (rule n) ≡ true
   pub direct : (n : N) → is_direct (rule n) ≡ true
+
+-- ---- forms that declare no name
+
+-- No word of it is marked, where none is in the nested forms that the table names.
+abbrev pub is_silent : {T : Alphabet} {N : Type 0} {V : N → Type 0} → (N → Bool) → {A : Type 0} → Form T N V A → Bool
+is_silent table (any q j js) = is_quiet q
+is_silent table nothing = true
+is_silent table (both f g) = is_silent table f && is_silent table g
+is_silent table (either f g) = is_silent table f && is_silent table g
+is_silent table (chain f) = is_silent table f
+is_silent table (until f g) = is_silent table f && is_silent table g
+is_silent table (made h f) = is_silent table f
+is_silent table (ahead q j js k f g) = is_quiet q && (is_silent table f && is_silent table g)
+is_silent table (deep n) = table n

@@ -3,6 +3,8 @@
 
 mod fault;
 mod laws;
+mod stop;
+mod tally;
 
 pub use fault::Fault;
 pub use laws::{
@@ -10,3 +12,5 @@ pub use laws::{
     fault_completes, levels_bound_depths, one_answer, one_value, read_is_spelled, spelled_is_read,
     stand_alike,
 };
+pub use stop::Stop;
+pub use tally::Tally;
