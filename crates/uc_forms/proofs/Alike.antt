@@ -265,7 +265,7 @@ module _ (T : Alphabet) where
         let x = and_parts (is_plain opens goes f) _ p in
         let y = and_parts (is_plain opens goes g) _ x.1 in
         let z = and_parts (not (skips f)) _ y.1 in
-        follow_until (first opens g) (read_with opens deeper f) (read_with opens deeper g) (note_with opens deeper inner f) (note_with opens deeper inner g) (follow opens goes deeper inner h moves f x.0) (follow opens goes deeper inner h moves g y.0) (moves _ f (is_not T (skips f) z.0)) (length (front ++ t ∷ m)) (length (front ++ t ∷ o)) front (omega arith) (omega arith)
+        follow_until (first opens g) (read_with opens deeper f) (read_with opens deeper g) (note_with opens deeper inner f) (note_with opens deeper inner g) (follow opens goes deeper inner h moves f x.0) (follow opens goes deeper inner h moves g y.0) (moves _ f (is_not T (skips f) z.0)) (suc (length (front ++ t ∷ m))) (suc (length (front ++ t ∷ o))) front (omega arith) (omega arith)
     follow opens goes deeper inner h moves (made c f) p front = alike_turned t m o (length front) c _ _ _ _ (follow opens goes deeper inner h moves f p front)
     follow opens goes deeper inner h moves (ahead q j js k f g) p front =
         let x = and_parts (is_plain opens goes f) _ p in

@@ -64,7 +64,7 @@ module _ (T : Alphabet) where
   read_until_last codes item ender zero ws rest b t e = rw e refl
   read_until_last codes item ender (suc n) ws rest b t e = rw (t, e) refl
 
-  -- the turns T that are enough for what is left
+  -- the turns that are enough for what is left
   fewer : (n : ℕ) (ws front back : List T.Word) → ws ≡ front ++ back → 0 < length front → length ws ≤ suc n → length back ≤ n
   fewer n ws front back e p l = let k : length ws ≡ length front + length back = ap length e ∙ length-append front back in omega arith
 
@@ -172,7 +172,7 @@ module _ (T : Alphabet) where
       let t = and_parts (apart (first opens g) (first opens f)) _ w.1 in
       let u = and_parts (apart (goes_on opens goes f) (first opens f)) _ t.1 in
       complete_until (SpellWith X f) (SpellWith X g) (first opens f) (first opens g) (goes_on opens goes f) (goes_on opens goes g) (skips f) (skips g) (read_with opens deeper f) (read_with opens deeper g) (opening T X opens o f) (opening T X opens o g)
-      (is_not T (skips f) z.0) (is_not T (skips g) w.0) t.0 u.0 u.1 (complete X opens goes deeper o h f x.0) (complete X opens goes deeper o h g y.0) a.0 a.1 (length (front ++ rest)) front rest (let k = length-append front rest in omega arith) s out
+      (is_not T (skips f) z.0) (is_not T (skips g) w.0) t.0 u.0 u.1 (complete X opens goes deeper o h f x.0) (complete X opens goes deeper o h g y.0) a.0 a.1 (suc (length (front ++ rest))) front rest (let k = length-append front rest in omega arith) s out
   complete X opens goes deeper o h (made m f) p front b rest s out = rw s.1 (ap (λ r. turned m r) (complete X opens goes deeper o h f p front s.0 rest s.2 out))
   complete X opens goes deeper o h (ahead q j js k f g) p front (inl a) rest s out =
       let x = and_parts (is_plain opens goes f) _ p in

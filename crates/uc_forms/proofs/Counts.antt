@@ -99,7 +99,7 @@ module _ (T : Alphabet) where
   counts opens deeper inner h (both f g) ws = counts_paired ws (read_with opens deeper f ws) (note_with opens deeper inner f ws) (read_with opens deeper g) (note_with opens deeper inner g) (counts opens deeper inner h f ws) (counts opens deeper inner h g)
   counts opens deeper inner h (either f g) ws = counts_if ws (is_at T (first opens f) ws) _ _ _ _ (λ e. counts_turned inl ws (read_with opens deeper f ws) (note_with opens deeper inner f ws) (counts opens deeper inner h f ws)) (λ e. counts_turned inr ws (read_with opens deeper g ws) (note_with opens deeper inner g ws) (counts opens deeper inner h g ws))
   counts opens deeper inner h (chain f) ws = counts_chain (first opens f) (read_with opens deeper f) (note_with opens deeper inner f) (counts opens deeper inner h f) (length ws) ws
-  counts opens deeper inner h (until f g) ws = counts_until (first opens g) (read_with opens deeper f) (read_with opens deeper g) (note_with opens deeper inner f) (note_with opens deeper inner g) (counts opens deeper inner h f) (counts opens deeper inner h g) (length ws) ws
+  counts opens deeper inner h (until f g) ws = counts_until (first opens g) (read_with opens deeper f) (read_with opens deeper g) (note_with opens deeper inner f) (note_with opens deeper inner g) (counts opens deeper inner h f) (counts opens deeper inner h g) (suc (length ws)) ws
   counts opens deeper inner h (made m f) ws = counts_turned m ws (read_with opens deeper f ws) (note_with opens deeper inner f ws) (counts opens deeper inner h f ws)
   counts opens deeper inner h (ahead q j js k f g) ws = counts_if ws (is_at_two T j js k ws) _ _ _ _ (λ e. counts_turned inl ws (paired (read_any T j js ws) (λ us. turned (λ x. x.1) (paired (read_word T k us) (read_with opens deeper f)))) (note_two q (note_with opens deeper inner f) ws) (counts_two q j js k (read_with opens deeper f) (note_with opens deeper inner f) (counts opens deeper inner h f) ws e)) (λ e. counts_turned inr ws (read_with opens deeper g ws) (note_with opens deeper inner g ws) (counts opens deeper inner h g ws))
   counts opens deeper inner h (deep n) ws = let l = length-map (inner n ws) one_deeper in let c = h n ws in omega arith

@@ -69,7 +69,7 @@ module _ (T : Alphabet) where
   kept opens deeper lower h (both f g) ws = kept_paired (read_with opens deeper f ws) (read_with opens lower f ws) (read_with opens deeper g) (read_with opens lower g) (kept opens deeper lower h f ws) (kept opens deeper lower h g)
   kept opens deeper lower h (either f g) ws = kept_if (is_at T (first opens f) ws) _ _ _ _ (kept_turned inl (read_with opens deeper f ws) (read_with opens lower f ws) (kept opens deeper lower h f ws)) (kept_turned inr (read_with opens deeper g ws) (read_with opens lower g ws) (kept opens deeper lower h g ws))
   kept opens deeper lower h (chain f) ws = kept_chain (first opens f) (read_with opens deeper f) (read_with opens lower f) (kept opens deeper lower h f) (length ws) ws
-  kept opens deeper lower h (until f g) ws = kept_until (first opens g) (read_with opens deeper f) (read_with opens lower f) (read_with opens deeper g) (read_with opens lower g) (kept opens deeper lower h f) (kept opens deeper lower h g) (length ws) ws
+  kept opens deeper lower h (until f g) ws = kept_until (first opens g) (read_with opens deeper f) (read_with opens lower f) (read_with opens deeper g) (read_with opens lower g) (kept opens deeper lower h f) (kept opens deeper lower h g) (suc (length ws)) ws
   kept opens deeper lower h (made c f) ws = kept_turned c (read_with opens deeper f ws) (read_with opens lower f ws) (kept opens deeper lower h f ws)
   kept opens deeper lower h (ahead q j js k f g) ws = kept_if (is_at_two T j js k ws) _ _ _ _
       (kept_turned inl _ _ (kept_paired (read_any T j js ws) (read_any T j js ws) _ _ (kept_same (read_any T j js ws)) (λ us. kept_turned (λ x. x.1) _ _ (kept_paired (read_word T k us) (read_word T k us) (read_with opens deeper f) (read_with opens lower f) (kept_same (read_word T k us)) (kept opens deeper lower h f)))))

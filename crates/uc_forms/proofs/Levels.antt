@@ -1,5 +1,5 @@
 -- A nested form is read by its rule, where a level is left.
-use Rattle.std.proofs.Common.{◌≡◌, ℕ, zero, suc, ◌-◌, ◌<◌, List, map, refl, arith, Err, Bool, true, false}
+use Rattle.std.proofs.Common.{◌≡◌, ℕ, zero, suc, ◌-◌, ◌<◌, List, [], map, refl, arith, Err, Bool, true, false}
 use Rattle.std.specs.Prelude.{if◌then◌else◌}
 use Rattle.uc_forms.specs.declared.fault.Fault.TheVariants.{Syntax, TooDeep}
 use Rattle.uc_forms.specs.Alphabet.{Alphabet}
@@ -31,3 +31,8 @@ module _ {T : Alphabet} {N : Type 0} {V : N → Type 0} (rule : Rules T N V) (op
       tested : (b : Bool) → Gives {Y = V n} (Err (stop_deep b)) ws (if b then Err (TooDeep, ws) else Err (Syntax, ws))
       tested true = refl
       tested false = refl
+
+  -- and no word is taken there
+  pub no_level_noted : (levels : ℕ) (n : N) (ws : List T.Word) → levels ≡ 0 → note_at rule opens levels n ws ≡ []
+  unfolding note_at
+  no_level_noted levels n ws e = rw e refl

@@ -15,3 +15,7 @@ pub mod Loops
 pub mod Tallies
 pub mod Silent
 pub mod Spelled
+pub mod Endings
+pub mod Counting
+pub mod Steps
+pub mod Whole

@@ -173,7 +173,7 @@ module _ (T : Alphabet) where
       let n = not_at ws (first opens f) (first opens g) e in
       let no_f = is_not (skips f) c.0 in
       let no_g = is_not (skips g) d.0 in
-      idle_is false (skips g) ws _ (sym no_g) (idle_until (first opens g) (read_with opens deeper f) (read_with opens deeper g) (length ws) ws n.1
+      idle_is false (skips g) ws _ (sym no_g) (idle_until (first opens g) (read_with opens deeper f) (read_with opens deeper g) (suc (length ws)) ws n.1
       (idle_is (skips f) false ws _ no_f (idle opens goes deeper h f a.0 ws n.0)) (idle_is (skips g) false ws _ no_g (idle opens goes deeper h g b.0 ws n.1)))
   idle opens goes deeper h (made m f) p ws e = idle_turned m (skips f) ws _ (idle opens goes deeper h f p ws e)
   idle opens goes deeper h (ahead q j js k f g) p ws e =

@@ -182,7 +182,7 @@ module _ (T : Alphabet) where
       (judge_turned (Fits (SpellWith X g) ws) (Begun (SpellWith Y g) ws) (Fits (SpellWith X (either f g)) ws) (Begun (SpellWith Y (either f g)) ws) inr (read_with opens deeper g ws) (run X Y up ok opens deeper h g ws)
       (λ a end q. (q.0, q.1, q.2)) (λ e end q. (q.0, q.1, inr q.2, q.3, q.4, q.5)))
   run X Y up ok opens deeper h (chain f) ws = run_chain (SpellWith X f) (SpellWith Y f) (more X Y up f) (first opens f) (read_with opens deeper f) (run X Y up ok opens deeper h f) (length ws) ws
-  run X Y up ok opens deeper h (until f g) ws = run_until (SpellWith X f) (SpellWith Y f) (SpellWith X g) (SpellWith Y g) (more X Y up f) (ready Y ok g) (first opens g) (read_with opens deeper f) (read_with opens deeper g) (run X Y up ok opens deeper h f) (run X Y up ok opens deeper h g) (length ws) ws
+  run X Y up ok opens deeper h (until f g) ws = run_until (SpellWith X f) (SpellWith Y f) (SpellWith X g) (SpellWith Y g) (more X Y up f) (ready Y ok g) (first opens g) (read_with opens deeper f) (read_with opens deeper g) (run X Y up ok opens deeper h f) (run X Y up ok opens deeper h g) (suc (length ws)) ws
   run X Y up ok opens deeper h (made m f) ws = judge_turned (Fits (SpellWith X f) ws) (Begun (SpellWith Y f) ws) (Fits (SpellWith X (made m f)) ws) (Begun (SpellWith Y (made m f)) ws) m (read_with opens deeper f ws) (run X Y up ok opens deeper h f ws)
       (λ a end q. (q.0, q.1, (a, refl, q.2))) (λ e end q. (q.0, q.1, m q.2, q.3, (q.2, refl, q.4), q.5))
   run X Y up ok opens deeper h (ahead {A = A} {B = B} mark j js k f g) ws =

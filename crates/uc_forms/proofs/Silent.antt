@@ -65,7 +65,7 @@ module _ (T : Alphabet) where
   quiet_form opens deeper inner table h (chain f) s ws = quiet_chain (first opens f) (read_with opens deeper f) (note_with opens deeper inner f) (quiet_form opens deeper inner table h f s) (length ws) ws
   quiet_form opens deeper inner table h (until f g) s ws =
       let p = and_parts (is_silent table f) (is_silent table g) s in
-      quiet_until (first opens g) (read_with opens deeper f) (note_with opens deeper inner f) (note_with opens deeper inner g) (quiet_form opens deeper inner table h f p.0) (quiet_form opens deeper inner table h g p.1) (length ws) ws
+      quiet_until (first opens g) (read_with opens deeper f) (note_with opens deeper inner f) (note_with opens deeper inner g) (quiet_form opens deeper inner table h f p.0) (quiet_form opens deeper inner table h g p.1) (suc (length ws)) ws
   quiet_form opens deeper inner table h (made m f) s ws = quiet_form opens deeper inner table h f s ws
   quiet_form opens deeper inner table h (ahead q j js k f g) s ws =
       let p = and_parts (is_quiet q) _ s in

@@ -294,7 +294,7 @@ module _ (T : Alphabet) where
       let u = and_parts (apart (goes_on opens goes f) (first opens f)) _ t.1 in
       along_until m (SpellWith X f) (SpellWith X g) (stands_with X inner f) (stands_with X inner g) (first opens f) (first opens g) (goes_on opens goes f) (goes_on opens goes g) (skips f) (skips g) (read_with opens deeper f) (read_with opens deeper g) (note_with opens deeper notes f) (note_with opens deeper notes g)
       (measured X inner c f) (opening T X opens o f) (opening T X opens o g) (is_not T (skips f) z.0) (is_not T (skips g) w.0) t.0 u.0 u.1 (along m X inner opens goes deeper notes o c h f x.0) (along m X inner opens goes deeper notes o c h g y.0)
-      a.0 a.1 (length (front ++ rest)) front rest (let k = length-append front rest in omega arith) s out
+      a.0 a.1 (suc (length (front ++ rest))) front rest (let k = length-append front rest in omega arith) s out
   along m X inner opens goes deeper notes o c h (made {A = A} {B = B} v f) p front b rest s out = rw s.1 (tracks_turned m v (stands_with X inner f front s.0 s.2) (front ++ rest) s.0 rest (read_with opens deeper f (front ++ rest)) (note_with opens deeper notes f (front ++ rest)) (along m X inner opens goes deeper notes o c h f p front s.0 rest s.2 out))
   along m X inner opens goes deeper notes o c h (ahead q j js k f g) p front (inl a) rest s out =
       let x = and_parts (is_plain opens goes f) _ p in

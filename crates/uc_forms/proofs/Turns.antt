@@ -26,7 +26,7 @@ module _ (T : Alphabet) where
   abbrev Looks : {A : Type 0} → (List T.Word → Outcome T.Word A) → List T.Word → Outcome T.Word (A ⊎ ⊥)
   Looks item us = turned goes_on_with (item us)
 
-  -- turns T beyond the count of the words change nothing
+  -- turns beyond the count of the words change nothing
   enough : {A : Type 0} (codes : List ℕ) (item : List T.Word → Outcome T.Word A) → Advances item → (n k : ℕ) (ws : List T.Word) → length ws ≤ n → length ws ≤ k → read_chain T codes (Looks item) n ws ≡ read_chain T codes (Looks item) k ws
   unfolding read_chain
   enough codes item h zero zero ws a b = refl

@@ -1,6 +1,6 @@
 -- The forms in which words may stand.
 use Rattle.std.specs.Prelude.{ℕ, Bool, false, ◌||◌, ◌==◌, List, [], ◌∷◌, Option, ◌⊎◌}
-use Rattle.std.proofs.Common.{inl}
+use Rattle.std.proofs.Common.{inl, inr}
 use Rattle.uc_forms.specs.Alphabet.{Alphabet}
 
 -- what a word does beside being there
@@ -77,6 +77,15 @@ before {T} {A = A} f k = made (λ (x : A × T.Word). x.0) (both f (word k))
 
 abbrev pub goes_on_with : {A : Type 0} → A → A ⊎ ⊥
 goes_on_with a = inl a
+
+abbrev pub merged : {A : Type 0} → A ⊎ A → A
+merged (inl a) = a
+merged (inr a) = a
+
+-- one or the other, of one type
+infixr 20 ◌<|>◌
+abbrev pub ◌<|>◌ : {T : Alphabet} {N : Type 0} {V : N → Type 0} {A : Type 0} → Form T N V A → Form T N V A → Form T N V A
+f <|> g = made merged (either f g)
 
 -- any number of them
 abbrev pub many : {T : Alphabet} {N : Type 0} {V : N → Type 0} {A : Type 0} → Form T N V A → Form T N V (List A)

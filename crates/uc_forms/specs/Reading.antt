@@ -47,7 +47,7 @@ read_any T j js ws = if is_at T (codes_of T j js) ws then take_first ws else Err
 abbrev pub read_word : (T : Alphabet) → T.Kind → List T.Word → Outcome T.Word T.Word
 read_word T k ws = read_any T k [] ws
 
--- The number bounds the turns. The count of the words is always enough.
+-- The number bounds the turns. The count of the words is always enough, and one more where there is an end to read.
 unfoldable pub read_chain : (T : Alphabet) {A B : Type 0} → List ℕ → (List T.Word → Outcome T.Word (A ⊎ B)) → ℕ → List T.Word → Outcome T.Word (List A × Option B)
 read_chain T codes item zero ws = Ok (([], None), ws)
 read_chain T codes item (suc n) ws = if is_at T codes ws then (item ws >>= λ x. elim x.0 [
@@ -66,6 +66,13 @@ turns T codes item ws = turned (λ x. x.0) (read_chain T codes (λ us. turned go
 -- what was read before, and what is still read
 abbrev pub with_front : {W A : Type 0} → List A → Outcome W (List A) → Outcome W (List A)
 with_front front r = turned (λ xs. front ++ xs) r
+
+-- one turn after the other until the next word is of one of these kinds, and then the end
+abbrev pub endings : (T : Alphabet) {A B : Type 0} → List ℕ → (List T.Word → Outcome T.Word A) → (List T.Word → Outcome T.Word B) → List T.Word → Outcome T.Word (List A × B)
+endings T codes item ender ws = read_until T codes item ender (suc (length ws)) ws
+
+abbrev pub with_head : {W A B : Type 0} → List A → Outcome W (List A × B) → Outcome W (List A × B)
+with_head front r = turned (λ x. (front ++ x.0, x.1)) r
 
 -- ---- what a form begins with
 
@@ -101,7 +108,7 @@ read_with opens deeper nothing ws = Ok (tt, ws)
 read_with opens deeper (both f g) ws = paired (read_with opens deeper f ws) (read_with opens deeper g)
 read_with {T} opens deeper (either f g) ws = if is_at T (first opens f) ws then turned inl (read_with opens deeper f ws) else turned inr (read_with opens deeper g ws)
 read_with {T} opens deeper (chain f) ws = read_chain T (first opens f) (read_with opens deeper f) (length ws) ws
-read_with {T} opens deeper (until f g) ws = read_until T (first opens g) (read_with opens deeper f) (read_with opens deeper g) (length ws) ws
+read_with {T} opens deeper (until f g) ws = endings T (first opens g) (read_with opens deeper f) (read_with opens deeper g) ws
 read_with opens deeper (made h f) ws = turned h (read_with opens deeper f ws)
 read_with {T} opens deeper (ahead q j js k f g) ws = if is_at_two T j js k ws then turned inl (paired (read_any T j js ws) (λ us. turned (λ x. x.1) (paired (read_word T k us) (read_with opens deeper f)))) else turned inr (read_with opens deeper g ws)
 read_with opens deeper (deep n) ws = deeper n ws
@@ -137,6 +144,13 @@ unfoldable pub note_until : (T : Alphabet) {A : Type 0} → List ℕ → (List T
 note_until T codes item note last zero ws = last ws
 note_until T codes item note last (suc n) ws = if is_at T codes ws then last ws else note ws ++ then_note (item ws) (λ a rest. note_until T codes item note last n rest)
 
+-- how the words of such turns stand
+abbrev pub note_turns : (T : Alphabet) {A : Type 0} → List ℕ → (List T.Word → Outcome T.Word A) → (List T.Word → List (Stand T.Word)) → List T.Word → List (Stand T.Word)
+note_turns T codes item note ws = note_chain T codes (λ us. turned goes_on_with (item us)) note (length ws) ws
+
+abbrev pub note_endings : (T : Alphabet) {A : Type 0} → List ℕ → (List T.Word → Outcome T.Word A) → (List T.Word → List (Stand T.Word)) → (List T.Word → List (Stand T.Word)) → List T.Word → List (Stand T.Word)
+note_endings T codes item note last ws = note_until T codes item note last (suc (length ws)) ws
+
 -- two words and what comes after them
 abbrev pub note_two : {W : Type 0} → Mark → (List W → List (Stand W)) → List W → List (Stand W)
 note_two q note [] = []
@@ -149,7 +163,7 @@ note_with opens deeper inner nothing ws = []
 note_with opens deeper inner (both f g) ws = note_with opens deeper inner f ws ++ then_note (read_with opens deeper f ws) (λ a rest. note_with opens deeper inner g rest)
 note_with {T} opens deeper inner (either f g) ws = if is_at T (first opens f) ws then note_with opens deeper inner f ws else note_with opens deeper inner g ws
 note_with {T} opens deeper inner (chain f) ws = note_chain T (first opens f) (read_with opens deeper f) (note_with opens deeper inner f) (length ws) ws
-note_with {T} opens deeper inner (until f g) ws = note_until T (first opens g) (read_with opens deeper f) (note_with opens deeper inner f) (note_with opens deeper inner g) (length ws) ws
+note_with {T} opens deeper inner (until f g) ws = note_endings T (first opens g) (read_with opens deeper f) (note_with opens deeper inner f) (note_with opens deeper inner g) ws
 note_with opens deeper inner (made h f) ws = note_with opens deeper inner f ws
 note_with {T} opens deeper inner (ahead q j js k f g) ws = if is_at_two T j js k ws then note_two q (note_with opens deeper inner f) ws else note_with opens deeper inner g ws
 note_with opens deeper inner (deep n) ws = map one_deeper (inner n ws)
