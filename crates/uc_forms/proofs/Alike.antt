@@ -1,15 +1,15 @@
 -- What reading gives up to a word, and how the words through it stand, does not depend on the words after it.
-use Rattle.std.proofs.Common.{◌≡◌, ℕ, zero, suc, ◌+◌, ◌≤◌, ◌<◌, Bool, true, false, List, [], ◌∷◌, ◌++◌, length, map, Option, Some, None, Ok, Err, refl, sym, ap, subst, ◌∙◌, append_assoc, length-append, arith, inl, inr, ◌⊎◌}
-use Rattle.std.specs.Prelude.{◌&&◌, not, ◌==◌, if◌then◌else◌}
+use Rattle.std.proofs.Common.{◌≡◌, ℕ, zero, suc, ◌+◌, ◌≤◌, ◌<◌, Bool, true, false, List, [], ◌∷◌, ◌++◌, length, map, Some, None, Ok, Err, refl, sym, ap, subst, ◌∙◌, append_assoc, length-append, arith, inl, inr, ◌⊎◌}
+use Rattle.std.specs.Prelude.{not, ◌==◌, if◌then◌else◌}
 use Rattle.std.proofs.lemmas.Bool.{and_parts, or_cases, eqb-true}
 use Rattle.std.proofs.lemmas.List.{length-map, map-append}
 use Rattle.uc_forms.specs.declared.fault.Fault.{Fault}
-use Rattle.uc_forms.specs.declared.fault.Fault.TheVariants.{Syntax, TooDeep}
+use Rattle.uc_forms.specs.declared.fault.Fault.TheVariants.{Syntax}
 use Rattle.uc_forms.specs.Alphabet.{Alphabet}
 use Rattle.uc_forms.specs.Form.{Mark, quiet, declares, restarts, Form, any, nothing, both, either, chain, until, made, ahead, deep, member, codes_of}
 use Rattle.uc_forms.specs.Spelling.{Stand, stand, one_deeper}
 use Rattle.uc_forms.specs.Reading.{Outcome, ◌>>=◌, turned, paired, is_at, is_at_two, read_any, read_word, read_chain, read_until, skips, first, read_with, note_word, then_note, note_turn, note_chain, note_until, note_two, note_with}
-use Rattle.uc_forms.specs.Plain.{firm, loud, is_quiet, apart, within, is_plain}
+use Rattle.uc_forms.specs.Plain.{firm, loud, is_quiet, within, is_plain}
 use Rattle.uc_forms.proofs.Judge.{Judge}
 use Rattle.uc_forms.proofs.Opening.{is_not, member_cases, member_left, member_right, not_member, apart_from}
 use Rattle.uc_forms.proofs.Counts.{StepOf, TurnOf, two_read}

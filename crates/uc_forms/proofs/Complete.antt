@@ -2,12 +2,10 @@
 use Rattle.std.proofs.Common.{◌≡◌, ℕ, zero, suc, ◌+◌, ◌≤◌, ◌<◌, Bool, true, false, List, [], ◌∷◌, ◌++◌, length, Option, Some, None, Ok, refl, ap, subst, ◌∙◌, append_assoc, length-append, arith, inl, inr, ◌⊎◌}
 use Rattle.std.specs.Prelude.{◌&&◌, not, ◌==◌, if◌then◌else◌}
 use Rattle.std.proofs.lemmas.Bool.{and_parts, and_right, eq-eqb}
-use Rattle.uc_forms.specs.declared.fault.Fault.{Fault}
-use Rattle.uc_forms.specs.declared.fault.Fault.TheVariants.{Syntax, TooDeep}
 use Rattle.uc_forms.specs.Alphabet.{Alphabet}
 use Rattle.uc_forms.specs.Form.{Form, any, nothing, both, either, chain, until, made, ahead, deep, member, codes_of}
 use Rattle.uc_forms.specs.Spelling.{Language, SpellChain, SpellUntil, SpellWith}
-use Rattle.uc_forms.specs.Reading.{Outcome, turned, paired, is_at, is_at_two, read_any, read_word, read_chain, read_until, turns, skips, first, read_with, read}
+use Rattle.uc_forms.specs.Reading.{Outcome, turned, paired, is_at, is_at_two, read_any, read_word, read_chain, read_until, skips, first, read_with, read}
 use Rattle.uc_forms.specs.Plain.{is_single, goes_on, firm, inside, nests, apart, within, is_plain}
 use Rattle.uc_forms.proofs.Second.{Second, second, IfAlone, alone}
 use Rattle.uc_forms.proofs.Opening.{OpensBy, opening, opens_chain, opens_until, not_at, member_cases, apart_from, is_not, pair_after}

@@ -1,23 +1,20 @@
 -- The laws of reading, for every plain grammar.
 use Rattle.std.proofs.Common.{◌≡◌, ℕ, zero, suc, ◌+◌, ◌≤◌, ◌<◌, Bool, true, false, List, [], ◌∷◌, ◌++◌, length, map, Option, Some, None, Ok, Err, refl, sym, ap, subst, ◌∙◌, append_assoc, length-append, arith, inl, inr, ◌⊎◌}
-use Rattle.std.specs.Prelude.{◌||◌, not, if◌then◌else◌, nat_lt, take, drop}
+use Rattle.std.specs.Prelude.{◌||◌, if◌then◌else◌, nat_lt, take, drop}
 use Rattle.std.proofs.lemmas.List.{append-nil}
 use Rattle.std.proofs.Math.Seq.{take-append_seam}
-use Rattle.uc_forms.specs.declared.fault.Fault.{Fault}
 use Rattle.uc_forms.specs.declared.fault.Fault.TheVariants.{Syntax, TooDeep}
 use Rattle.uc_forms.specs.Alphabet.{Alphabet}
 use Rattle.uc_forms.specs.Form.{Mark, quiet, declares, restarts, Form, Rules}
-use Rattle.uc_forms.specs.Spelling.{Language, SpellWith, SpellAt, Spells, Stand, one_deeper, stands_with, stands_at, stands, is_past, is_deeper, past_limit}
-use Rattle.uc_forms.specs.Reading.{Outcome, is_at, read_with, read_at, read, note_with, note_at, noted}
-use Rattle.uc_forms.specs.Plain.{is_plain, goes_on, within, IsPlain}
+use Rattle.uc_forms.specs.Spelling.{SpellAt, Spells, Stand, one_deeper, stands_with, stands_at, stands, is_past, is_deeper, past_limit}
+use Rattle.uc_forms.specs.Reading.{Outcome, read_at, read, note_at, noted}
+use Rattle.uc_forms.specs.Plain.{is_plain, goes_on, IsPlain}
 use Rattle.uc_forms.specs.Grammar.{Grammar}
-use Rattle.uc_forms.specs.Answer.{Answer, spelled, wrong, too_deep, too_many, WordOf, IsClean, Begins, BeginsAs, IsAnswer, whole, first_of, answer}
+use Rattle.uc_forms.specs.Answer.{Answer, spelled, wrong, too_deep, too_many, WordOf, IsClean, BeginsAs, IsAnswer, whole, first_of}
 use Rattle.uc_forms.specs.Law.{ReadIsSpelled, SpelledIsRead, DeepIsRefused, LevelsBoundDepths, DepthsBoundLevels, FaultComesAgain, FaultCompletes, StandAlike, OneValue, AnswersRight, OneAnswer}
-use Rattle.uc_forms.proofs.Judge.{Judge, Fits, Begun, GoesOn}
-use Rattle.uc_forms.proofs.Opening.{OpensBy}
+use Rattle.uc_forms.proofs.Judge.{Judge, Fits, Begun}
 use Rattle.uc_forms.proofs.Complete.{begins, longer}
-use Rattle.uc_forms.proofs.Counts.{Counts, left}
-use Rattle.uc_forms.proofs.Alike.{Alike, Decided, Ended, Stopped}
+use Rattle.uc_forms.proofs.Counts.{left}
 use Rattle.uc_forms.proofs.Track.{cut, before_cut, verdict, Tracks, cut_deeper, before_deeper, Measured, measured, Along, along}
 use Rattle.uc_forms.proofs.Exact.{at_opening, is_at_within, counted, follows, exactly, raise, again_err, runs, none_at_end, none_through, none_after}
 

@@ -7,7 +7,7 @@ use Rattle.uc_forms.specs.declared.fault.Fault.{Fault}
 use Rattle.uc_forms.specs.declared.fault.Fault.TheVariants.{Syntax, TooDeep}
 use Rattle.uc_forms.specs.Alphabet.{Alphabet}
 use Rattle.uc_forms.specs.Form.{Form, any, nothing, both, either, chain, until, made, ahead, deep, Rules, member}
-use Rattle.uc_forms.specs.Spelling.{Stand, Language, SpellWith, SpellAt, Spells, stands}
+use Rattle.uc_forms.specs.Spelling.{Stand, Language, SpellWith, SpellAt, Spells}
 use Rattle.uc_forms.specs.Reading.{Outcome, ◌>>=◌, turned, paired, is_at, is_at_two, read_any, read_word, read_chain, read_until, skips, first, read_with, read_at, read, note_at, noted}
 use Rattle.uc_forms.specs.Plain.{goes_on, within, is_plain, is_ready, IsPlain}
 use Rattle.uc_forms.proofs.Judge.{Judge, judge_bind, judge_turned, judge_paired, judge_more, Fits, Begun}
@@ -16,7 +16,7 @@ use Rattle.uc_forms.proofs.Opening.{OpensBy, opening, opens_wider, Idle, idle}
 use Rattle.uc_forms.proofs.Complete.{Reads, complete, longer}
 use Rattle.uc_forms.proofs.Leads.{Leads, leads}
 use Rattle.uc_forms.proofs.Counts.{Counts, counts, left, StepOf, TurnOf}
-use Rattle.uc_forms.proofs.Alike.{Alike, Decided, Ended, Stopped, Moves, Follows, follow, same_test}
+use Rattle.uc_forms.proofs.Alike.{Alike, Decided, Moves, Follows, follow, same_test}
 
 module _ (T : Alphabet) where
   -- ---- more room

@@ -3,8 +3,7 @@ use Rattle.std.proofs.Common.{◌≡◌, List, ◌∷◌, ◌++◌, Ok, Err, Boo
 use Rattle.std.specs.Prelude.{if◌then◌else◌}
 use Rattle.uc_forms.specs.declared.fault.Fault.{Fault}
 use Rattle.uc_forms.specs.declared.fault.Fault.TheVariants.{Syntax, TooDeep}
-use Rattle.uc_forms.specs.Form.{deep}
-use Rattle.uc_forms.specs.Reading.{Outcome, ◌>>=◌, turned, paired, first}
+use Rattle.uc_forms.specs.Reading.{Outcome, ◌>>=◌, turned, paired}
 
 abbrev pub Judge : {W A : Type 0} → (A → List W → Type 0) → (Fault → List W → Type 0) → Outcome W A → Type 0
 Judge P Q (Ok x) = P x.0 x.1

@@ -3,14 +3,12 @@ use Rattle.std.proofs.Common.{◌≡◌, ℕ, Bool, true, false, List, [], ◌�
 use Rattle.std.specs.Prelude.{if◌then◌else◌}
 use Rattle.std.proofs.lemmas.List.{append-nil}
 use Rattle.std.proofs.lemmas.Bool.{and_parts, or_cases}
-use Rattle.uc_forms.specs.declared.fault.Fault.{Fault}
-use Rattle.uc_forms.specs.declared.fault.Fault.TheVariants.{Syntax, TooDeep}
 use Rattle.uc_forms.specs.Alphabet.{Alphabet}
 use Rattle.uc_forms.specs.Form.{Form, any, nothing, both, either, chain, until, made, ahead, deep, member, codes_of}
 use Rattle.uc_forms.specs.Spelling.{Language, SpellWith}
 use Rattle.uc_forms.specs.Reading.{skips, first}
 use Rattle.uc_forms.specs.Plain.{is_direct}
-use Rattle.uc_forms.proofs.Run.{Ready, ready, ChainOf, same_code}
+use Rattle.uc_forms.proofs.Run.{Ready, ready, ChainOf}
 use Rattle.uc_forms.proofs.Opening.{member_cases}
 
 module _ (T : Alphabet) where

@@ -1,10 +1,9 @@
 -- A nested form is read by its rule, where a level is left.
-use Rattle.std.proofs.Common.{◌≡◌, ℕ, zero, suc, ◌-◌, ◌<◌, List, [], map, refl, arith, Err, Bool, true, false}
+use Rattle.std.proofs.Common.{◌≡◌, ℕ, zero, suc, ◌-◌, ◌<◌, List, [], refl, arith, Err, Bool, true, false}
 use Rattle.std.specs.Prelude.{if◌then◌else◌}
 use Rattle.uc_forms.specs.declared.fault.Fault.TheVariants.{Syntax, TooDeep}
 use Rattle.uc_forms.specs.Alphabet.{Alphabet}
 use Rattle.uc_forms.specs.Form.{Rules}
-use Rattle.uc_forms.specs.Spelling.{Stand}
 use Rattle.uc_forms.specs.Reading.{is_at, read_at, read, note_at, noted}
 use Rattle.uc_forms.specs.Gives.{Gives, stop_deep}
 

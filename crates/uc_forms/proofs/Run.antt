@@ -4,7 +4,7 @@ use Rattle.std.specs.Prelude.{if◌then◌else◌, ◌==◌}
 use Rattle.std.proofs.lemmas.List.{append-nil}
 use Rattle.std.proofs.lemmas.Bool.{or_left, eq-eqb}
 use Rattle.uc_forms.specs.declared.fault.Fault.{Fault}
-use Rattle.uc_forms.specs.declared.fault.Fault.TheVariants.{Syntax, TooDeep}
+use Rattle.uc_forms.specs.declared.fault.Fault.TheVariants.{Syntax}
 use Rattle.uc_forms.specs.Alphabet.{Alphabet}
 use Rattle.uc_forms.specs.Form.{Mark, Form, any, nothing, both, either, chain, until, made, ahead, deep, member, codes_of}
 use Rattle.uc_forms.specs.Spelling.{Language, SpellChain, SpellUntil, SpellWith}

@@ -1,6 +1,6 @@
 -- A form that declares no name leaves the count as it is.
 use Rattle.std.proofs.Common.{◌≡◌, ℕ, zero, suc, Bool, true, false, List, [], ◌∷◌, ◌++◌, length, map, Ok, Err, refl, ap, ◌∙◌, ◌⊎◌, inl, inr}
-use Rattle.std.specs.Prelude.{◌&&◌, if◌then◌else◌}
+use Rattle.std.specs.Prelude.{if◌then◌else◌}
 use Rattle.std.proofs.lemmas.Bool.{and_parts}
 use Rattle.uc_forms.specs.declared.tally.Tally.{Tally}
 use Rattle.uc_forms.specs.Alphabet.{Alphabet}
@@ -8,7 +8,7 @@ use Rattle.uc_forms.specs.Form.{Mark, quiet, declares, restarts, Form, any, noth
 use Rattle.uc_forms.specs.Spelling.{Stand, stand, one_deeper}
 use Rattle.uc_forms.specs.Reading.{Outcome, is_at, is_at_two, first, read_with, read_at, note_word, then_note, note_turn, note_chain, note_until, note_two, note_with, note_at, noted}
 use Rattle.uc_forms.specs.Plain.{is_quiet, is_silent}
-use Rattle.uc_forms.specs.Tally.{one_more, anew, with_word, counted_on}
+use Rattle.uc_forms.specs.Tally.{with_word, counted_on}
 
 abbrev AllQuiet : {W : Type 0} → List (Stand W) → Type 0
 AllQuiet [] = Unit {0}

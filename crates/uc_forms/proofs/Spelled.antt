@@ -1,7 +1,7 @@
 -- Words of given kinds spell a form: one step for each shape of form. It serves the law of a printer, that what it prints is spelled.
-use Rattle.std.proofs.Common.{◌≡◌, ℕ, Bool, true, false, List, [], ◌∷◌, ◌++◌, Option, None, map, refl, sym, ap, subst, ◌∙◌, append-nil, ◌⊎◌, inl, inr}
+use Rattle.std.proofs.Common.{◌≡◌, ℕ, true, List, [], ◌∷◌, ◌++◌, None, map, refl, sym, ap, subst, ◌∙◌, ◌⊎◌, inl, inr}
 use Rattle.uc_forms.specs.Alphabet.{Alphabet}
-use Rattle.uc_forms.specs.Form.{Mark, quiet, Form, any, nothing, both, either, chain, made, deep, word, after, before, many, goes_on_with, member, codes_of}
+use Rattle.uc_forms.specs.Form.{Mark, quiet, Form, any, nothing, both, either, made, word, after, before, many, member, codes_of}
 use Rattle.uc_forms.specs.Spelling.{Language, SpellWith}
 use Rattle.uc_forms.proofs.Run.{own_code}
 

@@ -1,14 +1,14 @@
 -- How the words of each shape of form are counted.
-use Rattle.std.proofs.Common.{◌≡◌, ℕ, Bool, true, false, List, [], ◌∷◌, ◌++◌, map, Ok, Err, refl, sym, ap, subst, ◌∙◌, ◌⊎◌}
+use Rattle.std.proofs.Common.{◌≡◌, ℕ, Bool, true, false, List, [], ◌∷◌, Ok, Err, refl, sym, ap, subst, ◌∙◌}
 use Rattle.std.specs.Prelude.{if◌then◌else◌}
 use Rattle.std.proofs.lemmas.Bool.{and_parts}
 use Rattle.uc_forms.specs.declared.fault.Fault.{Fault}
 use Rattle.uc_forms.specs.declared.fault.Fault.TheVariants.{Syntax}
 use Rattle.uc_forms.specs.declared.tally.Tally.{Tally}
 use Rattle.uc_forms.specs.Alphabet.{Alphabet}
-use Rattle.uc_forms.specs.Form.{Mark, quiet, declares, restarts, Form, any, both, either, made, ahead, deep, Rules, after, before, declared, restart, word, member, codes_of}
-use Rattle.uc_forms.specs.Spelling.{Stand, stand, one_deeper}
-use Rattle.uc_forms.specs.Reading.{Outcome, is_at, is_at_two, take_first, read_any, read_word, read_at, read, first, note_word, note_two, note_at, noted}
+use Rattle.uc_forms.specs.Form.{Mark, quiet, declares, restarts, Form, both, either, ahead, deep, Rules, after, before, word, member, codes_of}
+use Rattle.uc_forms.specs.Spelling.{stand}
+use Rattle.uc_forms.specs.Reading.{Outcome, is_at, is_at_two, read_any, read_word, read, first, note_word, note_two, note_at, noted}
 use Rattle.uc_forms.specs.Tally.{one_more, anew, with_word, counted_on}
 use Rattle.uc_forms.proofs.Tallies.{counted_append, counted_deeper}
 

@@ -1,17 +1,16 @@
 -- How reading to some levels goes along words that spell a value of any depth.
-use Rattle.std.proofs.Common.{◌≡◌, ℕ, zero, suc, ◌+◌, ◌≤◌, ◌<◌, Bool, true, false, List, [], ◌∷◌, ◌++◌, length, map, Option, Some, None, Ok, Err, refl, sym, ap, subst, ◌∙◌, append_assoc, length-append, arith, inl, inr, ◌⊎◌}
-use Rattle.std.specs.Prelude.{◌&&◌, not, if◌then◌else◌, drop}
+use Rattle.std.proofs.Common.{◌≡◌, ℕ, zero, suc, ◌+◌, ◌≤◌, ◌<◌, Bool, true, false, List, [], ◌∷◌, ◌++◌, length, map, Option, Some, None, Ok, Err, refl, sym, ap, ◌∙◌, append_assoc, length-append, arith, inl, inr, ◌⊎◌}
+use Rattle.std.specs.Prelude.{not, if◌then◌else◌, drop}
 use Rattle.std.proofs.lemmas.Bool.{and_parts}
 use Rattle.std.proofs.lemmas.List.{length-map, append-nil}
-use Rattle.uc_forms.specs.declared.fault.Fault.{Fault}
-use Rattle.uc_forms.specs.declared.fault.Fault.TheVariants.{Syntax, TooDeep}
+use Rattle.uc_forms.specs.declared.fault.Fault.TheVariants.{TooDeep}
 use Rattle.uc_forms.specs.Alphabet.{Alphabet}
 use Rattle.uc_forms.specs.Form.{Mark, quiet, Form, any, nothing, both, either, chain, until, made, ahead, deep, member, codes_of}
 use Rattle.uc_forms.specs.Spelling.{Language, SpellChain, SpellUntil, SpellWith, Stand, stand, one_deeper, stands_chain, stands_until, Standing, stands_with, is_past}
-use Rattle.uc_forms.specs.Reading.{Outcome, ◌>>=◌, turned, paired, is_at, is_at_two, read_any, read_word, read_chain, read_until, skips, first, read_with, note_word, then_note, note_turn, note_chain, note_until, note_two, note_with}
-use Rattle.uc_forms.specs.Plain.{goes_on, apart, within, is_single, inside, nests, firm, loud, is_plain}
+use Rattle.uc_forms.specs.Reading.{Outcome, ◌>>=◌, turned, paired, is_at, is_at_two, read_any, read_word, read_chain, read_until, skips, first, read_with, note_word, then_note, note_turn, note_chain, note_until, note_with}
+use Rattle.uc_forms.specs.Plain.{goes_on, apart, within, is_single, inside, nests, firm, is_plain}
 use Rattle.uc_forms.proofs.Opening.{OpensBy, opening, opens_chain, opens_until, not_at, is_not}
-use Rattle.uc_forms.proofs.Complete.{stops_at, begins, begins_not, stops_before, longer, two_are, two_are_not, positive}
+use Rattle.uc_forms.proofs.Complete.{stops_at, begins, begins_not, stops_before, longer, two_are, two_are_not}
 use Rattle.uc_forms.proofs.Second.{second, alone}
 use Rattle.uc_forms.proofs.Counts.{StepOf, TurnOf, two_read}
 

@@ -3,9 +3,8 @@ use Rattle.std.proofs.Common.{◌≡◌, ℕ, zero, suc, ◌≤◌, ◌<◌, Boo
 use Rattle.std.specs.Prelude.{if◌then◌else◌}
 use Rattle.std.proofs.lemmas.List.{append-nil}
 use Rattle.uc_forms.specs.declared.fault.Fault.{Fault}
-use Rattle.uc_forms.specs.declared.fault.Fault.TheVariants.{Syntax, TooDeep}
 use Rattle.uc_forms.specs.Alphabet.{Alphabet}
-use Rattle.uc_forms.specs.Form.{Form, nothing, Rules, goes_on_with}
+use Rattle.uc_forms.specs.Form.{Form, Rules, goes_on_with}
 use Rattle.uc_forms.specs.Reading.{Outcome, ◌>>=◌, turned, is_at, read_chain, turns, with_front, skips, read}
 use Rattle.uc_forms.specs.Plain.{IsPlain}
 use Rattle.uc_forms.proofs.Judge.{Judge}

@@ -1,13 +1,13 @@
 -- What a parser is to answer, by what its functions gave and counted.
 use Rattle.std.specs.Prelude.{◌==◌}
-use Rattle.std.proofs.Common.{◌≡◌, ℕ, Bool, true, false, List, [], ◌∷◌, length, Option, Some, None, Ok, Err, refl, sym, ap, subst, ◌∙◌, arith}
+use Rattle.std.proofs.Common.{◌≡◌, ℕ, true, false, List, [], ◌∷◌, length, Option, Some, None, Ok, Err, sym, ap, subst, ◌∙◌, arith}
 use Rattle.std.proofs.lemmas.Bool.{eqb-true}
 use Rattle.uc_forms.specs.declared.fault.Fault.TheVariants.{Syntax, TooDeep}
 use Rattle.uc_forms.specs.declared.tally.Tally.{Tally}
 use Rattle.uc_forms.specs.Spelling.{past_limit}
 use Rattle.uc_forms.specs.Reading.{Outcome, read, noted}
 use Rattle.uc_forms.specs.Grammar.{Grammar}
-use Rattle.uc_forms.specs.Answer.{Answer, spelled, wrong, too_deep, too_many, WordOf, IsAnswer, whole, first_of}
+use Rattle.uc_forms.specs.Answer.{spelled, wrong, too_deep, too_many, WordOf, IsAnswer, whole, first_of}
 use Rattle.uc_forms.specs.Tally.{fresh, counted_on}
 use Rattle.uc_forms.proofs.Tallies.{counted_past}
 use Rattle.uc_forms.proofs.Every.{answers_right}

@@ -1,5 +1,5 @@
 -- What is to be answered for words as a text.
-use Rattle.std.specs.Prelude.{◌≡◌, ℕ, Bool, true, false, take, List, [], ◌∷◌, ◌++◌, length, Option, Some, None, Ok, Err}
+use Rattle.std.specs.Prelude.{◌≡◌, ℕ, true, false, take, List, [], ◌∷◌, ◌++◌, length, Option, Some, None, Ok, Err}
 use Rattle.uc_forms.specs.declared.fault.Fault.TheVariants.{Syntax, TooDeep}
 use Rattle.uc_forms.specs.Spelling.{Spells, Stand, stands, is_deeper, past_limit}
 use Rattle.uc_forms.specs.Reading.{Outcome, read, noted}

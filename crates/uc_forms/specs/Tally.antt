@@ -1,5 +1,5 @@
 -- The names that a text declares, counted on as its words are taken.
-use Rattle.std.specs.Prelude.{◌≡◌, ℕ, ◌+◌, nat_lt, if◌then◌else◌, List, [], ◌∷◌, Option, Some, None, Result, Ok, Err}
+use Rattle.std.specs.Prelude.{◌≡◌, ℕ, ◌+◌, nat_lt, if◌then◌else◌, List, [], ◌∷◌, Some, None, Result, Ok, Err}
 use Rattle.uc_forms.specs.declared.tally.Tally.{Tally}
 use Rattle.uc_forms.specs.declared.stop.Stop.{Stop}
 use Rattle.uc_forms.specs.declared.stop.Stop.TheVariants as stops
