@@ -1,17 +1,16 @@
 -- How items are read, and which names they declare.
-use Rattle.std.proofs.Common.{◌≡◌, ℕ, Bool, true, false, List, [], ◌∷◌, Ok, Err, refl, sym, ap, ◌∙◌, ◌⊎◌, inl, inr}
+use Rattle.std.proofs.Common.{◌≡◌, ℕ, Bool, true, false, List, [], ◌∷◌, Ok, refl, ◌∙◌}
 use Rattle.uc_forms.specs.declared.tally.Tally.{Tally}
-use Rattle.uc_forms.specs.Form.{declares, before, after, ahead}
-use Rattle.uc_forms.specs.Reading.{Outcome, turned, is_at, is_at_two, read_word}
+use Rattle.uc_forms.specs.Form.{declares, before, ahead}
+use Rattle.uc_forms.specs.Reading.{is_at, is_at_two, read_word}
 use Rattle.uc_forms.specs.Plain.{is_silent}
 use Rattle.uc_forms.specs.Tally.{one_more, counted_on}
 use Rattle.uc_forms.proofs.Loops.{first_given, second_given}
 use Rattle.uc_forms.proofs.Silent.{silent}
-use Rattle.uc_forms.proofs.Steps.{after_counts, ahead_counts, not_ahead_counts, before_counts, first_counts, second_counts}
+use Rattle.uc_forms.proofs.Steps.{after_counts, ahead_counts, not_ahead_counts, first_counts, second_counts}
 use Rattle.uc_forms_example.specs.Code.{code_of}
 use Rattle.uc_forms_example.specs.declared.word.Word.{Word}
 use Rattle.uc_forms_example.specs.declared.word.Kind.TheVariants.{Name, Let, Show, Semicolon, Colon}
-use Rattle.uc_forms_example.specs.declared.tree.Item.{Item}
 use Rattle.uc_forms_example.specs.Syntax.{words, Nested, in_braces, in_parens, rule, opens, term, sum, declaration, shown, item, form, marks}
 
 -- ---- sums declare no name

@@ -1,9 +1,9 @@
 -- How scopes are read, and which names they declare.
-use Rattle.std.proofs.Common.{◌≡◌, ℕ, ◌-◌, ◌<◌, List, [], Ok, Err, refl, sym, ap, ◌∙◌}
+use Rattle.std.proofs.Common.{◌≡◌, ℕ, ◌-◌, ◌<◌, List, [], Ok, Err, sym, ap, ◌∙◌}
 use Rattle.uc_forms.specs.declared.fault.Fault.{Fault}
 use Rattle.uc_forms.specs.declared.tally.Tally.{Tally}
 use Rattle.uc_forms.specs.Form.{restarts, restart, deep}
-use Rattle.uc_forms.specs.Reading.{Outcome, read_word}
+use Rattle.uc_forms.specs.Reading.{read_word}
 use Rattle.uc_forms.specs.declared.stop.Stop.{Stop}
 use Rattle.uc_forms.specs.declared.stop.Stop.TheVariants as stops
 use Rattle.uc_forms.specs.Gives.{StopsWith}

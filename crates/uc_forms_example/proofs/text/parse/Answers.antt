@@ -6,7 +6,7 @@ use Rattle.uc_forms.specs.Tally.{fresh, counted_on}
 use Rattle.uc_forms.proofs.Whole.{many_answered, all_answered, left_answered, wrong_answered, deep_answered}
 use Rattle.uc_forms_example.specs.declared.word.Word.{Word}
 use Rattle.uc_forms_example.specs.Syntax.{text, form, marks}
-use Rattle.uc_forms_example.specs.Verdict.{grammar, place_at}
+use Rattle.uc_forms_example.specs.Verdict.{grammar}
 use Rattle.uc_forms_example.proofs.text.parse.Goals as goal
 
 pub returns-in-Some : goal.returns-in-Some

@@ -1,4 +1,4 @@
-use Rattle.std.proofs.Common.{◌≡◌, sym, arith, rules, List}
+use Rattle.std.proofs.Common.{sym, arith, rules, List}
 use Rattle.std.proofs.lemmas.Result.{err_from_is_err_and}
 use Rattle.uc_forms.specs.Tally.{counted_on}
 use Rattle.uc_forms.proofs.Tallies.{counts_err}

@@ -1,4 +1,4 @@
-use Rattle.std.proofs.Common.{◌≡◌, sym, ◌∙◌, rules}
+use Rattle.std.proofs.Common.{sym, ◌∙◌}
 use Rattle.uc_forms_example.proofs.Items.{is_declaration, is_shown, declaration_counts, shown_counts}
 use Rattle.uc_forms_example.proofs.parser.Parser.item.Goals as goal
 

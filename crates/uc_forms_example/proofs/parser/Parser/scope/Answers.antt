@@ -1,4 +1,3 @@
-use Rattle.std.proofs.Common.{◌≡◌, sym, ◌∙◌, rules}
 use Rattle.uc_forms_example.proofs.Scopes.{scope_counts}
 use Rattle.uc_forms_example.proofs.parser.Parser.scope.Goals as goal
 

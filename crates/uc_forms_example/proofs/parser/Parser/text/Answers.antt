@@ -1,4 +1,4 @@
-use Rattle.std.proofs.Common.{◌≡◌, ◌∙◌, rules, true, false, refl, [], ◌∷◌, ◌++◌, List}
+use Rattle.std.proofs.Common.{◌≡◌, rules, true, false, refl, [], ◌∷◌, ◌++◌, List}
 use Rattle.std.proofs.lemmas.Result.{err_from_is_err_and}
 use Rattle.uc_forms.specs.Reading.{is_at}
 use Rattle.uc_forms.proofs.Counting.{counts_more, counts_done, turn_stops}
@@ -7,7 +7,7 @@ use Rattle.uc_forms.proofs.Turns.{goes_on, is_done}
 use Rattle.uc_forms_example.specs.Code.{code_of}
 use Rattle.uc_forms_example.specs.declared.word.Kind.TheVariants.{Scope}
 use Rattle.uc_forms_example.specs.declared.tree.Item.{Item}
-use Rattle.uc_forms_example.specs.Syntax.{words, scope, text, rule, opens, form, marks}
+use Rattle.uc_forms_example.specs.Syntax.{words, scope, text, form, marks}
 use Rattle.uc_forms_example.proofs.Here.{takes}
 use Rattle.uc_forms_example.proofs.parser.Parser.text.Goals as goal
 
