@@ -1,0 +1,3 @@
+pub mod Code
+pub mod Syntax
+pub mod Plain
