@@ -1,0 +1,3 @@
+mod Here
+mod Items
+mod Scopes

@@ -1,0 +1,4 @@
+pub mod Code
+pub mod Syntax
+pub mod Plain
+pub mod Verdict
