@@ -4,6 +4,7 @@
 mod declaration;
 mod design;
 mod expression;
+mod written_enums;
 mod names;
 mod place;
 mod statement;
