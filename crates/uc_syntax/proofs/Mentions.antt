@@ -1,0 +1,2 @@
+-- What each form of a tree mentions, in terms of its parts.
+use Rattle.uc_syntax.specs.Mentions.{NamesBelow}
