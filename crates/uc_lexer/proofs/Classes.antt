@@ -1,9 +1,9 @@
 -- How the kinds of byte lie to each other.
-use Rattle.std.proofs.Common.{◌≡◌, ℕ, Bool, true, false, not, ◌&&◌, ◌==◌, List, [], ◌∷◌, ◌++◌, refl, sym, ap, ◌∙◌, arith, tests}
+use Rattle.std.proofs.Common.{◌≡◌, ℕ, true, false, refl, arith}
 use Rattle.std.proofs.lemmas.Bool.Decides.{nat_tests}
-use Rattle.uc_lexer.specs.Bytes.{is_blank, is_digit, is_letter, is_word, AreAll, Begins}
+use Rattle.uc_lexer.specs.Bytes.{is_digit, is_letter, is_word}
 use Rattle.uc_lexer.specs.Reading.{is_in_line}
-use Rattle.uc_lexer.proofs.Tables.{is_start, is_other}
+use Rattle.uc_lexer.proofs.Tables.{is_start}
 
 pub letter_word : (c : ℕ) → is_letter c ≡ true → is_word c ≡ true
 letter_word c h = rw h refl

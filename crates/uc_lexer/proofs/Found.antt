@@ -1,5 +1,5 @@
 -- What stands at the front of a text, as the functions of the crate find it.
-use Rattle.std.proofs.Common.{◌≡◌, ℕ, ◌+◌, ◌-◌, ◌≤◌, ◌<◌, Bool, true, false, List, [], ◌∷◌, ◌++◌, length, take, drop, Option, Some, None, refl, sym, ap, ◌∙◌, subst, arith}
+use Rattle.std.proofs.Common.{◌≡◌, ℕ, ◌+◌, ◌<◌, Bool, true, false, List, [], ◌∷◌, ◌++◌, length, take, drop, Option, Some, None, refl, sym, ap, ◌∙◌, subst, arith}
 use Rattle.std.specs.Prelude.{codes}
 use Rattle.std.specs.List.{take_while}
 use Rattle.std.proofs.lemmas.List.{length-append}
@@ -7,7 +7,7 @@ use Rattle.uc_lexer.specs.declared.token.TokenKind.{TokenKind}
 use Rattle.uc_lexer.specs.declared.token.TokenKind.TheVariants.{BvType, Number, BvLit}
 use Rattle.uc_lexer.specs.Bytes.{is_digit, is_letter, is_word, AreAll, Begins, value_of}
 use Rattle.uc_lexer.specs.Spelling.{IsBadNumber, IsBadByte, RunsOn}
-use Rattle.uc_lexer.specs.Reading.{front, behind, behind_bv, width_digits, word_kind, limited, begins, sign_in}
+use Rattle.uc_lexer.specs.Reading.{front, behind, width_digits, word_kind, limited, begins, sign_in}
 use Rattle.uc_lexer.specs.Gap.{HasNoGap}
 use Rattle.uc_lexer.specs.Table.{signs, IsAmong}
 use Rattle.uc_lexer.specs.Ahead.{IsAhead, as_ahead}

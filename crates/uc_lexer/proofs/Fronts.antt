@@ -1,10 +1,10 @@
 -- The longest front of bytes of a kind.
-use Rattle.std.proofs.Common.{◌≡◌, ℕ, ◌+◌, ◌≤◌, ◌<◌, Bool, true, false, if◌then◌else◌, List, [], ◌∷◌, ◌++◌, length, take, drop, refl, sym, ap, ◌∙◌, subst, arith}
+use Rattle.std.proofs.Common.{◌≡◌, ℕ, ◌≤◌, Bool, true, false, if◌then◌else◌, List, [], ◌∷◌, ◌++◌, length, take, drop, refl, sym, ap, ◌∙◌, arith}
 use Rattle.std.specs.List.{take_while}
 use Rattle.std.proofs.lemmas.List.Sums.{take_while-cons}
 use Rattle.std.proofs.lemmas.List.{take_at, drop_at, length-append}
 use Rattle.uc_lexer.specs.Bytes.{AreAll, Begins}
-use Rattle.uc_lexer.specs.Reading.{front, behind, begins, is_nil}
+use Rattle.uc_lexer.specs.Reading.{front, behind, begins}
 
 pub front-is : (p : ℕ → Bool) (xs : List ℕ) → take_while p xs ≡ front p xs
 front-is p [] = refl

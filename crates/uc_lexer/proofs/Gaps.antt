@@ -1,5 +1,5 @@
 -- Blanks and comments.
-use Rattle.std.proofs.Common.{◌≡◌, ◌≢◌, ℕ, ◌+◌, ◌≤◌, ◌<◌, ◌==◌, ◌&&◌, Bool, true, false, not, List, [], ◌∷◌, ◌++◌, length, drop, refl, sym, ap, subst, ◌∙◌, arith}
+use Rattle.std.proofs.Common.{◌≡◌, ◌≢◌, ℕ, ◌≤◌, ◌==◌, Bool, true, false, not, List, [], ◌∷◌, ◌++◌, length, refl, sym, ap, subst, ◌∙◌, arith}
 use Rattle.std.proofs.lemmas.Bool.{eqb-true}
 use Rattle.uc_lexer.specs.Bytes.{is_blank, AreAll, Begins}
 use Rattle.uc_lexer.specs.Gap.{Skips, blank, line, block, HasNoGap, IsLine, EndsLine, IsBlock, IsOpen}

@@ -12,3 +12,7 @@ pub mod Literals
 pub mod Found
 pub mod Signs
 pub mod Next
+pub mod GapEnds
+pub mod Unique
+pub mod Turns
+pub mod Rising

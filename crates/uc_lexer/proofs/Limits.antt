@@ -1,11 +1,10 @@
 -- The limits of the numbers of a token.
-use Rattle.std.specs.Prelude.{◌⊎◌, MatchOption}
-use Rattle.std.proofs.Common.{◌≡◌, ℕ, ◌+◌, ◌≤◌, ◌<◌, ◌^◌, Bool, true, false, ◌&&◌, ltb, if◌then◌else◌, List, [], ◌∷◌, ◌++◌, length, take, drop, Option, Some, None, refl, sym, ap, ◌∙◌, subst, arith, inl, inr}
+use Rattle.std.proofs.Common.{◌≡◌, ℕ, ◌^◌, Bool, true, false, ◌&&◌, ltb, if◌then◌else◌, List, ◌++◌, length, take, drop, Option, Some, None, refl, sym, ap, ◌∙◌, subst, arith, inl, inr}
 use Rattle.std.proofs.lemmas.Bool.{ltb-true, ltb-false, and_parts, and_cases}
 use Rattle.std.proofs.lemmas.List.{length-append}
 use Rattle.uc_lexer.specs.declared.token.TokenKind.{TokenKind}
 use Rattle.uc_lexer.specs.declared.token.TokenKind.TheVariants.{BvType, Number, BvLit}
-use Rattle.uc_lexer.specs.Spelling.{Spells, IsLongest, IsToken, IsBadNumber, IsWithinLimits, RunsOn}
+use Rattle.uc_lexer.specs.Spelling.{IsLongest, IsToken, IsBadNumber, IsWithinLimits, RunsOn}
 use Rattle.uc_lexer.specs.Reading.{limited}
 use Rattle.uc_lexer.specs.Ahead.{IsAhead, as_ahead}
 use Rattle.uc_lexer.proofs.Fronts.{append-take, append-drop}

@@ -6,7 +6,7 @@ use Rattle.std.proofs.lemmas.List.{length-append, append_assoc, append-nil}
 use Rattle.uc_lexer.specs.declared.token.TokenKind.{TokenKind}
 use Rattle.uc_lexer.specs.declared.token.TokenKind.TheVariants.{Number, BvLit}
 use Rattle.uc_lexer.specs.Bytes.{is_digit, AreAll, Begins, value_of}
-use Rattle.uc_lexer.specs.Spelling.{IsDigits, Spells, number, bv_literal, Stands, IsLongest}
+use Rattle.uc_lexer.specs.Spelling.{Spells, number, bv_literal, IsLongest}
 use Rattle.uc_lexer.specs.Reading.{front, behind, is_nil, behind_bv, width_digits}
 use Rattle.uc_lexer.proofs.Fronts.{front-behind, front-all, front-whole, front-longest}
 use Rattle.uc_lexer.proofs.Spellings.{digits_first, front_begins, IsBvLiteral}

@@ -1,13 +1,11 @@
 -- The next token of a text.
-use Rattle.std.specs.Prelude.{◌⊎◌, codes}
-use Rattle.std.proofs.Common.{◌≡◌, ℕ, ◌+◌, ◌-◌, ◌≤◌, ◌<◌, Bool, true, false, List, [], ◌∷◌, ◌++◌, length, take, drop, refl, sym, ap, ◌∙◌, subst, arith, inl, inr}
-use Rattle.std.proofs.lemmas.List.{take-append-drop, length-take-le, length-drop, drop-drop, drop_all}
-use Rattle.uc_lexer.specs.declared.token.Token.{Token}
+use Rattle.std.specs.Prelude.{codes}
+use Rattle.std.proofs.Common.{◌≡◌, ℕ, ◌+◌, ◌-◌, true, List, ◌++◌, length, take, drop, refl, sym, ◌∙◌, subst, arith}
+use Rattle.std.proofs.lemmas.List.{take-append-drop, length-take-le, length-drop, drop-drop}
 use Rattle.uc_lexer.specs.declared.token.TokenKind.{TokenKind}
 use Rattle.uc_lexer.specs.declared.place.Place.{Place}
 use Rattle.uc_lexer.specs.declared.position.Position.{Position}
 use Rattle.uc_lexer.specs.Bytes.{is_digit, is_word, AreAll}
-use Rattle.uc_lexer.specs.Places.{place_of}
 use Rattle.uc_lexer.specs.Spelling.{Spells, name, keyword, bv_type, number, bv_literal, sign, IsToken}
 use Rattle.uc_lexer.specs.Text.{IsNextToken, ComesNext}
 use Rattle.uc_lexer.specs.Reading.{is_in_line}

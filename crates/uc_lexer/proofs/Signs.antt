@@ -1,18 +1,17 @@
 -- The first sign of the table that stands at the front is the longest, since no sign is longer than one before it.
-use Rattle.std.specs.Prelude.{◌⊎◌, MatchOption}
-use Rattle.std.proofs.Common.{◌≡◌, ℕ, ◌+◌, ◌≤◌, ◌<◌, Bool, true, false, not, ◌&&◌, ◌==◌, nat_le, if◌then◌else◌, List, [], ◌∷◌, ◌++◌, length, take, drop, Option, Some, None, refl, sym, ap, ◌∙◌, subst, arith, inl, inr}
+use Rattle.std.proofs.Common.{◌≡◌, ℕ, ◌≤◌, Bool, true, false, not, ◌&&◌, ◌==◌, nat_le, if◌then◌else◌, List, [], ◌∷◌, ◌++◌, length, take, drop, Option, Some, None, refl, sym, ap, ◌∙◌, subst, arith, inl, inr}
 use Rattle.std.specs.List.{starts_with}
 use Rattle.std.proofs.lemmas.Bool.{and_parts, and_from, false≢true, leb-true, not-true}
 use Rattle.std.proofs.lemmas.Bool.Decides.{Decides-eqb}
 use Rattle.std.proofs.lemmas.Slice.Eq.{starts_is}
 use Rattle.uc_lexer.specs.declared.token.TokenKind.{TokenKind}
 use Rattle.uc_lexer.specs.declared.token.TokenKind.TheVariants.{LessUnsigned, LessEqualUnsigned, GreaterUnsigned, GreaterEqualUnsigned}
-use Rattle.uc_lexer.specs.Bytes.{is_word, is_letter, is_digit, Begins}
+use Rattle.uc_lexer.specs.Bytes.{is_word, Begins}
 use Rattle.uc_lexer.specs.Table.{Entry, signs, IsAmong}
-use Rattle.uc_lexer.specs.Spelling.{Spells, sign, MayEnd, Stands, IsLongest, RunsOn}
+use Rattle.uc_lexer.specs.Spelling.{sign, MayEnd, Stands, IsLongest}
 use Rattle.uc_lexer.specs.Reading.{begins, may_end, stands, sign_in}
-use Rattle.uc_lexer.proofs.Fronts.{Begins-from, Begins-not, begins-from, append-take, append-drop}
-use Rattle.uc_lexer.proofs.Tables.{is_other, each-among}
+use Rattle.uc_lexer.proofs.Fronts.{Begins-from, Begins-not, append-take, append-drop}
+use Rattle.uc_lexer.proofs.Tables.{is_other}
 use Rattle.uc_lexer.proofs.Spellings.{others_first, front_begins}
 
 may_end-is : (kind : TokenKind) (rest : List ℕ) → may_end kind rest ≡ true → MayEnd kind rest

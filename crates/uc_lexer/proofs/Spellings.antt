@@ -1,15 +1,15 @@
 -- The longest spelling of words and numbers.
 use Rattle.std.specs.Prelude.{◌⊎◌, codes, unwrap_or}
-use Rattle.std.proofs.Common.{◌≡◌, ℕ, ◌+◌, ◌≤◌, ◌<◌, Bool, true, false, not, ◌&&◌, ◌==◌, if◌then◌else◌, List, [], ◌∷◌, ◌++◌, length, Option, Some, None, refl, sym, ap, ◌∙◌, subst, arith, inl, inr}
+use Rattle.std.proofs.Common.{◌≡◌, ℕ, ◌<◌, Bool, true, false, not, ◌&&◌, ◌==◌, if◌then◌else◌, List, [], ◌∷◌, ◌++◌, length, Option, Some, None, refl, sym, ap, ◌∙◌, subst, arith, inl, inr}
 use Rattle.std.proofs.lemmas.Bool.{and_parts, false≢true, eqb-true, not-true}
-use Rattle.std.proofs.lemmas.List.{length-append, append_assoc, append-nil}
+use Rattle.std.proofs.lemmas.List.{append-nil}
 use Rattle.uc_lexer.specs.declared.token.TokenKind.{TokenKind}
 use Rattle.uc_lexer.specs.declared.token.TokenKind.TheVariants.{Name, BvType, Number, BvLit, LessUnsigned, LessEqualUnsigned, GreaterUnsigned, GreaterEqualUnsigned}
 use Rattle.uc_lexer.specs.Bytes.{is_digit, is_letter, is_word, AreAll, Begins, value_of}
 use Rattle.uc_lexer.specs.Table.{keywords, signs, IsAmong}
 use Rattle.uc_lexer.specs.Spelling.{IsWord, IsDigits, Spells, name, keyword, bv_type, number, bv_literal, sign, MayEnd, Stands, IsLongest, RunsOn}
-use Rattle.uc_lexer.specs.Reading.{front, behind, is_nil, lookup, behind_bv, digits_alone, type_digits, unlisted, word_kind, width_digits, may_end}
-use Rattle.uc_lexer.proofs.Fronts.{front-behind, front-all, front-whole, front-longest, behind-stops, AreAll-weaker, AreAll-append}
+use Rattle.uc_lexer.specs.Reading.{front, behind, is_nil, lookup, digits_alone, type_digits, unlisted, word_kind}
+use Rattle.uc_lexer.proofs.Fronts.{front-behind, front-all, front-whole, front-longest, AreAll-weaker}
 use Rattle.uc_lexer.proofs.Numbers.{all_in_front}
 use Rattle.uc_lexer.proofs.Tables.{each-among, lookup-some, lookup-none, lookup-among, keywords_distinct, keyword_letter, keyword_word, sign_other, is_other, ends_freely}
 use Rattle.uc_lexer.proofs.Classes.{letter_word, digit_word, digit_letter}
@@ -37,7 +37,7 @@ other_digit c o d = false≢true (sym (ap not (digit_word c d)) ∙ o)
 apart_sym : (p q : ℕ → Bool) → Apart p q → Apart q p
 apart_sym p q a c x y = a c y x
 
-Begins-append : (p : ℕ → Bool) (xs ys : List ℕ) → Begins p xs → Begins p (xs ++ ys)
+pub Begins-append : (p : ℕ → Bool) (xs ys : List ℕ) → Begins p xs → Begins p (xs ++ ys)
 Begins-append p [] ys b = absurd b
 Begins-append p (x ∷ xs) ys b = b
 
@@ -53,7 +53,7 @@ IsBvType bytes kind = (digits : List ℕ) × (bytes ≡ codes "bv" ++ digits) ×
 abbrev pub IsBvLiteral : List ℕ → TokenKind → Type 0
 IsBvLiteral bytes kind = (value : List ℕ) × (width : List ℕ) × (bytes ≡ value ++ (codes "bv" ++ width)) × IsDigits value × IsDigits width × (kind ≡ BvLit (value_of value) (value_of width))
 
-literal_digit : (bytes value width : List ℕ) → bytes ≡ value ++ (codes "bv" ++ width) → Begins is_digit value → Begins is_digit bytes
+pub literal_digit : (bytes value width : List ℕ) → bytes ≡ value ++ (codes "bv" ++ width) → Begins is_digit value → Begins is_digit bytes
 literal_digit bytes value width e b = subst (λ (t : List ℕ). Begins is_digit t) (sym e) (Begins-append is_digit value (codes "bv" ++ width) b)
 
 -- what begins with a letter is a word

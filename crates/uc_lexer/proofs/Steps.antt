@@ -1,10 +1,10 @@
 -- One step over a blank or a comment.
-use Rattle.std.proofs.Common.{◌≡◌, ◌≢◌, ℕ, ◌+◌, ◌-◌, ◌≤◌, ◌<◌, ◌==◌, Bool, true, false, List, [], ◌∷◌, ◌++◌, length, take, drop, get_or, refl, sym, ap, subst, ◌∙◌, arith, inl, inr}
+use Rattle.std.proofs.Common.{◌≡◌, ◌≢◌, ℕ, ◌+◌, ◌-◌, ◌≤◌, ◌<◌, true, List, [], ◌∷◌, ◌++◌, length, take, drop, get_or, refl, sym, ap, subst, ◌∙◌, arith, inl, inr}
 use Rattle.std.specs.Prelude.{◌⊎◌}
 use Rattle.std.specs.List.{take_while}
 use Rattle.std.proofs.lemmas.List.{drop_more, take_rest, length-drop}
 use Rattle.uc_lexer.specs.declared.position.Position.{Position}
-use Rattle.uc_lexer.specs.Bytes.{is_blank, AreAll}
+use Rattle.uc_lexer.specs.Bytes.{is_blank}
 use Rattle.uc_lexer.specs.Gap.{Skips, IsBlock, IsOpen, IsOpenComment}
 use Rattle.uc_lexer.specs.Reading.{is_in_line, front, behind}
 use Rattle.uc_lexer.specs.Ahead.{IsPosition, IsGap, IsBlockUpTo, from}

@@ -1,14 +1,13 @@
 -- Facts about the entries of a table that computing shows.
-use Rattle.std.proofs.Common.{◌≡◌, ℕ, Bool, true, false, not, ◌&&◌, ◌==◌, if◌then◌else◌, List, [], ◌∷◌, length, Option, Some, None, refl, sym, ap, ◌∙◌, subst, inl, inr}
+use Rattle.std.proofs.Common.{◌≡◌, ℕ, Bool, true, false, not, ◌&&◌, ◌==◌, if◌then◌else◌, List, [], ◌∷◌, Some, None, refl, sym, ap, ◌∙◌, inl, inr}
 use Rattle.std.specs.Str.{bytes_eq}
 use Rattle.std.proofs.lemmas.Bool.{and_parts, false≢true}
 use Rattle.std.proofs.lemmas.Slice.Eq.{bytes_eq-Decides}
 use Rattle.uc_lexer.specs.declared.token.TokenKind.{TokenKind}
-use Rattle.uc_lexer.specs.Bytes.{is_blank, is_digit, is_letter, is_word, AreAll, Begins}
+use Rattle.uc_lexer.specs.Bytes.{is_blank, is_letter, is_word, AreAll, Begins}
 use Rattle.uc_lexer.specs.Table.{Entry, keywords, signs, IsAmong}
-use Rattle.uc_lexer.specs.Spelling.{MayEnd}
 use Rattle.uc_lexer.specs.Reading.{lookup, begins, may_end, is_in_line}
-use Rattle.uc_lexer.proofs.Fronts.{Begins-from, Begins-not}
+use Rattle.uc_lexer.proofs.Fronts.{Begins-from}
 
 -- each entry passes a test
 abbrev pub each : (Entry → Bool) → List Entry → Bool

@@ -1,6 +1,6 @@
 -- What the private functions of the crate answer.
 use Rattle.std.specs.Prelude.{◌≡◌, ℕ, ◌+◌, ◌-◌, ◌<◌, ◌≤◌, List, [], ◌++◌, length, take, drop, Option, Some, None, Result, Ok, Err}
-use Rattle.uc_lexer.specs.Gap.{IsBlock, IsOpen, IsOpenComment, HasNoGap, Skips}
+use Rattle.uc_lexer.specs.Gap.{IsBlock, IsOpenComment, HasNoGap, Skips}
 use Rattle.uc_lexer.specs.Places.{place_of}
 use Rattle.uc_lexer.specs.Spelling.{IsToken, IsBadNumber, IsBadByte}
 use Rattle.uc_lexer.specs.Text.{IsNextToken, IsNextFault}

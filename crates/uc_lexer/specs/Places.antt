@@ -1,5 +1,5 @@
 -- Lines and columns, both from 1. Columns count bytes.
-use Rattle.std.specs.Prelude.{ℕ, ◌+◌, ◌==◌, if◌then◌else◌, List, take, fold}
+use Rattle.std.specs.Prelude.{◌≡◌, ◌⊎◌, ℕ, ◌+◌, ◌<◌, ◌==◌, if◌then◌else◌, List, take, fold}
 use Rattle.uc_lexer.specs.declared.place.Place.{Place}
 
 -- where the next byte stands: a line feed ends its line
@@ -9,3 +9,7 @@ place_behind p c = if c == 10 then record { file = p.file; line = p.line + 1; co
 -- the place of the byte at an offset
 abbrev pub place_of : ℕ → List ℕ → ℕ → Place
 place_of file text offset = fold place_behind (record { file = file; line = 1; col = 1 }) (take offset text)
+
+-- places are ordered by file, then line, then column
+abbrev pub IsBefore : Place → Place → Type 0
+IsBefore p q = (p.file < q.file) ⊎ ((p.file ≡ q.file) × ((p.line < q.line) ⊎ ((p.line ≡ q.line) × (p.col < q.col))))

@@ -1,9 +1,9 @@
 -- How the crate reads what stands at the front of a text. No public clause cites this.
-use Rattle.std.specs.Prelude.{◌≡◌, ℕ, ◌+◌, ◌^◌, ◌<◌, ◌≤◌, Bool, true, false, not, ◌&&◌, ◌==◌, nat_lt, if◌then◌else◌, List, [], ◌∷◌, length, take, drop, Option, Some, None, unwrap_or}
+use Rattle.std.specs.Prelude.{ℕ, ◌^◌, Bool, true, false, not, ◌&&◌, ◌==◌, nat_lt, if◌then◌else◌, List, [], ◌∷◌, length, drop, Option, Some, None, unwrap_or}
 use Rattle.std.specs.List.{starts_with}
 use Rattle.std.specs.Str.{bytes_eq}
-use Rattle.uc_lexer.specs.Bytes.{is_digit, is_letter, is_word, value_of}
-use Rattle.uc_lexer.specs.Table.{Entry, keywords, signs}
+use Rattle.uc_lexer.specs.Bytes.{is_digit, is_word, value_of}
+use Rattle.uc_lexer.specs.Table.{Entry, keywords}
 use Rattle.uc_lexer.specs.declared.token.TokenKind.{TokenKind}
 use Rattle.uc_lexer.specs.declared.token.TokenKind.TheVariants.{Name, BvType, Number, BvLit, LessUnsigned, LessEqualUnsigned, GreaterUnsigned, GreaterEqualUnsigned}
 

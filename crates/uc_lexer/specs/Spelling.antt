@@ -1,5 +1,5 @@
 -- What spells a token, and the longest spelling at the front of a text.
-use Rattle.std.specs.Prelude.{◌≡◌, ℕ, ◌^◌, ◌<◌, ◌≤◌, ◌⊎◌, List, [], ◌∷◌, ◌++◌, length, codes}
+use Rattle.std.specs.Prelude.{◌≡◌, ℕ, ◌^◌, ◌<◌, ◌≤◌, ◌⊎◌, List, ◌++◌, length, codes}
 use Rattle.uc_lexer.specs.Bytes.{is_digit, is_letter, is_word, AreAll, Begins, value_of}
 use Rattle.uc_lexer.specs.Gap.{HasNoGap}
 use Rattle.uc_lexer.specs.Table.{keywords, signs, IsAmong}

@@ -4,8 +4,10 @@ use Rattle.uc_lexer.specs.declared.place.Place.{Place}
 use Rattle.uc_lexer.specs.declared.token.Token.{Token}
 use Rattle.uc_lexer.specs.declared.fault.LexFault.{LexFault}
 use Rattle.uc_lexer.specs.declared.fault.LexFault.TheVariants.{BadByte, BadNumber, OpenComment}
+use Rattle.uc_lexer.specs.declared.error.LexError.{LexError}
+use Rattle.uc_lexer.specs.declared.error.LexError.TheVariants.{NoMemory, Fault}
 use Rattle.uc_lexer.specs.Gap.{Skips, IsOpenComment}
-use Rattle.uc_lexer.specs.Places.{place_of}
+use Rattle.uc_lexer.specs.Places.{place_of, IsBefore}
 use Rattle.uc_lexer.specs.Spelling.{IsToken, IsBadNumber, IsBadByte}
 
 -- a text of a file, and the offset up to which its tokens were taken
@@ -62,6 +64,21 @@ Tokens file text tokens = Reads file text 0 tokens None
 abbrev pub FirstFault : ℕ → List ℕ → LexFault → Type 0
 FirstFault file text fault = (tokens : List Token) × Reads file text 0 tokens (Some fault)
 
+-- a fault that is answered is the first of the text
+abbrev pub IsLexError : ℕ → List ℕ → LexError → Type 0
+IsLexError file text NoMemory = Unit {0}
+IsLexError file text (Fault fault) = FirstFault file text fault
+
 -- a text has at most one list of tokens or first fault
 abbrev pub HasOneReading : Type 0
 HasOneReading = (file : ℕ) (text : List ℕ) (tokens others : List Token) (fault other : Option LexFault) → Reads file text 0 tokens fault → Reads file text 0 others other → (tokens ≡ others) × (fault ≡ other)
+
+-- each token ends before the next one, and has an earlier place
+abbrev pub Rises : List Token → Type 0
+Rises [] = Unit {0}
+Rises (token ∷ []) = Unit {0}
+Rises (token ∷ next ∷ tokens) = (token.end ≤ next.start) × IsBefore token.place next.place × Rises (next ∷ tokens)
+
+-- the tokens of a text rise
+abbrev pub HasRisingTokens : Type 0
+HasRisingTokens = (file : ℕ) (text : List ℕ) (tokens : List Token) (fault : Option LexFault) → Reads file text 0 tokens fault → Rises tokens

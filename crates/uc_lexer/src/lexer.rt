@@ -1,4 +1,6 @@
-ghost use Rattle.std.specs.Prelude.{◌≡◌, ◌≤◌, ◌+◌, length, IfErr, Err, Result, Option};
+ghost use Rattle.std.specs.Prelude.{◌≡◌, ◌≤◌, length, IfErr, Result, Option};
+ghost use Rattle.uc_lexer.specs.declared.fault.LexFault.{LexFault};
+ghost use Rattle.uc_lexer.specs.declared.token.Token.{Token};
 ghost use Rattle.uc_lexer.specs.Ahead.{IsPosition, IsNextFrom};
 ghost use Rattle.uc_lexer.specs.Text.{IsNext, passed};
 
@@ -44,10 +46,16 @@ impl<'a> Lexer<'a> {
         }
     }
 
-    /// The next token, or `None` at the end.
+    /// The next token, or `None` at the end. After a fault every call answers that fault.
     pub fn next(&mut self) -> Result<Option<Token>, LexFault>
+        // What comes next in the text: a token, a fault, or nothing but blanks and comments.
         ensures next { IsNext self.old result }
+        ensures only { (other : Result (Option Token) LexFault) → IsNext self.old other → other ≡ result }
+
+        // A token is passed. At a fault and at the end the lexer stays.
         ensures passed { self.new ≡ passed self.old result }
+        ensures same_fault { IfErr result (λ fault.
+            (later : Result (Option Token) LexFault) → IsNext self.new later → later ≡ Err fault) }
     {
         match next_token(self.file, self.text, self.here) {
             Ok(Some((token, here))) => {

@@ -1,7 +1,5 @@
-use Rattle.std.proofs.Common.{length, sym, subst, arith}
+use Rattle.std.proofs.Common.{length, sym, arith}
 use Rattle.std.proofs.lemmas.Bool.{eqb-true, eqb-false}
-use Rattle.uc_lexer.specs.Bytes.{is_digit, AreAll}
-use Rattle.uc_lexer.specs.Ahead.{IsAhead}
 use Rattle.uc_lexer.proofs.Found.{digits_are, number_found, number_runs_on, literal_found}
 use Rattle.uc_lexer.proofs.ahead.number_ahead.Goals as goal
 

@@ -1,4 +1,4 @@
-use Rattle.std.proofs.Common.{◌≡◌, ℕ, List, ◌∷◌, ◌+◌, drop, sym, ◌∙◌, subst, arith}
+use Rattle.std.proofs.Common.{sym, ◌∙◌, subst}
 use Rattle.uc_lexer.specs.declared.position.Position.{Position}
 use Rattle.uc_lexer.specs.Gap.{IsOpen}
 use Rattle.uc_lexer.specs.Ahead.{from, IsBlockUpTo}

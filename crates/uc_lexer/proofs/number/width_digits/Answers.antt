@@ -1,4 +1,4 @@
-use Rattle.std.proofs.Common.{ℕ, List, ap, sym, ◌∙◌}
+use Rattle.std.proofs.Common.{ℕ, List, ap, ◌∙◌}
 use Rattle.uc_lexer.specs.Bytes.{is_digit}
 use Rattle.uc_lexer.specs.Reading.{front}
 use Rattle.uc_lexer.proofs.Found.{digits_in_front, digits_are}
