@@ -1,7 +1,7 @@
 -- What each form of expression says, in terms of its parts.
 use Rattle.std.proofs.Common.{◌≡◌, map, List, [], ◌∷◌, ℕ, Bool, not, refl, ap, ◌∙◌}
 use Rattle.std.specs.Prelude.{if◌then◌else◌}
-use Rattle.uc_syntax.specs.declared.place.Place.{Place}
+use Rattle.uc_lexer.specs.declared.place.Place.{Place}
 use Rattle.uc_syntax.specs.declared.expression.UnaryOperator.{UnaryOperator}
 use Rattle.uc_syntax.specs.declared.expression.UnaryOperator.TheVariants.{Not}
 use Rattle.uc_syntax.specs.declared.expression.Primary.TheVariants.{Truth, Name}

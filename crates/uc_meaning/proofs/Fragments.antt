@@ -7,7 +7,7 @@ use Rattle.std.proofs.lemmas.Bool.Decides.{nat_tests}
 use Rattle.std.proofs.lemmas.Grind.{flat_map-append}
 use Rattle.std.proofs.lemmas.List.{drop_all}
 use Rattle.std.proofs.lemmas.List.Folds.{list_all-append}
-use Rattle.uc_syntax.specs.declared.place.Place.{Place}
+use Rattle.uc_lexer.specs.declared.place.Place.{Place}
 use Rattle.uc_syntax.specs.declared.place.Identifier.{Identifier}
 use Rattle.uc_syntax.specs.declared.type_expression.TypeExpr.{TypeExpr}
 use Rattle.uc_syntax.specs.declared.type_expression.TypeExpr.TheVariants.{Boolean}
@@ -28,7 +28,8 @@ use Rattle.uc_values.specs.declared.ty.Ty.{Ty}
 use Rattle.uc_values.specs.declared.ty.Ty.TheVariants.{Bool as boolean_type}
 use Rattle.uc_values.proofs.Shapes.{and_true}
 use Rattle.uc_meaning.specs.Lookup.{System, InstanceParts, bound_to, first_some, or_else, some_if, names_one, is_named, main_module, module_from, module_at, instance_in, instances_of, init_in, next_in, next_of, variable_in, variable_of}
-use Rattle.uc_meaning.specs.Types.{Written, enums_form, enums_in, enums_of_module, types_in, types_in_block, types_in_form, types_of_module, modules_form, modules_brought, imported_by, label_in, label_of, type_form, type_by, type_through, type_of_written}
+use Rattle.uc_syntax.specs.WrittenTypes.{Written, enums_form, enums_in, enums_of_module, types_in, types_in_block, types_in_form, types_of_module}
+use Rattle.uc_meaning.specs.Types.{modules_form, modules_brought, imported_by, label_in, label_of, type_form, type_by, type_through, type_of_written}
 use Rattle.uc_meaning.specs.Cells.{InstanceAt, module_of_instance, Cell, longest_chain, as_list, main_instance, instances, instances_from, instances_below, cells_in, cells_of, cell_of, same_path, modules_in_use, constants_in, constants_of, FunctionParts, functions_in, functions_of, FitAll, FitTables, IsInterpretation, IsState}
 use Rattle.uc_meaning.specs.Fragment.{is_boolean, is_simple_decl, assigns, assigns_one, names_in, variable_names, variables, holds_name, most_variables, all_differ, declared_names, targets_in, at_most_one, at_most_one_after, is_init, is_next, is_control, are_simple, InFragment}
 use Rattle.uc_values.specs.declared.value.Value.{Value}

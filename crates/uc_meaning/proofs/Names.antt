@@ -3,7 +3,7 @@ use Rattle.std.proofs.Common.{◌≡◌, List, [], ℕ, Bool, ap, ◌∙◌, sym
 use Rattle.std.specs.Prelude.{nat_eq}
 use Rattle.std.specs.Option.{option_and_then}
 use Rattle.std.specs.List.{find, position_from}
-use Rattle.uc_syntax.specs.declared.place.Place.{Place}
+use Rattle.uc_lexer.specs.declared.place.Place.{Place}
 use Rattle.uc_syntax.specs.declared.expression.Primary.TheVariants.{Name}
 use Rattle.uc_syntax.specs.declared.expression.Expr.TheViews.{Selected}
 use Rattle.uc_values.specs.declared.ty.Ty.TheVariants.{Bool as boolean_type}

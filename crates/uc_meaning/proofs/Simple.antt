@@ -3,7 +3,7 @@ use Rattle.std.proofs.Common.{◌≡◌, ℕ, ◌<◌, ◌+◌, List, [], ◌∷
 use Rattle.uc_values.proofs.Shapes.{and_true}
 use Rattle.std.specs.List.{list_all}
 use Rattle.std.proofs.lemmas.List.Folds.{list_all-map, list_all_at}
-use Rattle.uc_syntax.specs.declared.place.Place.{Place}
+use Rattle.uc_lexer.specs.declared.place.Place.{Place}
 use Rattle.uc_syntax.specs.declared.expression.UnaryOperator.{UnaryOperator}
 use Rattle.uc_syntax.specs.declared.expression.UnaryOperator.TheVariants.{Not}
 use Rattle.uc_syntax.specs.declared.expression.Primary.{Primary}

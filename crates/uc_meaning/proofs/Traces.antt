@@ -1,6 +1,6 @@
 -- What is traced of an expression is what it says.
 use Rattle.std.proofs.Common.{◌≡◌, List, [], ◌∷◌, true, map, refl, ap, ◌∙◌, sym, subst}
-use Rattle.uc_syntax.specs.declared.place.Place.{Place}
+use Rattle.uc_lexer.specs.declared.place.Place.{Place}
 use Rattle.uc_syntax.specs.declared.expression.Expr.{Expr}
 use Rattle.uc_syntax.specs.declared.expression.Expr.TheOpen.{Expr-F}
 use Rattle.uc_syntax.specs.declared.expression.Expr.TheOpen.Expr-F.{If, Iff, Implies, Or, And, Compare, BitOr, BitXor, BitAnd, Concat, Sum, Product, Unary, Selected}

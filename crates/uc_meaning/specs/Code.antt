@@ -2,7 +2,7 @@
 use Rattle.std.specs.Prelude.{ℕ, zero, suc, ℤ, pos, neg_ℤ, nat_abs, ◌+ℤ◌, ◌-ℤ◌, int_le, ◌+◌, ◌-◌, Bool, true, false, ◌&&◌, nat_eq, if◌then◌else◌, List, [], ◌∷◌, ◌++◌, map, length, drop, slice_set, Option, Some, None, unwrap_or}
 use Rattle.std.specs.Option.{option_map, option_and_then}
 use Rattle.std.specs.List.{list_any, flat_map, filter_map}
-use Rattle.uc_syntax.specs.declared.place.Place.{Place}
+use Rattle.uc_lexer.specs.declared.place.Place.{Place}
 use Rattle.uc_syntax.specs.declared.place.Identifier.{Identifier}
 use Rattle.uc_syntax.specs.declared.type_expression.Parameter.{Parameter}
 use Rattle.uc_syntax.specs.declared.type_expression.TypeExpr.{TypeExpr}

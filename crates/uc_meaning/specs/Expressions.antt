@@ -34,7 +34,8 @@ use Rattle.uc_meaning.specs.declared.scope.Scope.{Scope}
 use Rattle.uc_meaning.specs.declared.scope.State.{State}
 use Rattle.uc_meaning.specs.declared.scope.Local.{Local}
 use Rattle.uc_meaning.specs.Lookup.{System, Defined, Signature, InstanceParts, module_at, parent_of, variable_of, define_of, function_of, instance_of, bound_to}
-use Rattle.uc_meaning.specs.Types.{type_of_written, label_of, enums_of}
+use Rattle.uc_syntax.specs.WrittenTypes.{labels_of}
+use Rattle.uc_meaning.specs.Types.{type_of_written, label_of}
 use Rattle.uc_meaning.specs.Cells.{longest_chain, cell_of, constant_number, function_number}
 use Rattle.uc_meaning.specs.Operators.{holds, any_holds, all_hold, implied, equivalent, chained, product, summed, concatenated, unary, compared, extracted, on_bits}
 
@@ -145,11 +146,11 @@ abbrev pub declared_meaning : System → Scope → Module → ℕ → Bool → O
 declared_meaning system s m x primed None = means_nothing
 declared_meaning system s m x primed (Some d) = means (type_of_written system m d.1) (variable_source system s m x primed d.0)
 
-abbrev pub labels_of : System → ℕ → ℕ
-labels_of system e = length (slice_index_or (map (λ w. w.labels) (enums_of system)) e [])
+abbrev pub label_count : System → ℕ → ℕ
+label_count system e = length (slice_index_or (labels_of system.modules) e [])
 
 abbrev pub module_meaning : System → Scope → ℕ → Bool → Module → Option (ℕ × ℕ) → Meant
-module_meaning system s x primed m (Some l) = means (enum_type l.0 (labels_of system l.0)) (OfValue (label l.0 l.1))
+module_meaning system s x primed m (Some l) = means (enum_type l.0 (label_count system l.0)) (OfValue (label l.0 l.1))
 module_meaning system s x primed m None = declared_meaning system s m x primed (variable_of m x)
 
 abbrev pub global_meaning : System → Scope → ℕ → Bool → Option Module → Meant

@@ -2,7 +2,7 @@
 use Rattle.std.specs.Prelude.{◌≡◌, ℕ, zero, suc, ◌+◌, ◌-◌, ◌<◌, Bool, true, false, ◌&&◌, ◌||◌, nat_eq, nat_lt, if◌then◌else◌, List, [], ◌∷◌, ◌++◌, map, slice_get, Option, Some, None, unwrap_or}
 use Rattle.std.specs.Option.{option_map, option_and_then}
 use Rattle.std.specs.List.{list_any, flat_map, filter_map, position_from, All}
-use Rattle.uc_syntax.specs.declared.place.Place.{Place}
+use Rattle.uc_lexer.specs.declared.place.Place.{Place}
 use Rattle.uc_syntax.specs.declared.expression.Expr.{Expr}
 use Rattle.uc_syntax.specs.declared.statement.Arm.{Arm}
 use Rattle.uc_syntax.specs.declared.statement.Stmt.{Stmt}

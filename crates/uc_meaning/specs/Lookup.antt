@@ -2,7 +2,8 @@
 use Rattle.std.specs.Prelude.{ℕ, Bool, true, false, ◌&&◌, nat_eq, List, [], ◌∷◌, slice_get, Option, Some, None}
 use Rattle.std.specs.Option.{option_map, option_and_then}
 use Rattle.std.specs.List.{find, list_any, flat_map, filter_map}
-use Rattle.uc_syntax.specs.declared.place.Place.{Place}
+use Rattle.uc_syntax.specs.Contents.{Contents}
+use Rattle.uc_lexer.specs.declared.place.Place.{Place}
 use Rattle.uc_syntax.specs.declared.place.Identifier.{Identifier}
 use Rattle.uc_syntax.specs.declared.type_expression.TypeExpr.{TypeExpr}
 use Rattle.uc_syntax.specs.declared.type_expression.Parameter.{Parameter}
@@ -15,10 +16,16 @@ use Rattle.uc_syntax.specs.declared.declaration.VariableKind.{VariableKind}
 use Rattle.uc_syntax.specs.declared.declaration.Binding.{Binding}
 use Rattle.uc_syntax.specs.declared.declaration.Module.{Module}
 
--- A design as its modules, and the place of main among them.
+-- A design: the texts of its names, the numbers of its files' names, its modules, and the place of main among them.
 pub record System : Type 0 where
+  pub names : List (List ℕ)
+  pub files : List ℕ
   pub modules : List Module
   pub main : ℕ
+
+-- a design's contents with the number of main
+abbrev pub system_of : Contents → ℕ → System
+system_of d main = record { names = d.names; files = d.files; modules = d.modules; main = main }
 
 abbrev pub or_else : {B : Type 0} → Option B → Option B → Option B
 or_else (Some y) o = Some y

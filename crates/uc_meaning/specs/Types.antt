@@ -2,89 +2,22 @@
 use Rattle.std.specs.Prelude.{ℕ, zero, suc, ◌+◌, ◌&&◌, nat_eq, List, [], ◌∷◌, ◌++◌, map, length, unwrap_or, Option, Some, None}
 use Rattle.std.specs.Option.{option_map}
 use Rattle.std.specs.List.{flat_map, filter_map, position_from}
-use Rattle.uc_syntax.specs.declared.place.Place.{Place}
-use Rattle.uc_syntax.specs.declared.type_expression.Parameter.{Parameter}
+use Rattle.uc_lexer.specs.declared.place.Place.{Place}
 use Rattle.uc_syntax.specs.declared.type_expression.TypeExpr.{TypeExpr}
 use Rattle.uc_syntax.specs.declared.type_expression.TypeExpr.TheOpen.{TypeExpr-F}
 use Rattle.uc_syntax.specs.declared.type_expression.TypeExpr.TheOpen.TypeExpr-F.{Boolean, Integer, Bits, Enumeration, Record, Array, Named, OfModule}
 use Rattle.uc_syntax.specs.declared.type_expression.TypeExpr.TheFolds.{fold-TypeExpr}
-use Rattle.uc_syntax.specs.declared.statement.Stmt.{Stmt}
-use Rattle.uc_syntax.specs.declared.statement.Arm.{Arm}
-use Rattle.uc_syntax.specs.declared.statement.Stmt.TheOpen.{Stmt-F}
-use Rattle.uc_syntax.specs.declared.statement.Stmt.TheOpen.Stmt-F.{Local, Block, For}
-use Rattle.uc_syntax.specs.declared.statement.Stmt.TheOpen.Stmt-F.{If as Choice, Case as Cases}
-use Rattle.uc_syntax.specs.declared.statement.Stmt.TheFolds.{fold-Stmt}
 use Rattle.uc_syntax.specs.declared.declaration.Decl.{Decl}
-use Rattle.uc_syntax.specs.declared.declaration.Decl.TheVariants.{OpaqueType, TypeAlias, TypeImport, Variables, Function, Define, Procedure, Init, Next}
+use Rattle.uc_syntax.specs.declared.declaration.Decl.TheVariants.{OpaqueType, TypeAlias, TypeImport}
 use Rattle.uc_syntax.specs.declared.declaration.Module.{Module}
 use Rattle.uc_values.specs.declared.ty.Ty.{Ty}
 use Rattle.uc_values.specs.declared.ty.Ty.TheVariants.{Bool as boolean_type, Int as integer_type, Bv as bits_type, Enum as enum_type, Un as open_type}
 use Rattle.uc_values.specs.declared.ty.Ty.TheViews.{Rec as record_type, Arr as array_type}
+use Rattle.uc_syntax.specs.WrittenTypes.{Written, types_of_module, enums_of_module, enums_of}
 use Rattle.uc_meaning.specs.Lookup.{System, first_some, some_if, same_place, is_named, module_named}
 
--- every written type of a design, in the order of the text: those of the declarations, and of the locals and loops inside
-abbrev pub types_in_arms : List (Arm (List TypeExpr)) → List TypeExpr
-types_in_arms arms = flat_map (λ a. flat_map (λ ts. ts) a.body) arms
-
-abbrev pub types_in_else : Option (List (List TypeExpr)) → List TypeExpr
-types_in_else None = []
-types_in_else (Some block) = flat_map (λ ts. ts) block
-
-abbrev pub types_in_option : Option TypeExpr → List TypeExpr
-types_in_option None = []
-types_in_option (Some type) = type ∷ []
-
-abbrev pub types_in_form : Stmt-F (List TypeExpr) → List TypeExpr
-types_in_form (Local place names type) = type ∷ []
-types_in_form (Block place block) = flat_map (λ ts. ts) block
-types_in_form (Choice place arms otherwise) = types_in_arms arms ++ types_in_else otherwise
-types_in_form (Cases place arms otherwise) = types_in_arms arms ++ types_in_else otherwise
-types_in_form (For place i type from to block) = types_in_option type ++ flat_map (λ ts. ts) block
-types_in_form other = []
-
-abbrev pub types_in_block : List Stmt → List TypeExpr
-types_in_block block = flat_map (fold-Stmt (List TypeExpr) types_in_form) block
-
-abbrev pub types_of_parameters : List (Parameter TypeExpr) → List TypeExpr
-types_of_parameters ps = map (λ p. p.ty) ps
-
-abbrev pub types_in : Decl → List TypeExpr
-types_in (TypeAlias place i type) = type ∷ []
-types_in (Variables place kind names type) = type ∷ []
-types_in (Function place i ps type) = types_of_parameters ps ++ type ∷ []
-types_in (Define place i ps type body) = types_of_parameters ps ++ type ∷ []
-types_in (Procedure place p) = types_of_parameters p.parameters ++ (types_of_parameters p.results ++ types_in_block p.body)
-types_in (Init place block) = types_in_block block
-types_in (Next place block) = types_in_block block
-types_in other = []
-
-abbrev pub types_of_module : Module → List TypeExpr
-types_of_module m = flat_map types_in m.decls
-
--- An enum as it is written: its place and its labels.
-pub record Written : Type 0 where
-  pub place : Place
-  pub labels : List ℕ
-
--- the enums in a written type, in the order of the text
-abbrev pub enums_form : TypeExpr-F (List Written) → List Written
-enums_form (Enumeration place labels) = record { place = place; labels = map (λ l. l.name) labels } ∷ []
-enums_form (Record place ps) = flat_map (λ p. p.ty) ps
-enums_form (Array place index element) = index ++ element
-enums_form other = []
-
-unfoldable pub enums_in : TypeExpr → List Written
-enums_in = fold-TypeExpr (List Written) enums_form
-
-abbrev pub enums_of_module : Module → List Written
-enums_of_module m = flat_map enums_in (types_of_module m)
-
--- every enum of a design, in the order of the text: an enum's number is its place in this list
-unfoldable pub enums_of : System → List Written
-enums_of system = flat_map enums_of_module system.modules
-
 unfoldable pub enum_number : System → Place → ℕ
-enum_number system p = unwrap_or (position_from (λ e. same_place p e.place) 0 (enums_of system)) 0
+enum_number system p = unwrap_or (position_from (λ e. same_place p e.place) 0 (enums_of system.modules)) 0
 
 -- the modules that a written type names
 abbrev pub modules_form : TypeExpr-F (List ℕ) → List ℕ

@@ -2,7 +2,7 @@
 
 ghost use Rattle.std.specs.Prelude.{◌≡◌, map, [], true, false, IfOk};
 ghost use Rattle.std.specs.List.{list_all};
-ghost use Rattle.uc_syntax.specs.declared.place.Place.{Place};
+ghost use Rattle.uc_lexer.specs.declared.place.Place.{Place};
 ghost use Rattle.uc_syntax.specs.declared.expression.Expr.TheViews.{Selected};
 ghost use Rattle.uc_syntax.specs.declared.expression.Primary.TheVariants.{Name};
 ghost use Rattle.uc_syntax.specs.declared.expression.UnaryOperator.TheVariants.{Not};

@@ -4,7 +4,7 @@ ghost use Rattle.std.specs.Prelude.{◌≡◌, ◌+◌, ◌≤◌, [], true, fal
 ghost use Rattle.std.specs.List.{position_from, list_all, flat_map};
 ghost use Rattle.uc_meaning.specs.Cells.{cell_of, cells_of};
 ghost use Rattle.uc_meaning.specs.Lines.{main_declarations};
-ghost use Rattle.uc_meaning.specs.Lookup.{init_in, next_in};
+ghost use Rattle.uc_meaning.specs.Lookup.{init_in, next_in, system_of};
 ghost use Rattle.uc_meaning.specs.Steps.{main_next};
 ghost use Rattle.uc_meaning.specs.Plain.{ReadsCell};
 ghost use Rattle.uc_meaning.specs.Fragment.{InFragment, variables, names_in, variable_names, holds_name, main_init, assigns, targets_in, all_differ, at_most_one, is_init, is_next, most_variables};
@@ -12,7 +12,7 @@ ghost use Rattle.uc_meaning.specs.Fragment.{InFragment, variables, names_in, var
 use std::marker::Model;
 use uc_syntax::{Decl, Design, Identifier, Stmt};
 
-/// A design that keeps the rules, with the number of main. Contracts see its modules and that number.
+/// A design that keeps the rules of the fragment, with the number of main.
 #[derive(Drop)]
 pub struct Ordered {
     design: Design,
@@ -31,22 +31,22 @@ impl Model for Ordered {
 
     ghost coded = { Prim.hlevel (codes, types.the_row.coded, expressions.the_row.coded, statements.the_row.coded) };
 
-    ghost view = { λ o. record { modules = o.design.modules; main = o.main } };
+    ghost view = { λ o. record { names = o.design.names; files = o.design.files; modules = o.design.modules; main = o.main } };
 
-    ghost invariant = { λ o. InFragment (record { modules = o.design.modules; main = o.main }) };
+    ghost invariant = { λ o. InFragment (record { names = o.design.names; files = o.design.files; modules = o.design.modules; main = o.main }) };
 }
 
 impl Ordered {
     /// The design with the number of its main module.
     pub fn of(design: Design, main: u32) -> Ordered
-        requires { InFragment (record { modules = design.modules; main = main }) }
-        ensures { result ≡ record { modules = design.modules; main = main } }
+        requires { InFragment (system_of design main) }
+        ensures { result ≡ system_of design main }
     {
         Ordered { design, main }
     }
 
     pub fn design(&self) -> &Design
-        ensures { result.now.modules ≡ self.now.modules }
+        ensures { system_of result.now self.now.main ≡ self.now }
     {
         &self.design
     }
@@ -68,7 +68,7 @@ impl Ordered {
     pub fn declarations(&self) -> &[Decl]
         ensures { result.now ≡ main_declarations self.now }
     {
-        match self.design.modules.get(0) {
+        match self.design.modules().get(0) {
             Some(code) => code.decls.as_slice(),
             None => &[],
         }

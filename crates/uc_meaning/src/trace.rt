@@ -5,6 +5,7 @@ ghost use Rattle.std.specs.Bool.{Decides};
 ghost use Rattle.std.specs.List.{list_all};
 ghost use Rattle.uc_values.specs.declared.ty.Ty.TheVariants.{Bool as boolean_type};
 ghost use Rattle.uc_values.specs.Values.{fits};
+ghost use Rattle.uc_values.specs.Tables.{same_scalars};
 ghost use Rattle.uc_meaning.specs.declared.line.At.TheVariants.{Exactly};
 ghost use Rattle.uc_meaning.specs.Cells.{IsInterpretation, IsState};
 ghost use Rattle.uc_meaning.specs.Runs.{IsRun};
@@ -22,7 +23,7 @@ use crate::step::step_holds;
 use std::alloc::Global;
 use uc_items::at;
 use uc_syntax::{Decl, Expr};
-use uc_values::{Ty, Value, fits, same_scalars};
+use uc_values::{Ty, Value, fits, same_scalar};
 
 /// Whether a trace refutes a line.
 pub fn accepts_trace(alloc: Global, d: &Ordered, line: &Line, t: &Trace) -> Result<bool, EvalError>
@@ -187,10 +188,25 @@ fn ends_at(end: &CodeEnd, all: usize, state: &State) -> bool
 {
     match end {
         CodeEnd::Ended { scope, used, .. } => {
-            *used == all && same_scalars(scope.before.cells.as_slice(), state.cells.as_slice())
+            *used == all && same_values(scope.before.cells.as_slice(), state.cells.as_slice())
         }
         _ => false,
     }
+}
+
+/// Whether two lists of truth values are the same.
+fn same_values(left: &[Value], right: &[Value]) -> bool
+    ensures { result ≡ same_scalars left.now right.now }
+{
+    if left.len() != right.len() {
+        return false;
+    }
+    for place in 0..left.len() {
+        if !same_scalar(&left[place], &right[place]) {
+            return false;
+        }
+    }
+    true
 }
 
 /// Whether a position follows a state by a step.

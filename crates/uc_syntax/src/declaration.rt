@@ -1,9 +1,12 @@
 //! Declarations and modules.
 
+ghost use Rattle.std.specs.Prelude.{◌≡◌, IfOk};
+
 use crate::expression::Expr;
 use crate::place::{Identifier, Place};
-use crate::statement::Stmt;
-use crate::type_expression::{Parameter, TypeExpr};
+use crate::statement::{Stmt, copy_block};
+use crate::type_expression::{Parameter, TypeExpr, copy_parameters};
+use std::alloc::{AllocError, Global};
 use uc_items::Items;
 
 #[derive(Clone, Copy, Debug, PartialEq, Eq)]
@@ -81,4 +84,231 @@ pub struct Module {
     pub place: Place,
     pub name: u32,
     pub decls: Items<Decl>,
+}
+
+impl Clause {
+    /// The same clause again.
+    pub fn copy(&self, alloc: Global) -> Result<Clause, AllocError>
+        ensures { IfOk result (λ c. c ≡ self.now) }
+    {
+        match self {
+            Clause::Requires(place, condition) => {
+                let condition = condition.copy(alloc)?;
+                Ok(Clause::Requires(*place, condition))
+            }
+            Clause::Ensures(place, condition) => {
+                let condition = condition.copy(alloc)?;
+                Ok(Clause::Ensures(*place, condition))
+            }
+            Clause::Modifies(place, names) => {
+                let names = Items::from_slice(alloc, names.as_slice())?;
+                Ok(Clause::Modifies(*place, names))
+            }
+        }
+    }
+}
+
+fn copy_clauses(alloc: Global, clauses: &[Clause]) -> Result<Items<Clause>, AllocError>
+    ensures { IfOk result (λ cs. cs ≡ clauses.now) }
+{
+    let mut copies = Items::new(alloc);
+    for clause in clauses {
+        let clause = clause.copy(alloc)?;
+        copies.push(clause)?;
+    }
+    Ok(copies)
+}
+
+impl Procedure {
+    /// The same procedure again.
+    pub fn copy(&self, alloc: Global) -> Result<Procedure, AllocError>
+        ensures { IfOk result (λ p. p ≡ self.now) }
+    {
+        let parameters = copy_parameters(alloc, self.parameters.as_slice())?;
+        let results = copy_parameters(alloc, self.results.as_slice())?;
+        let clauses = copy_clauses(alloc, self.clauses.as_slice())?;
+        let body = copy_block(alloc, self.body.as_slice())?;
+        Ok(Procedure {
+            identifier: self.identifier,
+            parameters,
+            results,
+            clauses,
+            body,
+        })
+    }
+}
+
+impl Binding {
+    /// The same binding again.
+    pub fn copy(&self, alloc: Global) -> Result<Binding, AllocError>
+        ensures { IfOk result (λ b. b ≡ self.now) }
+    {
+        let expression = self.expression.copy(alloc)?;
+        Ok(Binding {
+            identifier: self.identifier,
+            expression,
+        })
+    }
+}
+
+fn copy_bindings(alloc: Global, bindings: &[Binding]) -> Result<Items<Binding>, AllocError>
+    ensures { IfOk result (λ bs. bs ≡ bindings.now) }
+{
+    let mut copies = Items::new(alloc);
+    for binding in bindings {
+        let binding = binding.copy(alloc)?;
+        copies.push(binding)?;
+    }
+    Ok(copies)
+}
+
+fn copy_paths(
+    alloc: Global,
+    paths: &[Items<Identifier>],
+) -> Result<Items<Items<Identifier>>, AllocError>
+    ensures { IfOk result (λ ps. ps ≡ paths.now) }
+{
+    let mut copies = Items::new(alloc);
+    for path in paths {
+        let path = Items::from_slice(alloc, path.as_slice())?;
+        copies.push(path)?;
+    }
+    Ok(copies)
+}
+
+impl Command {
+    /// The same command again.
+    pub fn copy(&self, alloc: Global) -> Result<Command, AllocError>
+        ensures { IfOk result (λ c. c ≡ self.now) }
+    {
+        match self {
+            Command::Run(place, name, run) => Ok(Command::Run(*place, *name, *run)),
+            Command::Check(place) => Ok(Command::Check(*place)),
+            Command::PrintResults(place) => Ok(Command::PrintResults(*place)),
+            Command::PrintCounterexamples(place, command, None) => {
+                Ok(Command::PrintCounterexamples(*place, *command, None))
+            }
+            Command::PrintCounterexamples(place, command, Some(paths)) => {
+                let paths = copy_paths(alloc, paths.as_slice())?;
+                Ok(Command::PrintCounterexamples(*place, *command, Some(paths)))
+            }
+        }
+    }
+}
+
+fn copy_commands(alloc: Global, commands: &[Command]) -> Result<Items<Command>, AllocError>
+    ensures { IfOk result (λ cs. cs ≡ commands.now) }
+{
+    let mut copies = Items::new(alloc);
+    for command in commands {
+        let command = command.copy(alloc)?;
+        copies.push(command)?;
+    }
+    Ok(copies)
+}
+
+impl Decl {
+    /// The same declaration again.
+    pub fn copy(&self, alloc: Global) -> Result<Decl, AllocError>
+        ensures { IfOk result (λ d. d ≡ self.now) }
+    {
+        match self {
+            Decl::OpaqueType(place, name) => Ok(Decl::OpaqueType(*place, *name)),
+            Decl::TypeAlias(place, name, ty) => {
+                let ty = ty.copy(alloc)?;
+                Ok(Decl::TypeAlias(*place, *name, ty))
+            }
+            Decl::TypeImport(place, module) => Ok(Decl::TypeImport(*place, *module)),
+            Decl::Variables(place, kind, names, ty) => {
+                let names = Items::from_slice(alloc, names.as_slice())?;
+                let ty = ty.copy(alloc)?;
+                Ok(Decl::Variables(*place, *kind, names, ty))
+            }
+            Decl::Function(place, name, parameters, ty) => {
+                let parameters = copy_parameters(alloc, parameters.as_slice())?;
+                let ty = ty.copy(alloc)?;
+                Ok(Decl::Function(*place, *name, parameters, ty))
+            }
+            Decl::Define(place, name, parameters, ty, body) => {
+                let parameters = copy_parameters(alloc, parameters.as_slice())?;
+                let ty = ty.copy(alloc)?;
+                let body = body.copy(alloc)?;
+                Ok(Decl::Define(*place, *name, parameters, ty, body))
+            }
+            Decl::Procedure(place, procedure) => {
+                let procedure = procedure.copy(alloc)?;
+                Ok(Decl::Procedure(*place, procedure))
+            }
+            Decl::Instance(place, name, module, bindings) => {
+                let bindings = copy_bindings(alloc, bindings.as_slice())?;
+                Ok(Decl::Instance(*place, *name, *module, bindings))
+            }
+            Decl::Init(place, block) => {
+                let block = copy_block(alloc, block.as_slice())?;
+                Ok(Decl::Init(*place, block))
+            }
+            Decl::Next(place, block) => {
+                let block = copy_block(alloc, block.as_slice())?;
+                Ok(Decl::Next(*place, block))
+            }
+            Decl::Invariant(place, name, formula) => {
+                let formula = formula.copy(alloc)?;
+                Ok(Decl::Invariant(*place, *name, formula))
+            }
+            Decl::Axiom(place, name, formula) => {
+                let formula = formula.copy(alloc)?;
+                Ok(Decl::Axiom(*place, *name, formula))
+            }
+            Decl::Hyperinvariant(place, copies, name, formula) => {
+                let formula = formula.copy(alloc)?;
+                Ok(Decl::Hyperinvariant(*place, *copies, *name, formula))
+            }
+            Decl::Hyperaxiom(place, copies, name, formula) => {
+                let formula = formula.copy(alloc)?;
+                Ok(Decl::Hyperaxiom(*place, *copies, *name, formula))
+            }
+            Decl::Control(place, commands) => {
+                let commands = copy_commands(alloc, commands.as_slice())?;
+                Ok(Decl::Control(*place, commands))
+            }
+        }
+    }
+}
+
+/// The same declarations again.
+pub fn copy_declarations(alloc: Global, declarations: &[Decl]) -> Result<Items<Decl>, AllocError>
+    ensures { IfOk result (λ ds. ds ≡ declarations.now) }
+{
+    let mut copies = Items::new(alloc);
+    for declaration in declarations {
+        let declaration = declaration.copy(alloc)?;
+        copies.push(declaration)?;
+    }
+    Ok(copies)
+}
+
+impl Module {
+    /// The same module again.
+    pub fn copy(&self, alloc: Global) -> Result<Module, AllocError>
+        ensures { IfOk result (λ m. m ≡ self.now) }
+    {
+        let decls = copy_declarations(alloc, self.decls.as_slice())?;
+        Ok(Module {
+            place: self.place,
+            name: self.name,
+            decls,
+        })
+    }
+}
+
+/// The same modules again.
+pub fn copy_modules(alloc: Global, modules: &[Module]) -> Result<Items<Module>, AllocError>
+    ensures { IfOk result (λ ms. ms ≡ modules.now) }
+{
+    let mut copies = Items::new(alloc);
+    for module in modules {
+        let module = module.copy(alloc)?;
+        copies.push(module)?;
+    }
+    Ok(copies)
 }

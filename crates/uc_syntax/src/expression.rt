@@ -1,6 +1,9 @@
 //! Expressions.
 
+ghost use Rattle.std.specs.Prelude.{◌≡◌, IfOk};
+
 use crate::place::{Identifier, Place};
+use std::alloc::{AllocError, Global};
 use uc_items::{Boxed, Items};
 
 #[derive(Clone, Copy, Debug, PartialEq, Eq)]
@@ -100,4 +103,153 @@ pub enum Expr {
     Unary(Place, UnaryOperator, Boxed<Expr>),
     /// A primary with all its selections.
     Selected(Place, Primary<Expr>, Items<Selection<Expr>>),
+}
+
+impl Expr {
+    /// The same expression again.
+    #[cycle(copy_expressions)]
+    pub fn copy(&self, alloc: Global) -> Result<Expr, AllocError>
+        ensures { IfOk result (λ e. e ≡ self.now) }
+    {
+        match self {
+            Expr::If(place, condition, yes, no) => {
+                let condition = copy_boxed(alloc, condition)?;
+                let yes = copy_boxed(alloc, yes)?;
+                let no = copy_boxed(alloc, no)?;
+                Ok(Expr::If(*place, condition, yes, no))
+            }
+            Expr::Iff(place, operands, marks) => {
+                let operands = copy_expressions(alloc, operands.as_slice())?;
+                let marks = Items::from_slice(alloc, marks.as_slice())?;
+                Ok(Expr::Iff(*place, operands, marks))
+            }
+            Expr::Implies(place, operands, marks) => {
+                let operands = copy_expressions(alloc, operands.as_slice())?;
+                let marks = Items::from_slice(alloc, marks.as_slice())?;
+                Ok(Expr::Implies(*place, operands, marks))
+            }
+            Expr::Or(place, operands, marks) => {
+                let operands = copy_expressions(alloc, operands.as_slice())?;
+                let marks = Items::from_slice(alloc, marks.as_slice())?;
+                Ok(Expr::Or(*place, operands, marks))
+            }
+            Expr::And(place, operands, marks) => {
+                let operands = copy_expressions(alloc, operands.as_slice())?;
+                let marks = Items::from_slice(alloc, marks.as_slice())?;
+                Ok(Expr::And(*place, operands, marks))
+            }
+            Expr::Compare(place, comparison, mark, left, right) => {
+                let left = copy_boxed(alloc, left)?;
+                let right = copy_boxed(alloc, right)?;
+                Ok(Expr::Compare(*place, *comparison, *mark, left, right))
+            }
+            Expr::BitOr(place, operands, marks) => {
+                let operands = copy_expressions(alloc, operands.as_slice())?;
+                let marks = Items::from_slice(alloc, marks.as_slice())?;
+                Ok(Expr::BitOr(*place, operands, marks))
+            }
+            Expr::BitXor(place, operands, marks) => {
+                let operands = copy_expressions(alloc, operands.as_slice())?;
+                let marks = Items::from_slice(alloc, marks.as_slice())?;
+                Ok(Expr::BitXor(*place, operands, marks))
+            }
+            Expr::BitAnd(place, operands, marks) => {
+                let operands = copy_expressions(alloc, operands.as_slice())?;
+                let marks = Items::from_slice(alloc, marks.as_slice())?;
+                Ok(Expr::BitAnd(*place, operands, marks))
+            }
+            Expr::Concat(place, operands, marks) => {
+                let operands = copy_expressions(alloc, operands.as_slice())?;
+                let marks = Items::from_slice(alloc, marks.as_slice())?;
+                Ok(Expr::Concat(*place, operands, marks))
+            }
+            Expr::Sum(place, operands, marks) => {
+                let operands = copy_expressions(alloc, operands.as_slice())?;
+                let marks = Items::from_slice(alloc, marks.as_slice())?;
+                Ok(Expr::Sum(*place, operands, marks))
+            }
+            Expr::Product(place, operands, marks) => {
+                let operands = copy_expressions(alloc, operands.as_slice())?;
+                let marks = Items::from_slice(alloc, marks.as_slice())?;
+                Ok(Expr::Product(*place, operands, marks))
+            }
+            Expr::Unary(place, operator, operand) => {
+                let operand = copy_boxed(alloc, operand)?;
+                Ok(Expr::Unary(*place, *operator, operand))
+            }
+            Expr::Selected(place, primary, selections) => {
+                let primary = match primary {
+                    Primary::Truth(truth) => Primary::Truth(*truth),
+                    Primary::Number(number) => Primary::Number(*number),
+                    Primary::BitsLiteral(value, width) => Primary::BitsLiteral(*value, *width),
+                    Primary::Name(name, is_primed) => Primary::Name(*name, *is_primed),
+                    Primary::Apply(name, arguments) => {
+                        let arguments = copy_expressions(alloc, arguments.as_slice())?;
+                        Primary::Apply(*name, arguments)
+                    }
+                    Primary::OnBits(function, arguments) => {
+                        let arguments = copy_expressions(alloc, arguments.as_slice())?;
+                        Primary::OnBits(*function, arguments)
+                    }
+                    Primary::Old(name) => Primary::Old(*name),
+                    Primary::Grouped(expression) => {
+                        let expression = copy_boxed(alloc, expression)?;
+                        Primary::Grouped(expression)
+                    }
+                };
+                let selections = copy_selections(alloc, selections.as_slice())?;
+                Ok(Expr::Selected(*place, primary, selections))
+            }
+        }
+    }
+}
+
+/// The same expressions again.
+#[cycle(copy_expressions)]
+pub fn copy_expressions(alloc: Global, expressions: &[Expr]) -> Result<Items<Expr>, AllocError>
+    ensures { IfOk result (λ es. es ≡ expressions.now) }
+{
+    let mut copies = Items::new(alloc);
+    for expression in expressions {
+        let expression = expression.copy(alloc)?;
+        copies.push(expression)?;
+    }
+    Ok(copies)
+}
+
+#[cycle(copy_expressions)]
+fn copy_boxed(alloc: Global, expression: &Boxed<Expr>) -> Result<Boxed<Expr>, AllocError>
+    ensures { IfOk result (λ e. e ≡ expression.now) }
+{
+    let copy = expression.get().copy(alloc)?;
+    let copy = Boxed::new(alloc, copy)?;
+    Ok(copy)
+}
+
+#[cycle(copy_expressions)]
+fn copy_selections(
+    alloc: Global,
+    selections: &[Selection<Expr>],
+) -> Result<Items<Selection<Expr>>, AllocError>
+    ensures { IfOk result (λ ss. ss ≡ selections.now) }
+{
+    let mut copies = Items::new(alloc);
+    for selection in selections {
+        let copy = match selection {
+            Selection::Field(place, name) => Selection::Field(*place, *name),
+            Selection::Copy(place, number) => Selection::Copy(*place, *number),
+            Selection::Element(place, index) => {
+                let index = index.copy(alloc)?;
+                Selection::Element(*place, index)
+            }
+            Selection::Update(place, index, value) => {
+                let index = index.copy(alloc)?;
+                let value = value.copy(alloc)?;
+                Selection::Update(*place, index, value)
+            }
+            Selection::Extract(place, high, low) => Selection::Extract(*place, *high, *low),
+        };
+        copies.push(copy)?;
+    }
+    Ok(copies)
 }

@@ -4,15 +4,21 @@
 mod declaration;
 mod design;
 mod expression;
+mod written_enums;
+mod names;
 mod place;
 mod statement;
 mod type_expression;
 
 pub use declaration::{
-    Binding, Clause, Command, Decl, Module, Procedure, VariableKind, WrittenRun,
+    Binding, Clause, Command, Decl, Module, Procedure, VariableKind, WrittenRun, copy_declarations,
+    copy_modules,
 };
 pub use design::Design;
-pub use expression::{BitFunction, Comparison, Expr, Primary, Selection, SumSign, UnaryOperator};
+pub use expression::{
+    BitFunction, Comparison, Expr, Primary, Selection, SumSign, UnaryOperator, copy_expressions,
+};
+pub use names::Names;
 pub use place::{Identifier, Place};
-pub use statement::{Arm, RangeBound, Stmt, Target, TargetPart};
-pub use type_expression::{Parameter, TypeExpr};
+pub use statement::{Arm, RangeBound, Stmt, Target, TargetPart, copy_block, copy_targets};
+pub use type_expression::{Parameter, TypeExpr, copy_parameters};

@@ -1,9 +1,12 @@
 //! Statements.
 
-use crate::expression::Expr;
+ghost use Rattle.std.specs.Prelude.{◌≡◌, IfOk};
+
+use crate::expression::{Expr, copy_expressions};
 use crate::place::{Identifier, Place};
-use crate::type_expression::{Parameter, TypeExpr};
-use uc_items::{Boxed, Items};
+use crate::type_expression::TypeExpr;
+use std::alloc::{AllocError, Global};
+use uc_items::Items;
 
 #[derive(Drop)]
 pub enum TargetPart {
@@ -56,4 +59,161 @@ pub enum Stmt {
     Call(Place, Items<Target>, Identifier, Items<Expr>),
     /// `next (name);`
     Next(Place, Identifier),
+}
+
+impl TargetPart {
+    fn copy(&self, alloc: Global) -> Result<TargetPart, AllocError>
+        ensures { IfOk result (λ p. p ≡ self.now) }
+    {
+        match self {
+            TargetPart::Field(place, name) => Ok(TargetPart::Field(*place, *name)),
+            TargetPart::Element(place, index) => {
+                let index = index.copy(alloc)?;
+                Ok(TargetPart::Element(*place, index))
+            }
+        }
+    }
+}
+
+impl Target {
+    /// The same target again.
+    pub fn copy(&self, alloc: Global) -> Result<Target, AllocError>
+        ensures { IfOk result (λ t. t ≡ self.now) }
+    {
+        let parts = copy_target_parts(alloc, self.parts.as_slice())?;
+        Ok(Target {
+            place: self.place,
+            name: self.name,
+            is_primed: self.is_primed,
+            parts,
+        })
+    }
+}
+
+fn copy_target_parts(alloc: Global, parts: &[TargetPart]) -> Result<Items<TargetPart>, AllocError>
+    ensures { IfOk result (λ ps. ps ≡ parts.now) }
+{
+    let mut copies = Items::new(alloc);
+    for part in parts {
+        let part = part.copy(alloc)?;
+        copies.push(part)?;
+    }
+    Ok(copies)
+}
+
+/// The same targets again.
+pub fn copy_targets(alloc: Global, targets: &[Target]) -> Result<Items<Target>, AllocError>
+    ensures { IfOk result (λ ts. ts ≡ targets.now) }
+{
+    let mut copies = Items::new(alloc);
+    for target in targets {
+        let target = target.copy(alloc)?;
+        copies.push(target)?;
+    }
+    Ok(copies)
+}
+
+fn copy_optional_type(alloc: Global, ty: &Option<TypeExpr>) -> Result<Option<TypeExpr>, AllocError>
+    ensures { IfOk result (λ t. t ≡ ty.now) }
+{
+    match ty {
+        None => Ok(None),
+        Some(ty) => {
+            let ty = ty.copy(alloc)?;
+            Ok(Some(ty))
+        }
+    }
+}
+
+impl Stmt {
+    /// The same statement again.
+    #[cycle(copy_statements)]
+    pub fn copy(&self, alloc: Global) -> Result<Stmt, AllocError>
+        ensures { IfOk result (λ s. s ≡ self.now) }
+    {
+        match self {
+            Stmt::Local(place, names, ty) => {
+                let names = Items::from_slice(alloc, names.as_slice())?;
+                let ty = ty.copy(alloc)?;
+                Ok(Stmt::Local(*place, names, ty))
+            }
+            Stmt::Skip(place) => Ok(Stmt::Skip(*place)),
+            Stmt::Block(place, block) => {
+                let block = copy_block(alloc, block.as_slice())?;
+                Ok(Stmt::Block(*place, block))
+            }
+            Stmt::Assert(place, name, condition) => {
+                let condition = condition.copy(alloc)?;
+                Ok(Stmt::Assert(*place, *name, condition))
+            }
+            Stmt::Assume(place, condition) => {
+                let condition = condition.copy(alloc)?;
+                Ok(Stmt::Assume(*place, condition))
+            }
+            Stmt::Havoc(place, name, is_primed) => Ok(Stmt::Havoc(*place, *name, *is_primed)),
+            Stmt::Assign(place, targets, sources) => {
+                let targets = copy_targets(alloc, targets.as_slice())?;
+                let sources = copy_expressions(alloc, sources.as_slice())?;
+                Ok(Stmt::Assign(*place, targets, sources))
+            }
+            Stmt::If(place, arms, otherwise) => {
+                let arms = copy_arms(alloc, arms.as_slice())?;
+                let otherwise = match otherwise {
+                    None => None,
+                    Some(block) => Some(copy_block(alloc, block.as_slice())?),
+                };
+                Ok(Stmt::If(*place, arms, otherwise))
+            }
+            Stmt::Case(place, arms, otherwise) => {
+                let arms = copy_arms(alloc, arms.as_slice())?;
+                let otherwise = match otherwise {
+                    None => None,
+                    Some(block) => Some(copy_block(alloc, block.as_slice())?),
+                };
+                Ok(Stmt::Case(*place, arms, otherwise))
+            }
+            Stmt::For(place, variable, ty, from, to, body) => {
+                let ty = copy_optional_type(alloc, ty)?;
+                let body = copy_block(alloc, body.as_slice())?;
+                Ok(Stmt::For(*place, *variable, ty, *from, *to, body))
+            }
+            Stmt::Call(place, targets, procedure, arguments) => {
+                let targets = copy_targets(alloc, targets.as_slice())?;
+                let arguments = copy_expressions(alloc, arguments.as_slice())?;
+                Ok(Stmt::Call(*place, targets, *procedure, arguments))
+            }
+            Stmt::Next(place, instance) => Ok(Stmt::Next(*place, *instance)),
+        }
+    }
+}
+
+/// The same statements again.
+#[cycle(copy_statements)]
+pub fn copy_block(alloc: Global, block: &[Stmt]) -> Result<Items<Stmt>, AllocError>
+    ensures { IfOk result (λ ss. ss ≡ block.now) }
+{
+    let mut copies = Items::new(alloc);
+    for statement in block {
+        let statement = statement.copy(alloc)?;
+        copies.push(statement)?;
+    }
+    Ok(copies)
+}
+
+#[cycle(copy_statements)]
+fn copy_arms(alloc: Global, arms: &[Arm<Stmt>]) -> Result<Items<Arm<Stmt>>, AllocError>
+    ensures { IfOk result (λ rs. rs ≡ arms.now) }
+{
+    let mut copies = Items::new(alloc);
+    for arm in arms {
+        let block = arm.body.as_slice();
+        let mut body = Items::new(alloc);
+        for statement in block {
+            let statement = statement.copy(alloc)?;
+            body.push(statement)?;
+        }
+        let condition = arm.condition.copy(alloc)?;
+        copies.push(Arm { condition, body })?;
+    }
+    Ok(copies)
 }

@@ -36,7 +36,7 @@ impl Table {
 }
 
 /// Whether two lists of scalars are the same.
-pub fn same_scalars(left: &[Value], right: &[Value]) -> bool
+fn same_scalars(left: &[Value], right: &[Value]) -> bool
     ensures { result ≡ same_scalars left.now right.now }
 {
     if left.len() != right.len() {

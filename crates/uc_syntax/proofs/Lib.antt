@@ -1,0 +1,4 @@
+pub mod Added
+pub mod Labels
+pub mod Mentions
+pub mod Numbering
