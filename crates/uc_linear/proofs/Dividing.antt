@@ -118,7 +118,7 @@ product-difference a b k =
     let e : (a -ℤ b) +ℤ b ≡ a = omega (arith, ints) in
     omega (arith, ints, product-sum (a -ℤ b) b k, ap (λ z. z *ℤ k) e)
 
-swap_factors : (a g x : ℤ) → (a *ℤ g) *ℤ x ≡ (a *ℤ x) *ℤ g
+pub swap_factors : (a g x : ℤ) → (a *ℤ g) *ℤ x ≡ (a *ℤ x) *ℤ g
 swap_factors (pos zero) g x = ap (λ z. z *ℤ x) (zero-*ℤ g) ∙ zero-*ℤ x ∙ sym (ap (λ z. z *ℤ g) (zero-*ℤ x) ∙ zero-*ℤ g)
 swap_factors (pos (suc n)) g x =
     let l : pos (suc n) *ℤ g ≡ pos n *ℤ g +ℤ g = omega (arith, ints, suc_ℤ-*ℤ (pos n) g) in
