@@ -1,0 +1,9 @@
+//! The report of a design's control block: its lines with their verdicts, its prints, its text and its status.
+#![tactic(auto)]
+
+mod design;
+mod report;
+mod text;
+
+pub use design::DesignView;
+pub use report::{LineResult, Print, Report, Verdict, status_of};
