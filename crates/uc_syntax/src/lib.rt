@@ -4,6 +4,7 @@
 mod declaration;
 mod design;
 mod expression;
+mod names;
 mod place;
 mod statement;
 mod type_expression;
@@ -13,6 +14,7 @@ pub use declaration::{
 };
 pub use design::Design;
 pub use expression::{BitFunction, Comparison, Expr, Primary, Selection, SumSign, UnaryOperator};
+pub use names::Names;
 pub use place::{Identifier, Place};
 pub use statement::{Arm, RangeBound, Stmt, Target, TargetPart};
 pub use type_expression::{Parameter, TypeExpr};
