@@ -8,13 +8,13 @@ ghost use Rattle.uc_meaning.specs.Lines.{main_declarations};
 ghost use Rattle.uc_control.specs.Text.{procedure_text};
 ghost use Rattle.uc_control.specs.Described.{described, name_of, file_of};
 
-use uc_items::{Items, at};
-use uc_syntax::{Decl, Module};
+use uc_items::at;
+use uc_syntax::{Decl, Module, Names};
 
 /// The names by their numbers, the names of the files by theirs, the modules, and the place of main among these.
 #[derive(Clone, Copy)]
 pub struct DesignView<'a> {
-    pub names: &'a [Items<u8>],
+    pub names: &'a Names,
     pub files: &'a [u32],
     pub modules: &'a [Module],
     pub main: u32,
@@ -25,9 +25,10 @@ impl<'a> DesignView<'a> {
     pub fn name(&self, n: u32) -> &'a [u8]
         ensures { result.now ≡ name_of (described self.now) n }
     {
-        match self.names.get(n as usize) {
-            Some(name) => name.as_slice(),
-            None => &[],
+        if (n as usize) < self.names.len() {
+            self.names.text(n)
+        } else {
+            &[]
         }
     }
 

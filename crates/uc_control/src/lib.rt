@@ -2,8 +2,10 @@
 #![tactic(auto)]
 
 mod design;
+mod named;
 mod report;
 mod text;
 
 pub use design::DesignView;
 pub use report::{LineResult, Print, Report, Verdict, status_of};
+pub use text::report_text;

@@ -5,12 +5,14 @@ ghost use Rattle.std.specs.Option.{option_copied};
 ghost use Rattle.uc_meaning.specs.Lines.{commands_of};
 ghost use Rattle.uc_control.specs.Described.{described};
 ghost use Rattle.uc_control.specs.Reports.{is_passed, is_failed, is_undecided};
-ghost use Rattle.uc_control.specs.Text.{command_text, verdict_text, count_of, total_text, moment_text, procedure_text, path_text, clause_text, formula_text, subject_text, body_text, head_text, line_text, totals_text, print_text, report_text};
+ghost use Rattle.uc_control.specs.Words.{AreWords};
+ghost use Rattle.uc_control.specs.Text.{command_text, command_at, verdict_text, count_of, total_text, moment_text, procedure_text, path_text, clause_text, formula_text, subject_text, body_text, head_text, line_text, totals_text, print_text, report_text};
 
 use crate::design::DesignView;
 use crate::report::{LineResult, Print, Report, Verdict};
 use itoa::Buffer;
 use std::alloc::{AllocError, Global};
+use uc_items::at;
 use uc_meaning::{At, Line, What};
 use uc_syntax::{Command, Decl, WrittenRun};
 
@@ -152,7 +154,7 @@ fn body_name<'a>(d: &DesignView<'a>, moment: At) -> &'a [u8]
 type Words<'a> = Vec<&'a [u8]>;
 
 fn command_words<'a>(alloc: Global, d: &DesignView<'a>) -> Result<Words<'a>, AllocError>
-    ensures { IfOk result (λ words. map (λ w. w.now) words.items ≡ map (command_text (described d.now)) (commands_of (described d.now).system)) }
+    ensures { IfOk result (λ words. AreWords (described d.now) words.items) }
 {
     let mut words = Vec::new(alloc);
     for decl in d.main_declarations() {
@@ -234,4 +236,67 @@ fn put_totals(out: &mut Vec<u8>, lines: &[LineResult]) -> Result<(), AllocError>
     put_total(out, totals.failed, b"failed")?;
     put_total(out, totals.undecided, b"indeterminate")?;
     Ok(())
+}
+
+/// Puts a line's command, moment and subject.
+#[tactic(auto, unfolding(crate::specs::Text::head_text))]
+fn put_head(out: &mut Vec<u8>, d: &DesignView<'_>, words: &[&[u8]], line: &Line) -> Result<(), AllocError>
+    requires { AreWords (described d.now) words.now }
+    ensures { OnOk result (out.new.items ≡ out.old.items ++ head_text (described d.now) line.now) }
+{
+    put(out, word_at(d, words, line.command))?;
+    put_moment(out, d, line.at)?;
+    put_subject(out, d, line)?;
+    Ok(())
+}
+
+fn word_at<'a>(d: &DesignView<'_>, words: &[&'a [u8]], command: u32) -> &'a [u8]
+    requires { AreWords (described d.now) words.now }
+    ensures { result.now ≡ command_at (described d.now) command }
+{
+    let _ = d;
+    match at(words, command as usize) {
+        Some(word) => word,
+        None => &[],
+    }
+}
+
+#[tactic(auto, unfolding(crate::specs::Text::line_text))]
+fn put_line(out: &mut Vec<u8>, d: &DesignView<'_>, words: &[&[u8]], line: &LineResult) -> Result<(), AllocError>
+    requires { AreWords (described d.now) words.now }
+    ensures { OnOk result (out.new.items ≡ out.old.items ++ line_text (described d.now) line.now) }
+{
+    put(out, b"  ")?;
+    put(out, verdict_text(&line.verdict))?;
+    put(out, b" -> ")?;
+    put_head(out, d, words, &line.line)?;
+    put(out, b"\n")?;
+    Ok(())
+}
+
+/// Puts the totals of lines, and then the lines.
+#[tactic(auto, unfolding(crate::specs::Text::print_text))]
+fn put_print(out: &mut Vec<u8>, d: &DesignView<'_>, words: &[&[u8]], lines: &[LineResult]) -> Result<(), AllocError>
+    requires { AreWords (described d.now) words.now }
+    ensures { OnOk result (out.new.items ≡ out.old.items ++ print_text (described d.now) lines.now) }
+{
+    put_totals(out, lines)?;
+    for line in lines {
+        put_line(out, d, words, line)?;
+    }
+    Ok(())
+}
+
+/// The text of a report: that of its prints in order.
+pub fn report_text(alloc: Global, d: &DesignView<'_>, report: &Report) -> Result<Vec<u8>, AllocError>
+    ensures { IfOk result (λ text. text.items ≡ report_text (described d.now) report.now) }
+{
+    let words = command_words(alloc, d)?;
+    let mut text = Vec::new(alloc);
+    for print in report.prints.as_slice() {
+        let Print::Results { first, end } = *print;
+        let lines = lines_between(report.lines.as_slice(), first, end);
+        put_print(&mut text, d, words.as_slice(), lines)?;
+    }
+    Ok(text)
 }
