@@ -1,5 +1,5 @@
 pub mod Described
 pub mod Reports
 pub mod Text
-pub mod Words
+pub mod Tables
 pub mod Named

@@ -24,6 +24,7 @@ use Rattle.uc_control.specs.declared.report.Print.{Print}
 use Rattle.uc_control.specs.declared.report.Print.TheVariants.{Results}
 use Rattle.uc_control.specs.declared.report.Report.{Report}
 use Rattle.uc_control.specs.Described.{Described, name_of, file_of}
+use Rattle.uc_control.specs.Named.{named_places, name_in}
 use Rattle.uc_control.specs.Reports.{is_passed, is_failed, is_undecided}
 
 abbrev pub verdict_text : Verdict → List ℕ
@@ -74,6 +75,23 @@ formula_text d path other = []
 abbrev pub clause_text : List ℕ → ℕ → List ℕ
 clause_text procedure n = procedure ++ codes "#" ++ decimal n
 
+-- the name that stands at a place of code
+unfoldable pub name_at : Described → Place → Option ℕ
+name_at d place = name_in (named_places d.system) place
+
+-- an assertion by its path and its label, or its place where it has none
+unfoldable pub assertion_text : Described → Site → Option ℕ → List ℕ
+assertion_text d site label = codes "assertion " ++ path_text d site.path ++ option_map_or (name_of d) label (place_text d site.place)
+
+-- a `requires` of a call by its path, the procedure and its number, and the place of the call
+unfoldable pub precondition_text : Described → Site → Option ℕ → List ℕ
+precondition_text d site procedure =
+    codes "precondition " ++ path_text d site.path ++ clause_text (option_map_or (name_of d) procedure []) site.requires_ ++ codes " at " ++ place_text d site.place
+
+unfoldable pub site_text : Described → Site → List ℕ
+site_text d site =
+    if nat_eq site.requires_ 0 then assertion_text d site (name_at d site.place) else precondition_text d site (name_at d site.place)
+
 -- the procedure that a line is about
 abbrev pub body_text : Described → At → List ℕ
 body_text d (Body p) = procedure_text d p
@@ -82,7 +100,7 @@ body_text d other = []
 -- the kind and the name of what a line judges
 unfoldable pub subject_text : Described → At → What → List ℕ
 subject_text d moment (Formula path n) = formula_text d path (option_and_then (λ m. slice_get m.decls n) (module_at d.system path))
-subject_text d moment (AtSite site) = []
+subject_text d moment (AtSite site) = site_text d site
 subject_text d moment (Ensures n) = codes "postcondition " ++ clause_text (body_text d moment) n
 
 -- a line's command, moment and subject

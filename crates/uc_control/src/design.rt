@@ -1,7 +1,7 @@
 //! A design as a report's text names it.
 
-ghost use Rattle.std.specs.Prelude.{◌≡◌, nat_eq, slice_get};
-ghost use Rattle.std.specs.Option.{option_copied, option_map, option_and_then};
+ghost use Rattle.std.specs.Prelude.{◌≡◌, [], nat_eq, slice_get};
+ghost use Rattle.std.specs.Option.{option_copied, option_map, option_map_or, option_and_then};
 ghost use Rattle.std.specs.List.{find, filter_map};
 ghost use Rattle.uc_meaning.specs.Lookup.{instance_in, instance_of, module_named, module_at};
 ghost use Rattle.uc_meaning.specs.Lines.{main_declarations};
@@ -29,6 +29,16 @@ impl<'a> DesignView<'a> {
             self.names.text(n)
         } else {
             &[]
+        }
+    }
+
+    /// The bytes of a name that may be missing.
+    pub fn name_or_none(&self, n: Option<u32>) -> &'a [u8]
+        ensures { result.now ≡ option_map_or (name_of (described self.now)) n [] }
+    {
+        match n {
+            Some(n) => self.name(n),
+            None => &[],
         }
     }
 

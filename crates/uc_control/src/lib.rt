@@ -4,6 +4,7 @@
 mod design;
 mod named;
 mod report;
+mod tables;
 mod text;
 
 pub use design::DesignView;

@@ -2,19 +2,18 @@
 
 ghost use Rattle.std.specs.Prelude.{◌≡◌, ◌++◌, [], OnOk, IfOk, Bool, codes, decimal, map, slice_range, slice_get};
 ghost use Rattle.std.specs.Option.{option_copied};
-ghost use Rattle.uc_meaning.specs.Lines.{commands_of};
 ghost use Rattle.uc_control.specs.Described.{described};
 ghost use Rattle.uc_control.specs.Reports.{is_passed, is_failed, is_undecided};
-ghost use Rattle.uc_control.specs.Words.{AreWords};
-ghost use Rattle.uc_control.specs.Text.{command_text, command_at, verdict_text, count_of, total_text, moment_text, procedure_text, path_text, clause_text, formula_text, subject_text, body_text, head_text, line_text, totals_text, print_text, report_text};
+ghost use Rattle.uc_control.specs.Tables.{AreTables};
+ghost use Rattle.uc_control.specs.Text.{place_text, assertion_text, precondition_text, site_text, verdict_text, count_of, total_text, moment_text, procedure_text, path_text, clause_text, formula_text, subject_text, body_text, head_text, line_text, totals_text, print_text, report_text};
 
 use crate::design::DesignView;
 use crate::report::{LineResult, Print, Report, Verdict};
+use crate::tables::Tables;
 use itoa::Buffer;
 use std::alloc::{AllocError, Global};
-use uc_items::at;
-use uc_meaning::{At, Line, What};
-use uc_syntax::{Command, Decl, WrittenRun};
+use uc_meaning::{At, Line, Site, What};
+use uc_syntax::{Decl, Place};
 
 fn put(out: &mut Vec<u8>, bytes: &[u8]) -> Result<(), AllocError>
     ensures { OnOk result (out.new.items ≡ out.old.items ++ bytes.now) }
@@ -122,9 +121,64 @@ fn lines_between(lines: &[LineResult], first: u32, end: u32) -> &[LineResult]
     &rest[..count]
 }
 
+/// Puts a place as FILE:LINE:COLUMN.
+#[tactic(auto, unfolding(crate::specs::Text::place_text))]
+fn put_place(out: &mut Vec<u8>, d: &DesignView<'_>, place: Place) -> Result<(), AllocError>
+    ensures { OnOk result (out.new.items ≡ out.old.items ++ place_text (described d.now) place) }
+{
+    put(out, d.file(place.file))?;
+    put_between(out, b":", place.line, b":")?;
+    put_number(out, u64::from(place.col))?;
+    Ok(())
+}
+
+/// Puts an assertion or a precondition of a call.
+#[tactic(auto, unfolding(crate::specs::Text::site_text))]
+fn put_site(out: &mut Vec<u8>, d: &DesignView<'_>, tables: &Tables<'_>, site: &Site) -> Result<(), AllocError>
+    requires { AreTables (described d.now) tables.now }
+    ensures { OnOk result (out.new.items ≡ out.old.items ++ site_text (described d.now) site.now) }
+{
+    let name = tables.name_at(d, site.place);
+    if site.requires_ == 0 {
+        put_assertion(out, d, site, name)
+    } else {
+        put_precondition(out, d, site, name)
+    }
+}
+
+#[tactic(auto, unfolding(crate::specs::Text::assertion_text))]
+fn put_assertion(out: &mut Vec<u8>, d: &DesignView<'_>, site: &Site, label: Option<u32>) -> Result<(), AllocError>
+    ensures { OnOk result (out.new.items ≡ out.old.items ++ assertion_text (described d.now) site.now label) }
+{
+    put(out, b"assertion ")?;
+    put_path(out, d, site.path.as_slice())?;
+    match label {
+        Some(label) => put(out, d.name(label)),
+        None => put_place(out, d, site.place),
+    }
+}
+
+#[tactic(auto, unfolding(crate::specs::Text::precondition_text))]
+fn put_precondition(out: &mut Vec<u8>, d: &DesignView<'_>, site: &Site, procedure: Option<u32>) -> Result<(), AllocError>
+    ensures { OnOk result (out.new.items ≡ out.old.items ++ precondition_text (described d.now) site.now procedure) }
+{
+    put(out, b"precondition ")?;
+    put_path(out, d, site.path.as_slice())?;
+    put_clause(out, d.name_or_none(procedure), site.requires_)?;
+    put(out, b" at ")?;
+    put_place(out, d, site.place)?;
+    Ok(())
+}
+
 /// Puts the kind and the name of what a line judges.
 #[tactic(auto, unfolding(crate::specs::Text::subject_text))]
-fn put_subject(out: &mut Vec<u8>, d: &DesignView<'_>, line: &Line) -> Result<(), AllocError>
+fn put_subject(
+    out: &mut Vec<u8>,
+    d: &DesignView<'_>,
+    tables: &Tables<'_>,
+    line: &Line,
+) -> Result<(), AllocError>
+    requires { AreTables (described d.now) tables.now }
     ensures { OnOk result (out.new.items ≡ out.old.items ++ subject_text (described d.now) line.now.at line.now.what) }
 {
     match &line.what {
@@ -132,7 +186,7 @@ fn put_subject(out: &mut Vec<u8>, d: &DesignView<'_>, line: &Line) -> Result<(),
             let path = path.as_slice();
             put_formula(out, d, path, d.decl_at(path, *decl))
         }
-        What::AtSite(_) => Ok(()),
+        What::AtSite(site) => put_site(out, d, tables, site),
         What::Ensures(n) => {
             put(out, b"postcondition ")?;
             put_clause(out, body_name(d, line.at), *n)?;
@@ -146,43 +200,6 @@ fn body_name<'a>(d: &DesignView<'a>, moment: At) -> &'a [u8]
 {
     match moment {
         At::Body(procedure) => d.procedure_name(procedure),
-        _ => &[],
-    }
-}
-
-/// The words of commands by their numbers.
-type Words<'a> = Vec<&'a [u8]>;
-
-fn command_words<'a>(alloc: Global, d: &DesignView<'a>) -> Result<Words<'a>, AllocError>
-    ensures { IfOk result (λ words. AreWords (described d.now) words.items) }
-{
-    let mut words = Vec::new(alloc);
-    for decl in d.main_declarations() {
-        if let Decl::Control(_, commands) = decl {
-            add_words(&mut words, d, commands.as_slice())?;
-        }
-    }
-    Ok(words)
-}
-
-fn add_words<'a>(words: &mut Words<'a>, d: &DesignView<'a>, commands: &[Command]) -> Result<(), AllocError>
-    ensures { OnOk result (map (λ w. w.now) words.new.items ≡ map (λ w. w.now) words.old.items ++ map (command_text (described d.now)) commands.now) }
-{
-    for command in commands {
-        words.push(command_word(d, command))?;
-    }
-    Ok(())
-}
-
-/// A command by its name, or by its word where it has none.
-fn command_word<'a>(d: &DesignView<'a>, command: &Command) -> &'a [u8]
-    ensures { result.now ≡ command_text (described d.now) command.now }
-{
-    match command {
-        Command::Run(_, Some(name), _) => d.name(name.name),
-        Command::Run(_, None, WrittenRun::Unroll(_)) => b"unroll",
-        Command::Run(_, None, WrittenRun::Induction(_)) => b"induction",
-        Command::Run(_, None, WrittenRun::Verify(_)) => b"verify",
         _ => &[],
     }
 }
@@ -240,49 +257,38 @@ fn put_totals(out: &mut Vec<u8>, lines: &[LineResult]) -> Result<(), AllocError>
 
 /// Puts a line's command, moment and subject.
 #[tactic(auto, unfolding(crate::specs::Text::head_text))]
-fn put_head(out: &mut Vec<u8>, d: &DesignView<'_>, words: &[&[u8]], line: &Line) -> Result<(), AllocError>
-    requires { AreWords (described d.now) words.now }
+fn put_head(out: &mut Vec<u8>, d: &DesignView<'_>, tables: &Tables<'_>, line: &Line) -> Result<(), AllocError>
+    requires { AreTables (described d.now) tables.now }
     ensures { OnOk result (out.new.items ≡ out.old.items ++ head_text (described d.now) line.now) }
 {
-    put(out, word_at(d, words, line.command))?;
+    put(out, tables.command(d, line.command))?;
     put_moment(out, d, line.at)?;
-    put_subject(out, d, line)?;
+    put_subject(out, d, tables, line)?;
     Ok(())
 }
 
-fn word_at<'a>(d: &DesignView<'_>, words: &[&'a [u8]], command: u32) -> &'a [u8]
-    requires { AreWords (described d.now) words.now }
-    ensures { result.now ≡ command_at (described d.now) command }
-{
-    let _ = d;
-    match at(words, command as usize) {
-        Some(word) => word,
-        None => &[],
-    }
-}
-
 #[tactic(auto, unfolding(crate::specs::Text::line_text))]
-fn put_line(out: &mut Vec<u8>, d: &DesignView<'_>, words: &[&[u8]], line: &LineResult) -> Result<(), AllocError>
-    requires { AreWords (described d.now) words.now }
+fn put_line(out: &mut Vec<u8>, d: &DesignView<'_>, tables: &Tables<'_>, line: &LineResult) -> Result<(), AllocError>
+    requires { AreTables (described d.now) tables.now }
     ensures { OnOk result (out.new.items ≡ out.old.items ++ line_text (described d.now) line.now) }
 {
     put(out, b"  ")?;
     put(out, verdict_text(&line.verdict))?;
     put(out, b" -> ")?;
-    put_head(out, d, words, &line.line)?;
+    put_head(out, d, tables, &line.line)?;
     put(out, b"\n")?;
     Ok(())
 }
 
 /// Puts the totals of lines, and then the lines.
 #[tactic(auto, unfolding(crate::specs::Text::print_text))]
-fn put_print(out: &mut Vec<u8>, d: &DesignView<'_>, words: &[&[u8]], lines: &[LineResult]) -> Result<(), AllocError>
-    requires { AreWords (described d.now) words.now }
+fn put_print(out: &mut Vec<u8>, d: &DesignView<'_>, tables: &Tables<'_>, lines: &[LineResult]) -> Result<(), AllocError>
+    requires { AreTables (described d.now) tables.now }
     ensures { OnOk result (out.new.items ≡ out.old.items ++ print_text (described d.now) lines.now) }
 {
     put_totals(out, lines)?;
     for line in lines {
-        put_line(out, d, words, line)?;
+        put_line(out, d, tables, line)?;
     }
     Ok(())
 }
@@ -291,12 +297,12 @@ fn put_print(out: &mut Vec<u8>, d: &DesignView<'_>, words: &[&[u8]], lines: &[Li
 pub fn report_text(alloc: Global, d: &DesignView<'_>, report: &Report) -> Result<Vec<u8>, AllocError>
     ensures { IfOk result (λ text. text.items ≡ report_text (described d.now) report.now) }
 {
-    let words = command_words(alloc, d)?;
+    let tables = Tables::of(alloc, d)?;
     let mut text = Vec::new(alloc);
     for print in report.prints.as_slice() {
         let Print::Results { first, end } = *print;
         let lines = lines_between(report.lines.as_slice(), first, end);
-        put_print(&mut text, d, words.as_slice(), lines)?;
+        put_print(&mut text, d, &tables, lines)?;
     }
     Ok(text)
 }

@@ -3,7 +3,7 @@ use Rattle.std.specs.List.{flat_map}
 use Rattle.uc_meaning.specs.Lines.{commands_in}
 use Rattle.uc_control.specs.Described.{described}
 use Rattle.uc_control.specs.Text.{command_text}
-use Rattle.uc_control.proofs.text.command_words.Given as goal
+use Rattle.uc_control.proofs.tables.command_words.Given as goal
 
 abbrev pub invariant-loop-decl : goal.invariant-loop-decl
 invariant-loop-decl l =

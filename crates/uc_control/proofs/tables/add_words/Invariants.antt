@@ -1,7 +1,7 @@
 use Rattle.std.proofs.Common.{◌≡◌, ◌++◌, map, take}
 use Rattle.uc_control.specs.Described.{described}
 use Rattle.uc_control.specs.Text.{command_text}
-use Rattle.uc_control.proofs.text.add_words.Given as goal
+use Rattle.uc_control.proofs.tables.add_words.Given as goal
 
 abbrev pub invariant-loop-command : goal.invariant-loop-command
 invariant-loop-command l =
