@@ -10,3 +10,6 @@ mod text;
 pub use design::DesignView;
 pub use report::{LineResult, Print, Report, Verdict, status_of};
 pub use text::report_text;
+
+#[cfg(test)]
+mod tests;

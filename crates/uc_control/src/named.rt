@@ -80,7 +80,11 @@ fn add_named_in(named: &mut Vec<Named>, statement: &Stmt) -> Result<(), AllocErr
     }
 }
 
-fn add_label(named: &mut Vec<Named>, place: Place, label: &Option<Identifier>) -> Result<(), AllocError>
+fn add_label(
+    named: &mut Vec<Named>,
+    place: Place,
+    label: &Option<Identifier>,
+) -> Result<(), AllocError>
     ensures { OnOk result (named.new.items ≡ named.old.items ++ label_named place label.now) }
 {
     match label {

@@ -134,7 +134,12 @@ fn put_place(out: &mut Vec<u8>, d: &DesignView<'_>, place: Place) -> Result<(), 
 
 /// Puts an assertion or a precondition of a call.
 #[tactic(auto, unfolding(crate::specs::Text::site_text))]
-fn put_site(out: &mut Vec<u8>, d: &DesignView<'_>, tables: &Tables<'_>, site: &Site) -> Result<(), AllocError>
+fn put_site(
+    out: &mut Vec<u8>,
+    d: &DesignView<'_>,
+    tables: &Tables<'_>,
+    site: &Site,
+) -> Result<(), AllocError>
     requires { AreTables (described d.now) tables.now }
     ensures { OnOk result (out.new.items ≡ out.old.items ++ site_text (described d.now) site.now) }
 {
@@ -147,7 +152,12 @@ fn put_site(out: &mut Vec<u8>, d: &DesignView<'_>, tables: &Tables<'_>, site: &S
 }
 
 #[tactic(auto, unfolding(crate::specs::Text::assertion_text))]
-fn put_assertion(out: &mut Vec<u8>, d: &DesignView<'_>, site: &Site, label: Option<u32>) -> Result<(), AllocError>
+fn put_assertion(
+    out: &mut Vec<u8>,
+    d: &DesignView<'_>,
+    site: &Site,
+    label: Option<u32>,
+) -> Result<(), AllocError>
     ensures { OnOk result (out.new.items ≡ out.old.items ++ assertion_text (described d.now) site.now label) }
 {
     put(out, b"assertion ")?;
@@ -159,7 +169,12 @@ fn put_assertion(out: &mut Vec<u8>, d: &DesignView<'_>, site: &Site, label: Opti
 }
 
 #[tactic(auto, unfolding(crate::specs::Text::precondition_text))]
-fn put_precondition(out: &mut Vec<u8>, d: &DesignView<'_>, site: &Site, procedure: Option<u32>) -> Result<(), AllocError>
+fn put_precondition(
+    out: &mut Vec<u8>,
+    d: &DesignView<'_>,
+    site: &Site,
+    procedure: Option<u32>,
+) -> Result<(), AllocError>
     ensures { OnOk result (out.new.items ≡ out.old.items ++ precondition_text (described d.now) site.now procedure) }
 {
     put(out, b"precondition ")?;
@@ -257,7 +272,12 @@ fn put_totals(out: &mut Vec<u8>, lines: &[LineResult]) -> Result<(), AllocError>
 
 /// Puts a line's command, moment and subject.
 #[tactic(auto, unfolding(crate::specs::Text::head_text))]
-fn put_head(out: &mut Vec<u8>, d: &DesignView<'_>, tables: &Tables<'_>, line: &Line) -> Result<(), AllocError>
+fn put_head(
+    out: &mut Vec<u8>,
+    d: &DesignView<'_>,
+    tables: &Tables<'_>,
+    line: &Line,
+) -> Result<(), AllocError>
     requires { AreTables (described d.now) tables.now }
     ensures { OnOk result (out.new.items ≡ out.old.items ++ head_text (described d.now) line.now) }
 {
@@ -268,7 +288,12 @@ fn put_head(out: &mut Vec<u8>, d: &DesignView<'_>, tables: &Tables<'_>, line: &L
 }
 
 #[tactic(auto, unfolding(crate::specs::Text::line_text))]
-fn put_line(out: &mut Vec<u8>, d: &DesignView<'_>, tables: &Tables<'_>, line: &LineResult) -> Result<(), AllocError>
+fn put_line(
+    out: &mut Vec<u8>,
+    d: &DesignView<'_>,
+    tables: &Tables<'_>,
+    line: &LineResult,
+) -> Result<(), AllocError>
     requires { AreTables (described d.now) tables.now }
     ensures { OnOk result (out.new.items ≡ out.old.items ++ line_text (described d.now) line.now) }
 {
@@ -282,7 +307,12 @@ fn put_line(out: &mut Vec<u8>, d: &DesignView<'_>, tables: &Tables<'_>, line: &L
 
 /// Puts the totals of lines, and then the lines.
 #[tactic(auto, unfolding(crate::specs::Text::print_text))]
-fn put_print(out: &mut Vec<u8>, d: &DesignView<'_>, tables: &Tables<'_>, lines: &[LineResult]) -> Result<(), AllocError>
+fn put_print(
+    out: &mut Vec<u8>,
+    d: &DesignView<'_>,
+    tables: &Tables<'_>,
+    lines: &[LineResult],
+) -> Result<(), AllocError>
     requires { AreTables (described d.now) tables.now }
     ensures { OnOk result (out.new.items ≡ out.old.items ++ print_text (described d.now) lines.now) }
 {
@@ -294,7 +324,11 @@ fn put_print(out: &mut Vec<u8>, d: &DesignView<'_>, tables: &Tables<'_>, lines: 
 }
 
 /// The text of a report: that of its prints in order.
-pub fn report_text(alloc: Global, d: &DesignView<'_>, report: &Report) -> Result<Vec<u8>, AllocError>
+pub fn report_text(
+    alloc: Global,
+    d: &DesignView<'_>,
+    report: &Report,
+) -> Result<Vec<u8>, AllocError>
     ensures { IfOk result (λ text. text.items ≡ report_text (described d.now) report.now) }
 {
     let tables = Tables::of(alloc, d)?;

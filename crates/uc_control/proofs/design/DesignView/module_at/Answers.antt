@@ -7,7 +7,7 @@ pub returns-in_err-here-2 : goal.returns-in_err-here-2
 returns-in_err-here-2 c =
     rw c.from_residual-in_err-here-2.ensures
     (module_from_lost (described c.args.self.now).system c.loop-name.here.now c.args.path.now c.loop-name.name-index c.loop-name-test.true c.in_err-here-2.ensures
-        ∙ c.loop-name.invariant)
+    ∙ c.loop-name.invariant)
 
 pub loop-name-preserved : goal.loop-name-preserved
 loop-name-preserved c =
