@@ -16,7 +16,8 @@ use Rattle.uc_values.specs.declared.ty.Ty.TheFolds.{fold-roll-Ty}
 use Rattle.uc_values.specs.declared.ty.Ty.TheVariants.{Bool as boolean_type}
 use Rattle.uc_values.specs.declared.value.Value.{Value}
 use Rattle.uc_values.specs.declared.value.Value.TheVariants.{Bool as truth}
-use Rattle.uc_values.specs.Values.{Sameness, same, sameness, same_form, count_form, same_scalar}
+use Rattle.uc_values.specs.Sameness.{Sameness, same, sameness_form}
+use Rattle.uc_values.specs.Values.{same_scalar}
 use Rattle.uc_meaning.specs.declared.scope.Scope.{Scope}
 use Rattle.uc_meaning.specs.Lookup.{System}
 use Rattle.uc_meaning.specs.Cells.{cell_of}
@@ -29,8 +30,8 @@ use Rattle.uc_meaning.proofs.Writes.{written_at_top}
 use Rattle.uc_meaning.proofs.Lists.{drop_at, drop_turn, drop_past}
 
 pub same_truth : (a b : Value) → same boolean_type a b ≡ same_scalar a b
-unfolding same sameness roll-Ty denote.Hole.Carrier.roll
-same_truth a b = ap (λ r. r.same a b) (fold-roll-Ty Sameness (λ type. record { same = same_form type; count = count_form type }) boolean_form)
+unfolding roll-Ty denote.Hole.Carrier.roll
+same_truth a b = ap (λ r. r.same a b) (fold-roll-Ty Sameness sameness_form boolean_form)
 
 pub is_assigned_plain : (system : System) (s : Scope) → IsTop s → (t : Target) (v : Value) → t.parts ≡ [] → ReadsCell system t.name →
     is_assigned system s t v ≡ same_scalar (in_cell (new_state s) (cell_of system [] t.name)) v

@@ -10,7 +10,6 @@ use Rattle.uc_syntax.specs.declared.expression.Expr.TheOpen.Expr-F.{If as IfForm
 use Rattle.uc_syntax.specs.declared.expression.Expr.TheViews.{roll-Expr, If, Or, And, Unary, Selected}
 use Rattle.uc_syntax.specs.declared.expression.Expr.TheFolds.{fold-roll-Expr}
 use Rattle.uc_values.specs.declared.value.Value.{Value}
-use Rattle.uc_values.specs.declared.value.Value as views
 use Rattle.uc_values.specs.declared.value.Value.TheVariants.{Bool as truth}
 use Rattle.uc_meaning.specs.declared.scope.Scope.{Scope}
 use Rattle.uc_meaning.specs.Lookup.{System}
@@ -57,5 +56,4 @@ value_name system s place x primed = ap (λ f. (f s).value) (fold-roll-Expr Part
 
 pub value_not : (system : System) (s : Scope) (place : Place) (e : Expr) (b : Bool) → value system s e ≡ truth b →
     value system s (Unary place Not e) ≡ truth (not b)
-unfolding unary views.out-Value denote.Hole.Carrier.out
 value_not system s place e b is = value_unary system s place Not e ∙ ap (unary Not) is

@@ -9,9 +9,11 @@ use Rattle.uc_values.specs.declared.value.Value.{Value}
 use Rattle.uc_values.specs.Values.{same_scalar}
 use Rattle.uc_meaning.specs.declared.scope.Scope.{Scope}
 use Rattle.uc_meaning.specs.declared.scope.Site.{Site}
+use Rattle.uc_meaning.specs.declared.scope.State.{State}
+use Rattle.uc_meaning.specs.declared.scope.Interp.{Interp}
 use Rattle.uc_meaning.specs.Lookup.{System}
 use Rattle.uc_meaning.specs.Cells.{Cell, cells_of}
-use Rattle.uc_meaning.specs.Steps.{CellPart, Watched, Check, Kept, Broken, main_next, watched_first, writes, is_input, is_written, has_part, part_reading, same_part, Keeps, AllKeep, IsStep}
+use Rattle.uc_meaning.specs.Steps.{CellPart, Watched, Check, Kept, Broken, main_next, step_scope, watched_first, writes, is_input, is_written, has_part, part_reading, same_part, Keeps, AllKeep, IsStep}
 use Rattle.uc_meaning.specs.Plain.{AreVariables}
 use Rattle.uc_meaning.specs.Answers.{new_state, IsStepScope, whole_cells, AsksBlock, all_kept}
 use Rattle.uc_meaning.proofs.Asks.{same_truth}
@@ -124,3 +126,7 @@ is_step system s choices written h are asks none kept sites empty = record {
 pub empty_of : {A : Type 0} (xs : List A) → true ≡ nat_eq (length xs) 0 → xs ≡ []
 empty_of [] h = refl
 empty_of (x ∷ xs) h = absurd (not_both (sym (h ∙ eqb-suc-zero (length xs))))
+
+-- what a block asks in the scope of a step decides the step
+pub stepped : (system : System) (i : Interp) (old new : State) → length old.cells ≡ length (cells_of system) → length new.cells ≡ length (cells_of system) → IsStepScope system (step_scope i old new)
+stepped system i old new a b = record { form = refl; old_fits = a; new_fits = b }

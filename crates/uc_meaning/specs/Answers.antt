@@ -7,6 +7,7 @@ use Rattle.uc_values.specs.Values.{same_scalar}
 use Rattle.uc_meaning.specs.declared.scope.Scope.{Scope}
 use Rattle.uc_meaning.specs.declared.scope.State.{State}
 use Rattle.uc_meaning.specs.declared.scope.Site.{Site}
+use Rattle.uc_meaning.specs.declared.scope.Interp.{Interp}
 use Rattle.uc_meaning.specs.Lookup.{System}
 use Rattle.uc_meaning.specs.Cells.{longest_chain, cells_of}
 use Rattle.uc_meaning.specs.Expressions.{state_in}
@@ -54,6 +55,6 @@ all_kept written n (v ∷ vs) (w ∷ ws) = (is_written written n [] || same_scal
 all_kept written n vs ws = true
 
 -- the answer for a step with these choices
-abbrev pub IsStepAnswer : System → Scope → List Value → Option (List Site) → Type 0
-IsStepAnswer system s choices None = (sites : List Site) → IsStep system s.interp s.before (new_state s) choices sites → ⊥
-IsStepAnswer system s choices (Some sites) = IsStep system s.interp s.before (new_state s) choices sites
+abbrev pub IsStepAnswer : System → Interp → State → State → List Value → Option (List Site) → Type 0
+IsStepAnswer system i old new choices None = (sites : List Site) → IsStep system i old new choices sites → ⊥
+IsStepAnswer system i old new choices (Some sites) = IsStep system i old new choices sites

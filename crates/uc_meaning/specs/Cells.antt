@@ -8,8 +8,8 @@ use Rattle.uc_syntax.specs.declared.declaration.VariableKind.TheVariants.{Variab
 use Rattle.uc_syntax.specs.declared.declaration.Module.{Module}
 use Rattle.uc_values.specs.declared.ty.Ty.{Ty}
 use Rattle.uc_values.specs.declared.value.Value.{Value}
-use Rattle.uc_values.specs.declared.interpretation.Table.{Table}
-use Rattle.uc_values.specs.declared.interpretation.Row.{Row}
+use Rattle.uc_values.specs.declared.table.Table.{Table}
+use Rattle.uc_values.specs.declared.table.Row.{Row}
 use Rattle.uc_values.specs.Values.{fits}
 use Rattle.uc_meaning.specs.declared.scope.Interp.{Interp}
 use Rattle.uc_meaning.specs.declared.scope.State.{State}

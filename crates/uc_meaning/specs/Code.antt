@@ -32,7 +32,8 @@ use Rattle.uc_values.specs.declared.value.Value.{Value}
 use Rattle.uc_values.specs.declared.value.Value.TheOpen.Value-F.{Rec as record_of_parts}
 use Rattle.uc_values.specs.declared.value.Value.TheViews.{roll-Value}
 use Rattle.uc_values.specs.declared.value.Value.TheVariants.{Int as whole, Bv as word}
-use Rattle.uc_values.specs.Values.{fits, at, store, parts_of}
+use Rattle.uc_values.specs.Values.{fits, parts_of}
+use Rattle.uc_values.specs.Arrays.{at, store}
 use Rattle.uc_meaning.specs.declared.scope.Scope.{Scope}
 use Rattle.uc_meaning.specs.declared.scope.State.{State}
 use Rattle.uc_meaning.specs.declared.scope.Local.{Local}

@@ -1,5 +1,5 @@
 -- The value of an expression in a scope.
-use Rattle.std.specs.Prelude.{ℕ, zero, suc, pos, ◌+◌, ◌-◌, Bool, true, false, nat_eq, if◌then◌else◌, List, [], ◌∷◌, ◌++◌, map, length, slice_index_or, slice_get, bit_and, bit_or, bit_xor, Option, Some, None, unwrap_or}
+use Rattle.std.specs.Prelude.{ℕ, zero, suc, pos, ◌+◌, ◌-◌, Bool, true, false, nat_eq, if◌then◌else◌, List, [], ◌∷◌, ◌++◌, map, length, slice_index_or, slice_get, Option, Some, None, unwrap_or}
 use Rattle.std.specs.Option.{option_map, option_and_then}
 use Rattle.std.specs.List.{find, position_from}
 use Rattle.uc_syntax.specs.declared.type_expression.Parameter.{Parameter}
@@ -24,18 +24,19 @@ use Rattle.uc_values.specs.declared.ty.Ty.TheViews.{out-Ty}
 use Rattle.uc_values.specs.declared.ty.Ty.TheVariants.{Bool as boolean_type, Int as integer_type, Bv as bits_type, Enum as enum_type}
 use Rattle.uc_values.specs.declared.ty.Field.{Field as TyField}
 use Rattle.uc_values.specs.declared.value.Value.{Value}
-use Rattle.uc_values.specs.declared.value.Value.TheOpen.Value-F.{Int as integer}
-use Rattle.uc_values.specs.declared.value.Value.TheViews.{out-Value}
 use Rattle.uc_values.specs.declared.value.Value.TheVariants.{Bool as truth, Int as whole, Bv as word, Enum as label}
-use Rattle.uc_values.specs.declared.interpretation.Table.{Table}
-use Rattle.uc_values.specs.Values.{Form, at, store, parts_of, result_of}
+use Rattle.uc_values.specs.declared.table.Table.{Table}
+use Rattle.uc_values.specs.Values.{parts_of}
+use Rattle.uc_values.specs.Operators.{bv_and, bv_or, bv_xor}
+use Rattle.uc_values.specs.Arrays.{at, store}
+use Rattle.uc_values.specs.Tables.{result_of}
 use Rattle.uc_meaning.specs.declared.scope.Scope.{Scope}
 use Rattle.uc_meaning.specs.declared.scope.State.{State}
 use Rattle.uc_meaning.specs.declared.scope.Local.{Local}
 use Rattle.uc_meaning.specs.Lookup.{System, Defined, Signature, InstanceParts, module_at, parent_of, variable_of, define_of, function_of, instance_of, bound_to}
 use Rattle.uc_meaning.specs.Types.{type_of_written, label_of, enums_of}
 use Rattle.uc_meaning.specs.Cells.{longest_chain, cell_of, constant_number, function_number}
-use Rattle.uc_meaning.specs.Operators.{holds, any_holds, all_hold, implied, equivalent, chained, product, summed, bitwise, concatenated, unary, compared, extracted, on_bits}
+use Rattle.uc_meaning.specs.Operators.{holds, any_holds, all_hold, implied, equivalent, chained, product, summed, concatenated, unary, compared, extracted, on_bits}
 
 -- What an expression says in a scope: its type and its value.
 pub record Reading : Type 0 where
@@ -282,13 +283,13 @@ applied_reading elsewhere arguments (OfFunction t table) = reads t (result_in_ta
 applied_reading elsewhere arguments OfNothing = reads_nothing
 
 -- an extension adds its number to the width; a shift keeps it
-abbrev pub extension : Form → ℕ
-extension (integer (pos n)) = n
+abbrev pub extension : Value → ℕ
+extension (whole (pos n)) = n
 extension other = 0
 
 abbrev pub on_bits_type : BitFunction → Value → Ty → Ty
-on_bits_type ZeroExtend n t = bits_type (width t + extension (out-Value n))
-on_bits_type SignExtend n t = bits_type (width t + extension (out-Value n))
+on_bits_type ZeroExtend n t = bits_type (width t + extension n)
+on_bits_type SignExtend n t = bits_type (width t + extension n)
 on_bits_type shift n t = t
 
 abbrev pub on_bits_reading : BitFunction → List Reading → Reading
@@ -314,9 +315,9 @@ reading_form system elsewhere (Implies place parts marks) s = reads_truth (impli
 reading_form system elsewhere (Or place parts marks) s = reads_truth (any_holds (values parts s))
 reading_form system elsewhere (And place parts marks) s = reads_truth (all_hold (values parts s))
 reading_form system elsewhere (Compare place how mark a b) s = reads_truth (compared how (a s).type (a s).value (b s).value)
-reading_form system elsewhere (BitOr place parts marks) s = reads (first_type parts s) (chained (bitwise bit_or) (values parts s))
-reading_form system elsewhere (BitXor place parts marks) s = reads (first_type parts s) (chained (bitwise bit_xor) (values parts s))
-reading_form system elsewhere (BitAnd place parts marks) s = reads (first_type parts s) (chained (bitwise bit_and) (values parts s))
+reading_form system elsewhere (BitOr place parts marks) s = reads (first_type parts s) (chained bv_or (values parts s))
+reading_form system elsewhere (BitXor place parts marks) s = reads (first_type parts s) (chained bv_xor (values parts s))
+reading_form system elsewhere (BitAnd place parts marks) s = reads (first_type parts s) (chained bv_and (values parts s))
 reading_form system elsewhere (Concat place parts marks) s = reads (bits_type (total_width parts s)) (chained concatenated (values parts s))
 reading_form system elsewhere (Sum place parts signs) s = reads (first_type parts s) (summed signs (values parts s))
 reading_form system elsewhere (Product place parts marks) s = reads (first_type parts s) (chained product (values parts s))

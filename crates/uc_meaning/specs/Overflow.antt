@@ -13,9 +13,7 @@ use Rattle.uc_syntax.specs.declared.expression.SumSign.{SumSign}
 use Rattle.uc_syntax.specs.declared.expression.UnaryOperator.{UnaryOperator}
 use Rattle.uc_syntax.specs.declared.expression.UnaryOperator.TheVariants.{Negate}
 use Rattle.uc_values.specs.declared.value.Value.{Value}
-use Rattle.uc_values.specs.declared.value.Value.TheOpen.Value-F.{Int as integer}
-use Rattle.uc_values.specs.declared.value.Value.TheViews.{out-Value}
-use Rattle.uc_values.specs.Values.{Form}
+use Rattle.uc_values.specs.declared.value.Value.TheVariants.{Int as whole}
 use Rattle.uc_meaning.specs.declared.overflow.WideOp.{WideOp}
 use Rattle.uc_meaning.specs.declared.overflow.WideOp.TheVariants.{Add, Sub, Mul}
 use Rattle.uc_meaning.specs.declared.overflow.Wide.{Wide}
@@ -38,13 +36,10 @@ pub record Traced : Type 0 where
 abbrev pub MetElsewhere : Type 0
 MetElsewhere = Scope → Expr → List Wide
 
-abbrev pub operation_form : WideOp → Form → Form → List Wide
-operation_form op (integer a) (integer b) = record { op = op; a = a; b = b } ∷ []
-operation_form op a b = []
-
 -- an operation on two whole numbers; none on bits
 abbrev pub operation : WideOp → Value → Value → List Wide
-operation op v w = operation_form op (out-Value v) (out-Value w)
+operation op (whole a) (whole b) = record { op = op; a = a; b = b } ∷ []
+operation op v w = []
 
 -- the operations of a sum, from the left
 unfoldable pub sum_operations : Value → List SumSign → List Value → List Wide
@@ -65,12 +60,12 @@ operations_of_product [] = []
 operations_of_product (v ∷ vs) = product_operations v vs
 
 -- a whole number is negated as 0 minus it
-abbrev pub negation_form : Form → List Wide
-negation_form (integer a) = record { op = Sub; a = pos 0; b = a } ∷ []
-negation_form other = []
+abbrev pub negation : Value → List Wide
+negation (whole a) = record { op = Sub; a = pos 0; b = a } ∷ []
+negation other = []
 
 abbrev pub unary_operations : UnaryOperator → Value → List Wide
-unary_operations Negate v = negation_form (out-Value v)
+unary_operations Negate v = negation v
 unary_operations other v = []
 
 abbrev pub traced_value : Traced → Scope → Value

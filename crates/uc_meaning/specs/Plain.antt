@@ -17,16 +17,6 @@ abbrev pub AreVariables : List Cell → Type 0
 AreVariables [] = Unit {0}
 AreVariables (c ∷ cs) = (c.type ≡ boolean_type) × (is_input c.kind ≡ false) × AreVariables cs
 
--- Main has boolean variables alone, no label and no instance, and these are the names of its cells, in order.
-pub record IsPlain (system : System) (cells : List ℕ) : Type 0 where
-  pub code : Module
-  pub is_main : main_module system ≡ Some code
-  pub no_labels : (x : ℕ) → label_of system code x ≡ None
-  pub number : length cells ≡ length (cells_of system)
-  pub kinds : AreVariables (cells_of system)
-  pub places : (x : ℕ) → cell_of system [] x ≡ position_from (nat_eq x) 0 cells
-  pub variables : (x k : ℕ) → position_from (nat_eq x) 0 cells ≡ Some k → (type : TypeExpr) × (variable_of code x ≡ Some (Variable, type)) × (type_of_written system code type ≡ boolean_type)
-
 -- a scope of main outside all blocks with locals
 pub record IsTop (s : Scope) : Type 0 where
   pub path : s.path ≡ []

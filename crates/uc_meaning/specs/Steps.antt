@@ -16,7 +16,7 @@ use Rattle.uc_syntax.specs.declared.declaration.VariableKind.TheVariants.{Input}
 use Rattle.uc_syntax.specs.declared.declaration.Module.{Module}
 use Rattle.uc_values.specs.declared.ty.Ty.{Ty}
 use Rattle.uc_values.specs.declared.value.Value.{Value}
-use Rattle.uc_values.specs.Values.{same}
+use Rattle.uc_values.specs.Sameness.{same}
 use Rattle.uc_meaning.specs.declared.scope.Scope.{Scope}
 use Rattle.uc_meaning.specs.declared.scope.State.{State}
 use Rattle.uc_meaning.specs.declared.scope.Site.{Site}

@@ -1,17 +1,22 @@
 //! Sequential code.
 
-ghost use Rattle.std.specs.Prelude.{◌≡◌, IfOk};
+ghost use Rattle.std.specs.Prelude.{◌≡◌, ◌+◌, ◌≤◌, [], length, slice_set, true, false, IfOk};
+ghost use Rattle.std.specs.List.{list_all};
 ghost use Rattle.uc_meaning.specs.Code.{set_name, write_all, run};
 ghost use Rattle.uc_meaning.specs.Plain.{IsTop};
-ghost use Rattle.uc_meaning.specs.Ends.{IsEnd, IsFlow, begun};
+ghost use Rattle.uc_meaning.specs.Fragment.{variables, holds_name, assigns, written_by};
+ghost use Rattle.uc_meaning.specs.Cells.{IsInterpretation, cells_of};
+ghost use Rattle.uc_meaning.specs.Steps.{init, scope_of, state_of};
+ghost use Rattle.uc_meaning.specs.Ends.{IsEnd, IsInitEnd, init_begun, first_unfit, booleans, length_used, counted_from, GoesTo, begun};
 
-use crate::evaluation::{EvalError, evaluate_all, is_true};
+use crate::evaluation::{EvalError, eval_all};
 use crate::ordered::Ordered;
-use crate::scope::{Scope, Site};
+use crate::path::Path;
+use crate::scope::{Interp, Scope, Site, State};
 use std::alloc::Global;
 use uc_items::{Items, at};
 use uc_syntax::{Stmt, Target};
-use uc_values::{Value, copy};
+use uc_values::{Ty, Value, copy, copy_all, fits};
 
 /// How code ends.
 #[derive(Drop)]
@@ -36,19 +41,14 @@ pub fn run_code(
     code: &[Stmt],
     choices: &[Value],
 ) -> Result<CodeEnd, EvalError>
-    requires { IsTop s }
+    requires top { IsTop s }
+    requires simple { list_all (assigns false (variables d.now)) code.now ≡ true }
     ensures { IfOk result (λ end. IsEnd choices.now end (run d.now code.now (begun s choices.now))) }
 {
     let mut scope = s;
     for statement in code {
-        match run_statement(alloc, d, scope, statement)? {
-            Flow::Goes(next) => {
-                scope = next;
-            }
-            Flow::Stopped => {
-                return Ok(CodeEnd::Stopped);
-            }
-        }
+        let next = run_statement(alloc, d, scope, statement)?;
+        scope = next;
     }
     Ok(CodeEnd::Ended {
         scope,
@@ -57,34 +57,19 @@ pub fn run_code(
     })
 }
 
-/// Where a statement leads.
-#[derive(Drop)]
-enum Flow {
-    Goes(Scope),
-    Stopped,
-}
-
-/// Runs a statement that takes no choice and lists no site.
-fn run_statement(alloc: Global, d: &Ordered, s: Scope, statement: &Stmt) -> Result<Flow, EvalError>
-    requires { IsTop s }
-    ensures { IfOk result (λ flow. IsFlow d.now s statement.now flow) }
+/// Runs an assignment.
+fn run_statement(alloc: Global, d: &Ordered, s: Scope, statement: &Stmt) -> Result<Scope, EvalError>
+    requires top { IsTop s }
+    requires simple { assigns false (variables d.now) statement.now ≡ true }
+    ensures { IfOk result (λ t. GoesTo d.now s statement.now t) }
 {
     match statement {
-        Stmt::Skip(_) => Ok(Flow::Goes(s)),
-        Stmt::Assume(_, condition) => {
-            let holds = is_true(alloc, d, &s, condition)?;
-            if holds {
-                Ok(Flow::Goes(s))
-            } else {
-                Ok(Flow::Stopped)
-            }
-        }
         Stmt::Assign(_, targets, sources) => {
-            let values = evaluate_all(alloc, d, &s, sources.as_slice())?;
+            let values = eval_all(alloc, d, &s, sources.as_slice())?;
             let scope = write_all(alloc, d, s, targets.as_slice(), values.as_slice())?;
-            Ok(Flow::Goes(scope))
+            Ok(scope)
         }
-        _ => Err(EvalError::NotBuilt),
+        _ => unreachable!(),
     }
 }
 
@@ -96,7 +81,8 @@ fn write_all(
     targets: &[Target],
     values: &[Value],
 ) -> Result<Scope, EvalError>
-    requires { IsTop s }
+    requires top { IsTop s }
+    requires simple { list_all (written_by false (variables d.now)) targets.now ≡ true }
     ensures written { IfOk result (λ t. t ≡ write_all d.now targets.now values.now s) }
     ensures top { IfOk result IsTop }
 {
@@ -104,11 +90,8 @@ fn write_all(
     for (k, target) in targets.iter().enumerate() {
         match at(values, k) {
             Some(value) => {
-                if !target.parts.is_empty() {
-                    return Err(EvalError::NotBuilt);
-                }
                 let value = copy(alloc, value)?;
-                scope = set_name(d, scope, target.name, value)?;
+                scope = set_name(d, scope, target.name, value);
             }
             None => {
                 return Ok(scope);
@@ -120,21 +103,129 @@ fn write_all(
 
 /// Gives a variable of main a value.
 #[tactic(auto, using(crate::proofs::Writes::set_name_plain))]
-fn set_name(d: &Ordered, s: Scope, name: u32, value: Value) -> Result<Scope, EvalError>
-    requires { IsTop s }
-    ensures written { IfOk result (λ t. t ≡ set_name d.now s name value) }
-    ensures top { IfOk result IsTop }
+fn set_name(d: &Ordered, s: Scope, name: u32, value: Value) -> Scope
+    requires top { IsTop s }
+    requires known { holds_name (variables d.now) name ≡ true }
+    ensures written { result ≡ set_name d.now s name value }
+    ensures top { IsTop result }
 {
     let mut scope = s;
-    match d.cell(name) {
-        Some(k) => {
-            if k < scope.before.cells.len() {
-                scope.before.cells.set(k, value);
-                Ok(scope)
-            } else {
-                Err(EvalError::NotBuilt)
+    let k = d.cell(name);
+    set_cell(&mut scope.before.cells, k, value);
+    scope
+}
+
+/// Gives the cell of a number a value, where there is one.
+#[tactic(auto, using(std::proofs::lemmas::List::set_past))]
+fn set_cell(cells: &mut Items<Value>, k: usize, value: Value)
+    ensures { cells.new ≡ slice_set cells.old k value }
+{
+    if k < cells.len() {
+        cells.set(k, value);
+    }
+}
+
+/// Runs all init code from the state that the choices begin with.
+pub fn init_end(
+    alloc: Global,
+    d: &Ordered,
+    i: &Interp,
+    choices: &[Value],
+) -> Result<CodeEnd, EvalError>
+    requires interp { IsInterpretation d.now i.now }
+    ensures { IfOk result (λ end. IsInitEnd d.now i.now choices.now end) }
+{
+    d.keeps_fragment();
+    let count = d.cell_count();
+    match first_unfit(count, choices) {
+        Some(n) => Ok(CodeEnd::BadChoice(n)),
+        None => {
+            let end = init_from(alloc, d, i, count, choices)?;
+            Ok(end)
+        }
+    }
+}
+
+/// Runs all init code, where so many choices are the values of the cells.
+fn init_from(
+    alloc: Global,
+    d: &Ordered,
+    i: &Interp,
+    count: usize,
+    choices: &[Value],
+) -> Result<CodeEnd, EvalError>
+    requires interp { IsInterpretation d.now i.now }
+    requires cells { count ≡ length (cells_of d.now) }
+    requires enough { count ≤ length choices.now }
+    ensures { IfOk result (λ end. IsEnd choices.now end (init d.now (init_begun d.now i.now choices.now))) }
+{
+    d.keeps_fragment();
+    let scope = main_scope(alloc, d, i, &choices[..count])?;
+    let end = run_code(alloc, d, scope, d.init_block(), &choices[count..])?;
+    Ok(counted_from(count, choices.len(), end))
+}
+
+/// The same end, where the choices are counted from an earlier one.
+fn counted_from(count: usize, all: usize, end: CodeEnd) -> CodeEnd
+    requires { count + length_used end ≤ all }
+    ensures { result ≡ counted_from count end }
+{
+    match end {
+        CodeEnd::Ended {
+            scope,
+            violated,
+            used,
+        } => CodeEnd::Ended {
+            scope,
+            violated,
+            used: count + used,
+        },
+        CodeEnd::Stopped => CodeEnd::Stopped,
+        CodeEnd::BadChoice(n) => CodeEnd::BadChoice(count + n),
+    }
+}
+
+/// The scope of main in a state.
+pub fn main_scope(
+    alloc: Global,
+    d: &Ordered,
+    i: &Interp,
+    cells: &[Value],
+) -> Result<Scope, EvalError>
+    requires interp { IsInterpretation d.now i.now }
+    ensures { IfOk result (λ s. s ≡ scope_of i.now [] (state_of cells.now)) }
+{
+    d.keeps_fragment();
+    let cells = copy_all(alloc, cells)?;
+    Ok(Scope {
+        path: Path::main(alloc),
+        before: State { cells },
+        after: None,
+        at_entry: None,
+        copies: Items::new(alloc),
+        locals: Items::new(alloc),
+        interp: Interp {
+            consts: Items::new(alloc),
+            tables: Items::new(alloc),
+        },
+    })
+}
+
+/// The place of the first of so many truth values that is missing or none.
+fn first_unfit(count: usize, choices: &[Value]) -> Option<usize>
+    ensures { result ≡ first_unfit 0 (booleans count) choices.now }
+{
+    for k in 0..count {
+        match at(choices, k) {
+            Some(value) => {
+                if !fits(&Ty::Bool, value) {
+                    return Some(k);
+                }
+            }
+            None => {
+                return Some(k);
             }
         }
-        None => Err(EvalError::NotBuilt),
     }
+    None
 }

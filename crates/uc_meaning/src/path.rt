@@ -1,6 +1,6 @@
 //! Paths of instances.
 
-ghost use Rattle.std.specs.Prelude.{◌≡◌, IfOk};
+ghost use Rattle.std.specs.Prelude.{◌≡◌, [], IfOk};
 
 use smallvec::SmallVec;
 use std::alloc::{AllocError, Global};
@@ -21,6 +21,15 @@ impl Model for Path {
 }
 
 impl Path {
+    /// The path of main.
+    pub fn main(alloc: Global) -> Path
+        ensures { result ≡ [] }
+    {
+        Path {
+            names: SmallVec::new(alloc),
+        }
+    }
+
     pub fn from_slice(alloc: Global, names: &[u32]) -> Result<Path, AllocError>
         ensures { IfOk result (λ p. p ≡ names.now) }
     {

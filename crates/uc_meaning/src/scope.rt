@@ -1,9 +1,12 @@
 //! What an expression or a statement is read in.
 
+ghost use Rattle.std.specs.Prelude.{◌≡◌, IfOk};
+
 use crate::path::Path;
+use std::alloc::{AllocError, Global};
 use uc_items::Items;
 use uc_syntax::Place;
-use uc_values::{Table, Ty, Value};
+use uc_values::{Table, Ty, Value, copy_all};
 
 /// A value for each constant and a table for each function of the modules in use, by module and declaration.
 #[derive(Drop)]
@@ -16,6 +19,14 @@ pub struct Interp {
 #[derive(Drop)]
 pub struct State {
     pub cells: Items<Value>,
+}
+
+/// The same state again.
+pub fn copy_state(alloc: Global, state: &State) -> Result<State, AllocError>
+    ensures { IfOk result (λ s. s ≡ state.now) }
+{
+    let cells = copy_all(alloc, state.cells.as_slice())?;
+    Ok(State { cells })
 }
 
 /// A parameter, a result, a local variable or a loop variable.

@@ -1,43 +1,49 @@
 //! Steps.
 
-ghost use Rattle.std.specs.Prelude.{◌≡◌, ◌||◌, [], IfOk};
+ghost use Rattle.std.specs.Prelude.{◌≡◌, ◌||◌, [], true, Some, IfOk};
+ghost use Rattle.std.specs.List.{list_all};
 ghost use Rattle.uc_values.specs.Values.{same_scalar};
-ghost use Rattle.uc_meaning.specs.Steps.{is_written, main_next};
+ghost use Rattle.uc_meaning.specs.Cells.{IsState, IsInterpretation};
+ghost use Rattle.uc_meaning.specs.Expressions.{in_cell};
+ghost use Rattle.uc_meaning.specs.Steps.{is_written, step_scope, main_next};
 ghost use Rattle.uc_meaning.specs.Plain.{IsTop};
-ghost use Rattle.uc_meaning.specs.Answers.{new_state, IsStepScope, AsksBlock, AsksStatement, AsksTargets, AsksTarget, whole_cells, all_kept, IsStepAnswer};
+ghost use Rattle.uc_meaning.specs.Fragment.{variables, assigns, written_by};
+ghost use Rattle.uc_meaning.specs.Answers.{new_state, AsksBlock, AsksStatement, AsksTargets, AsksTarget, whole_cells, all_kept, IsStepAnswer};
 
-use crate::evaluation::{EvalError, evaluate_all, is_true};
+use crate::evaluation::{EvalError, eval_all};
 use crate::ordered::Ordered;
-use crate::scope::{Scope, Site, State};
+use crate::path::Path;
+use crate::scope::{Interp, Scope, Site, State, copy_state};
 use std::alloc::Global;
 use uc_items::{Items, at};
 use uc_syntax::{Stmt, Target};
 use uc_values::{Value, same_scalar};
 
-/// Whether a scope goes from its old state to its new one by a step of main with just these choices; and then the listed sites. The block is that of main.
+/// Whether a new state follows an old one by a step with just these choices; and then the listed sites.
 pub fn step_holds(
     alloc: Global,
     d: &Ordered,
-    s: &Scope,
-    block: &[Stmt],
+    i: &Interp,
+    old: &State,
+    new: &State,
     choices: &[Value],
 ) -> Result<Option<Items<Site>>, EvalError>
-    requires block { block.now ≡ main_next d.now }
-    requires scope { IsStepScope d.now s.now }
-    ensures { IfOk result (λ answer. IsStepAnswer d.now s.now choices.now answer) }
+    requires interp { IsInterpretation d.now i.now }
+    requires old { IsState d.now old.now }
+    requires new { IsState d.now new.now }
+    ensures { IfOk result (λ answer. IsStepAnswer d.now i.now old.now new.now choices.now answer) }
 {
-    let asked = check_block(alloc, d, s, block)?;
+    let asked = asks(alloc, d, i, old, new)?;
     let Some(written) = asked else {
         return Ok(None);
     };
     if !choices.is_empty() {
         return Ok(None);
     }
-    d.has_variables_alone();
-    let new = new_state(s);
+    d.keeps_fragment();
     if keeps_rest(
         written.as_slice(),
-        s.before.cells.as_slice(),
+        old.cells.as_slice(),
         new.cells.as_slice(),
     ) {
         Ok(Some(Items::new(alloc)))
@@ -46,25 +52,60 @@ pub fn step_holds(
     }
 }
 
-/// The new state of a scope.
-fn new_state(s: &Scope) -> &State
-    ensures { result.now ≡ new_state s.now }
+/// What main's `next` block asks of an old and a new state.
+fn asks(
+    alloc: Global,
+    d: &Ordered,
+    i: &Interp,
+    old: &State,
+    new: &State,
+) -> Result<Option<Items<usize>>, EvalError>
+    requires interp { IsInterpretation d.now i.now }
+    ensures { IfOk result (λ answer. AsksBlock d.now (step_scope i.now old.now new.now) (main_next d.now) answer) }
 {
-    match &s.after {
-        Some(after) => after,
-        None => &s.before,
-    }
+    let s = step_scope(alloc, d, i, old, new)?;
+    let asked = check_block(alloc, d, &s, d.next_block())?;
+    Ok(asked)
+}
+
+/// The scope in which main's `next` block is read.
+fn step_scope(
+    alloc: Global,
+    d: &Ordered,
+    i: &Interp,
+    old: &State,
+    new: &State,
+) -> Result<Scope, EvalError>
+    requires interp { IsInterpretation d.now i.now }
+    ensures { IfOk result (λ s. s ≡ step_scope i.now old.now new.now) }
+{
+    d.keeps_fragment();
+    let before = copy_state(alloc, old)?;
+    let after = copy_state(alloc, new)?;
+    Ok(Scope {
+        path: Path::main(alloc),
+        before,
+        after: Some(after),
+        at_entry: None,
+        copies: Items::new(alloc),
+        locals: Items::new(alloc),
+        interp: Interp {
+            consts: Items::new(alloc),
+            tables: Items::new(alloc),
+        },
+    })
 }
 
 /// What the statements of a block ask: none where they do not hold, else the cells that they write.
-#[tactic(auto, using(crate::proofs::Asks::block_begin, crate::proofs::Asks::block_more, crate::proofs::Asks::block_broken, crate::proofs::Asks::block_end))]
+#[tactic(auto, using(crate::proofs::Asks::block_begin, crate::proofs::Asks::block_more, crate::proofs::Asks::block_broken, crate::proofs::Asks::block_end, crate::proofs::Simple::all_at))]
 fn check_block(
     alloc: Global,
     d: &Ordered,
     s: &Scope,
     block: &[Stmt],
 ) -> Result<Option<Items<usize>>, EvalError>
-    requires { IsTop s.now }
+    requires top { IsTop s.now }
+    requires simple { list_all (assigns true (variables d.now)) block.now ≡ true }
     ensures { IfOk result (λ answer. AsksBlock d.now s.now block.now answer) }
 {
     let mut written = Items::new(alloc);
@@ -88,25 +129,17 @@ fn check_statement(
     s: &Scope,
     statement: &Stmt,
 ) -> Result<Option<Items<usize>>, EvalError>
-    requires { IsTop s.now }
+    requires top { IsTop s.now }
+    requires simple { assigns true (variables d.now) statement.now ≡ true }
     ensures { IfOk result (λ answer. AsksStatement d.now s.now statement.now answer) }
 {
     match statement {
-        Stmt::Skip(_) => Ok(Some(Items::new(alloc))),
-        Stmt::Assume(_, condition) => {
-            let holds = is_true(alloc, d, s, condition)?;
-            if holds {
-                Ok(Some(Items::new(alloc)))
-            } else {
-                Ok(None)
-            }
-        }
         Stmt::Assign(_, targets, sources) => {
-            let values = evaluate_all(alloc, d, s, sources.as_slice())?;
+            let values = eval_all(alloc, d, s, sources.as_slice())?;
             let asked = check_targets(alloc, d, s, targets.as_slice(), values.as_slice())?;
             Ok(asked)
         }
-        _ => Err(EvalError::NotBuilt),
+        _ => unreachable!(),
     }
 }
 
@@ -119,13 +152,14 @@ fn check_targets(
     targets: &[Target],
     values: &[Value],
 ) -> Result<Option<Items<usize>>, EvalError>
-    requires { IsTop s.now }
+    requires top { IsTop s.now }
+    requires simple { list_all (written_by true (variables d.now)) targets.now ≡ true }
     ensures { IfOk result (λ answer. AsksTargets d.now s.now targets.now values.now answer) }
 {
     let mut written = Items::new(alloc);
     for (k, target) in targets.iter().enumerate() {
         match at(values, k) {
-            Some(value) => match check_target(d, s, target, value)? {
+            Some(value) => match check_target(d, s, target, value) {
                 Some(cell) => {
                     written.push(cell)?;
                 }
@@ -142,27 +176,36 @@ fn check_targets(
 }
 
 /// The cell of a target, where it has the value in the new state.
-fn check_target(
-    d: &Ordered,
-    s: &Scope,
-    target: &Target,
-    value: &Value,
-) -> Result<Option<usize>, EvalError>
-    requires { IsTop s.now }
-    ensures { IfOk result (λ answer. AsksTarget d.now s.now target.now value.now answer) }
+fn check_target(d: &Ordered, s: &Scope, target: &Target, value: &Value) -> Option<usize>
+    requires top { IsTop s.now }
+    requires simple { written_by true (variables d.now) target.now ≡ true }
+    ensures { AsksTarget d.now s.now target.now value.now result }
 {
-    if !target.parts.is_empty() {
-        return Err(EvalError::NotBuilt);
+    let k = d.cell(target.name);
+    if holds(new_state(s), k, value) {
+        Some(k)
+    } else {
+        None
     }
-    match d.cell(target.name) {
-        Some(k) => match at(new_state(s).cells.as_slice(), k) {
-            Some(new) => {
-                let same = same_scalar(new, value);
-                if same { Ok(Some(k)) } else { Ok(None) }
-            }
-            None => Err(EvalError::NotBuilt),
-        },
-        None => Err(EvalError::NotBuilt),
+}
+
+/// The new state of a scope.
+fn new_state(s: &Scope) -> &State
+    ensures { result.now ≡ new_state s.now }
+{
+    match &s.after {
+        Some(after) => after,
+        None => &s.before,
+    }
+}
+
+/// Whether a cell of a state has a value.
+fn holds(state: &State, k: usize, value: &Value) -> bool
+    ensures { result ≡ same_scalar (in_cell state.now (Some k)) value.now }
+{
+    match at(state.cells.as_slice(), k) {
+        Some(now) => same_scalar(now, value),
+        None => same_scalar(&Value::Bool(false), value),
     }
 }
 

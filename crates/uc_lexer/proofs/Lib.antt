@@ -1,0 +1,14 @@
+pub mod Fronts
+pub mod Words
+pub mod Numbers
+pub mod Positions
+pub mod Gaps
+pub mod Steps
+pub mod Tables
+pub mod Classes
+pub mod Spellings
+pub mod Limits
+pub mod Literals
+pub mod Found
+pub mod Signs
+pub mod Next

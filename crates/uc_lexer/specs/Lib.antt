@@ -1,0 +1,9 @@
+pub mod Bytes
+pub mod Table
+pub mod Places
+pub mod Gap
+pub mod Spelling
+pub mod Text
+pub mod Reading
+pub mod Ahead
+pub mod Lexer

@@ -1,0 +1,9 @@
+//! Linear forms over numbered variables, exact in 128 signed bits.
+#![tactic(auto)]
+
+mod exact;
+mod form;
+mod merge;
+
+pub use exact::{LinearError, Wide, WideOp, difference, product, sum};
+pub use form::{Form, add, scale};

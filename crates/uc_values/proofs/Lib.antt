@@ -1,0 +1,10 @@
+pub mod Shapes
+pub mod Scalars
+pub mod Fitting
+pub mod Stores
+pub mod Agreement
+pub mod Words
+pub mod Counting
+pub mod Numbered
+pub mod Everywhere
+pub mod Widths
