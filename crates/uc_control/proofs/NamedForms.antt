@@ -1,9 +1,7 @@
 -- The names in each form of statement, in terms of its parts.
 use Rattle.std.proofs.Common.{◌≡◌, ◌≤◌, ◌⊎◌, inl, inr, List, [], ◌∷◌, ◌++◌, length, take, map, refl, ap, sym, ◌∙◌, append_assoc}
 use Rattle.std.specs.Prelude.{ℕ, Bool, Option, Some, None}
-use Rattle.std.specs.Option.{option_map}
 use Rattle.std.proofs.lemmas.List.{append-nil, take_all}
-use Rattle.std.specs.List.{flat_map}
 use Rattle.uc_syntax.specs.declared.place.Place.{Place}
 use Rattle.uc_syntax.specs.declared.place.Identifier.{Identifier}
 use Rattle.uc_syntax.specs.declared.type_expression.TypeExpr.{TypeExpr}
@@ -16,8 +14,7 @@ use Rattle.uc_syntax.specs.declared.statement.Stmt.TheVariants.{Local, Skip, Ass
 use Rattle.uc_syntax.specs.declared.statement.Target.{Target}
 use Rattle.uc_syntax.specs.declared.expression.Expr.{Expr}
 use Rattle.uc_syntax.specs.declared.statement.Stmt.TheFolds.{map-Stmt, fold-roll-Stmt}
-use Rattle.uc_meaning.specs.Cells.{as_list}
-use Rattle.uc_control.specs.Named.{Named, joined, arms_named, named_form, named_in, label_named, named_in_block, named_in_arms, named_in_else}
+use Rattle.uc_control.specs.Named.{Named, joined, named_form, named_in, label_named, named_in_block, named_in_arms, named_in_else}
 
 joined-map : (ss : List Stmt) → joined (map named_in ss) ≡ named_in_block ss
 joined-map [] = refl

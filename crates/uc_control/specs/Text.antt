@@ -1,6 +1,6 @@
 -- The text of a report, as bytes.
-use Rattle.std.specs.Prelude.{ℕ, Bool, if◌then◌else◌, nat_eq, List, [], ◌++◌, codes, decimal, count_by, slice_get, slice_range, unwrap_or, Option, Some, None}
-use Rattle.std.specs.Option.{option_map, option_map_or, option_and_then}
+use Rattle.std.specs.Prelude.{ℕ, Bool, if◌then◌else◌, nat_eq, List, [], ◌++◌, codes, decimal, count_by, slice_get, slice_range, Option, Some, None}
+use Rattle.std.specs.Option.{option_map_or, option_and_then}
 use Rattle.std.specs.List.{flat_map}
 use Rattle.uc_syntax.specs.declared.place.Place.{Place}
 use Rattle.uc_syntax.specs.declared.declaration.Decl.{Decl}

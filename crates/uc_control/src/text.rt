@@ -1,11 +1,11 @@
 //! The text of a report.
 
-ghost use Rattle.std.specs.Prelude.{◌≡◌, ◌++◌, [], OnOk, IfOk, Bool, codes, decimal, map, slice_range, slice_get};
+ghost use Rattle.std.specs.Prelude.{◌≡◌, ◌++◌, OnOk, IfOk, decimal, slice_range};
 ghost use Rattle.std.specs.Option.{option_copied};
 ghost use Rattle.uc_control.specs.Described.{described};
 ghost use Rattle.uc_control.specs.Reports.{is_passed, is_failed, is_undecided};
 ghost use Rattle.uc_control.specs.Tables.{AreTables};
-ghost use Rattle.uc_control.specs.Text.{place_text, assertion_text, precondition_text, site_text, verdict_text, count_of, total_text, moment_text, procedure_text, path_text, clause_text, formula_text, subject_text, body_text, head_text, line_text, totals_text, print_text, report_text};
+ghost use Rattle.uc_control.specs.Text.{place_text, assertion_text, precondition_text, site_text, verdict_text, count_of, total_text, moment_text, path_text, clause_text, formula_text, subject_text, body_text, head_text, line_text, totals_text, print_text, report_text};
 
 use crate::design::DesignView;
 use crate::report::{LineResult, Print, Report, Verdict};

@@ -1,4 +1,3 @@
-use Rattle.std.specs.Prelude.{OnOk}
 use Rattle.std.proofs.lemmas.Result.{on_ok_weaker}
 use Rattle.uc_control.proofs.NamedForms.{named_arms_alone, named_arms_else}
 use Rattle.uc_control.proofs.named.+named.Goals as goal

@@ -1,4 +1,4 @@
-use Rattle.std.proofs.Common.{◌∙◌, sym}
+use Rattle.std.proofs.Common.{◌∙◌}
 use Rattle.uc_control.specs.Described.{described}
 use Rattle.uc_control.proofs.Lookups.{module_from_more, module_from_lost, module_from_end}
 use Rattle.uc_control.proofs.design.DesignView.module_at.Goals as goal
