@@ -1,0 +1,5 @@
+pub mod Described
+pub mod Reports
+pub mod Text
+pub mod Tables
+pub mod Named
