@@ -2,7 +2,7 @@
 use Rattle.std.specs.Prelude.{ℕ, List, [], ◌∷◌, ◌++◌, Option, Some, None}
 use Rattle.std.specs.Option.{option_map}
 use Rattle.std.specs.List.{find, flat_map}
-use Rattle.uc_syntax.specs.declared.place.Place.{Place}
+use Rattle.uc_lexer.specs.declared.place.Place.{Place}
 use Rattle.uc_syntax.specs.declared.place.Identifier.{Identifier}
 use Rattle.uc_syntax.specs.declared.statement.Arm.{Arm}
 use Rattle.uc_syntax.specs.declared.statement.Stmt.{Stmt}

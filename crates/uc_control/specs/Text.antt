@@ -2,7 +2,7 @@
 use Rattle.std.specs.Prelude.{ℕ, Bool, if◌then◌else◌, nat_eq, List, [], ◌++◌, codes, decimal, count_by, slice_get, slice_range, Option, Some, None}
 use Rattle.std.specs.Option.{option_map_or, option_and_then}
 use Rattle.std.specs.List.{flat_map}
-use Rattle.uc_syntax.specs.declared.place.Place.{Place}
+use Rattle.uc_lexer.specs.declared.place.Place.{Place}
 use Rattle.uc_syntax.specs.declared.declaration.Decl.{Decl}
 use Rattle.uc_syntax.specs.declared.declaration.Decl.TheVariants.{Invariant, Hyperinvariant}
 use Rattle.uc_syntax.specs.declared.declaration.Command.{Command}
