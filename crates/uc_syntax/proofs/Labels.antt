@@ -3,7 +3,7 @@ use Rattle.std.proofs.Common.{◌≡◌, ℕ, Bool, List, [], ◌∷◌, ◌++�
 use Rattle.std.specs.List.{flat_map}
 use Rattle.std.proofs.lemmas.List.{map-append}
 use Rattle.std.proofs.lemmas.Grind.{flat_map-append}
-use Rattle.uc_syntax.specs.declared.place.Place.{Place}
+use Rattle.uc_lexer.specs.declared.place.Place.{Place}
 use Rattle.uc_syntax.specs.declared.place.Identifier.{Identifier}
 use Rattle.uc_syntax.specs.declared.type_expression.Parameter.{Parameter}
 use Rattle.uc_syntax.specs.declared.type_expression.TypeExpr.{TypeExpr}

@@ -3,9 +3,9 @@ use Rattle.std.proofs.Common.{◌≡◌, ◌≢◌, ◌+◌, ◌<◌, ◌≤◌,
 use Rattle.std.specs.List.{list_any, position, position_or_len, IsDistinct, AllByRecursion}
 use Rattle.std.specs.Str.{bytes_eq}
 use Rattle.std.proofs.lemmas.Slice.Eq.{bytes_eq-Decides}
-use Rattle.std.proofs.lemmas.List.{length-append, take-append-le}
+use Rattle.std.proofs.lemmas.List.{length-map, get_or-map, take_more}
 use Rattle.std.proofs.Math.Seq.{take-length, take-append_seam}
-use Rattle.std.proofs.lemmas.Option.{slice_get_within, slice_get_past}
+use Rattle.std.proofs.lemmas.Option.{slice_get-get_or}
 use Rattle.std.proofs.lemmas.Map.Keys.{IsDistinct-head, IsDistinct-tail}
 use Rattle.uc_syntax.specs.Numbering.{has_text, number_of, with_text, AreDistinct, KeepNumbers}
 
@@ -137,3 +137,31 @@ module _ {K : Type 0} (view : K → List ℕ) where
       let own : view k ≡ text = cc in
       absurd (absent ks (view k) (IsDistinct-head _ k ks d) i (a ∙ ap Some (sym own)))
   distinct_by_keys (k ∷ ks) d (suc i) (suc j) text a b = ap suc (distinct_by_keys ks (IsDistinct-tail _ k ks d) i j text a b)
+
+get_in_front : {A : Type 0} (xs : List A) (n k : ℕ) (x : A) → slice_get (take n xs) k ≡ Some x → (k < n) × (slice_get xs k ≡ Some x)
+get_in_front [] zero k x e = cc
+get_in_front [] (suc n) k x e = cc
+get_in_front (y ∷ ys) zero k x e = cc
+get_in_front (y ∷ ys) (suc n) zero x e = (omega arith, e)
+get_in_front (y ∷ ys) (suc n) (suc k) x e = let rest = get_in_front ys n k x e in (omega (arith, rest.0), rest.1)
+
+-- in a list in which no text stands twice, a name is not among those in front of it
+pub next_is_new : (names : List (List ℕ)) (i : ℕ) (text : List ℕ) → AreDistinct names → slice_get names i ≡ Some text → has_text (take i names) text ≡ false
+next_is_new names i text distinct e = by (has_text (take i names) text) refl
+  where
+    by : (b : Bool) → has_text (take i names) text ≡ b → has_text (take i names) text ≡ false
+    by true h =
+        let front = get_in_front names i (number_of (take i names) text) text (text_at (take i names) text h) in
+        let same : number_of (take i names) text ≡ i = distinct _ i text front.1 e in
+        absurd (omega (arith, front.0, same))
+    by false h = h
+
+-- the names so far, and the next one
+pub copy_more : {K : Type 0} (view : K → List ℕ) (ks : List K) (i : ℕ) (k : K) (before after : List (List ℕ)) (text : List ℕ) → AreDistinct (map view ks) →
+    before ≡ take i (map view ks) → i < length ks → k ≡ get_or ks i k → text ≡ view k → after ≡ with_text before text → after ≡ take (i + 1) (map view ks)
+copy_more view ks i k before after text distinct so_far within is own e =
+    let at : get_or (map view ks) i text ≡ text = get_or-map view ks i k text within ∙ sym (own ∙ ap view is) in
+    let here : i < length (map view ks) = omega (arith, within, length-map ks view) in
+    let new : has_text before text ≡ false =
+        ap (λ ns. has_text ns text) so_far ∙ next_is_new (map view ks) i text distinct (slice_get-get_or (map view ks) i text here ∙ ap Some at) in
+    e ∙ new_at_end before text new ∙ (λ j. so_far j ++ sym at j ∷ []) ∙ sym (take_more (map view ks) i text here)

@@ -1,7 +1,7 @@
 -- What a tree mentions: the numbers of its names and the files of its places, each as often as it stands there.
 use Rattle.std.specs.Prelude.{ℕ, Bool, true, nat_lt, List, [], ◌∷◌, ◌++◌, map, Option, Some, None, IsTrue}
 use Rattle.std.specs.List.{flat_map, list_all}
-use Rattle.uc_syntax.specs.declared.place.Place.{Place}
+use Rattle.uc_lexer.specs.declared.place.Place.{Place}
 use Rattle.uc_syntax.specs.declared.place.Identifier.{Identifier}
 use Rattle.uc_syntax.specs.declared.type_expression.Parameter.{Parameter}
 use Rattle.uc_syntax.specs.declared.type_expression.TypeExpr.{TypeExpr}

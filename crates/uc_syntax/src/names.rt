@@ -65,6 +65,18 @@ impl Names {
         Ok(number)
     }
 
+    /// The same names again, with the same numbers.
+    pub fn copy(&self, alloc: Global) -> Result<Names, AllocError>
+        ensures { IfOk result (λ n. n ≡ self.now) }
+    {
+        let texts = self.texts.as_slice();
+        let mut copy = Names::new(alloc);
+        for text in texts {
+            copy.intern(alloc, text.as_slice())?;
+        }
+        Ok(copy)
+    }
+
     /// The text of a name.
     pub fn text(&self, number: u32) -> &[u8]
         requires { number < length self.now }

@@ -1,12 +1,6 @@
-//! Where a token stands.
+//! Where a name stands.
 
-/// The file by its number from 0, the line and the column from 1.
-#[derive(Clone, Copy, Debug, PartialEq, Eq)]
-pub struct Place {
-    pub file: u16,
-    pub line: u32,
-    pub col: u32,
-}
+pub use uc_lexer::Place;
 
 /// A name by its number in the table of names, and the place of its token.
 #[derive(Clone, Copy, Debug, PartialEq, Eq)]

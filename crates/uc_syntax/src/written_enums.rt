@@ -221,12 +221,12 @@ fn add_declaration(
 #[tactic(auto, using(crate::proofs::Added::added_begin, crate::proofs::Added::added_more, crate::proofs::Added::added_end), unfolding(crate::specs::Labels::module_labels))]
 fn add_module(
     alloc: Global,
-    module: &Module,
+    whole: &Module,
     enums: &mut Items<Items<u32>>,
 ) -> Result<(), AllocError>
-    ensures { OnOk result (enums.new ≡ enums.old ++ module_labels module.now) }
+    ensures { OnOk result (enums.new ≡ enums.old ++ module_labels whole.now) }
 {
-    for declaration in module.decls.as_slice() {
+    for declaration in whole.decls.as_slice() {
         add_declaration(alloc, declaration, enums)?;
     }
     Ok(())
