@@ -26,11 +26,7 @@ fn names_of(alloc: Global, labels: &[Identifier]) -> Result<Items<u32>, AllocErr
 
 #[cycle(add_types)]
 #[tactic(auto, using(crate::proofs::Labels::labels_enumeration, crate::proofs::Labels::labels_record))]
-fn add_type(
-    alloc: Global,
-    ty: &TypeExpr,
-    enums: &mut Items<Items<u32>>,
-) -> Result<(), AllocError>
+fn add_type(alloc: Global, ty: &TypeExpr, enums: &mut Items<Items<u32>>) -> Result<(), AllocError>
     ensures { OnOk result (enums.new ≡ enums.old ++ type_labels ty.now) }
 {
     match ty {
@@ -142,11 +138,7 @@ fn add_statement(
 
 #[cycle(add_statements)]
 #[tactic(auto, using(crate::proofs::Added::added_begin, crate::proofs::Added::added_more, crate::proofs::Added::added_end))]
-fn add_block(
-    alloc: Global,
-    block: &[Stmt],
-    enums: &mut Items<Items<u32>>,
-) -> Result<(), AllocError>
+fn add_block(alloc: Global, block: &[Stmt], enums: &mut Items<Items<u32>>) -> Result<(), AllocError>
     ensures { OnOk result (enums.new ≡ enums.old ++ flat_map stmt_labels block.now) }
 {
     for statement in block {
@@ -234,10 +226,7 @@ fn add_module(
 
 /// The labels of every enum of a design: an enum's number is its place in this list.
 #[tactic(auto, using(crate::proofs::Added::added_begin, crate::proofs::Added::added_more, crate::proofs::Added::added_end))]
-pub(crate) fn labels_of(
-    alloc: Global,
-    modules: &[Module],
-) -> Result<Items<Items<u32>>, AllocError>
+pub(crate) fn labels_of(alloc: Global, modules: &[Module]) -> Result<Items<Items<u32>>, AllocError>
     ensures { IfOk result (λ ls. ls ≡ labels_of modules.now) }
 {
     let mut enums = Items::new(alloc);
