@@ -20,7 +20,7 @@ pub added_more : {X A : Type 0} (f : X → List A) (xs : List X) (before now aft
 added_more f xs before now after i x so_far within is e = record {
   is = e ∙ ap (λ ys. ys ++ f x) so_far.is ∙ append_assoc before (flat_map f (take i xs)) (f x)
       ∙ ap (λ ys. before ++ ys) (sym (ap (flat_map f) (take_more xs i x within) ∙ flat_map-append f (take i xs) (get_or xs i x ∷ [])
-          ∙ ap (λ y. flat_map f (take i xs) ++ y) (append_nil (f (get_or xs i x)) ∙ ap f (sym is))));
+      ∙ ap (λ y. flat_map f (take i xs) ++ y) (append_nil (f (get_or xs i x)) ∙ ap f (sym is))));
 }
 
 pub added_end : {X A : Type 0} (f : X → List A) (xs : List X) (before now : List A) (i : ℕ) → AddedUpTo f xs before i now → length xs ≤ i →

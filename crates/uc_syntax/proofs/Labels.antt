@@ -193,7 +193,7 @@ unfolding decl_labels
 labels_procedure place p =
     parameter_labels p.parameters (types_of_parameters p.results ++ types_in_block p.body)
     ∙ ap (λ ls. flat_map (λ q. type_labels q.ty) p.parameters ++ ls)
-        (parameter_labels p.results (types_in_block p.body) ∙ ap (λ ls. flat_map (λ q. type_labels q.ty) p.results ++ ls) (blocks_labels p.body))
+    (parameter_labels p.results (types_in_block p.body) ∙ ap (λ ls. flat_map (λ q. type_labels q.ty) p.results ++ ls) (blocks_labels p.body))
 
 pub labels_init : (place : Place) (block : List Stmt) → decl_labels (Init place block) ≡ flat_map stmt_labels block
 unfolding decl_labels

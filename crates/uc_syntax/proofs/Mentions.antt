@@ -227,13 +227,13 @@ mentions_cases place arms None =
 mentions_cases place arms (Some block) =
     fold-roll-Stmt (List Mention) stmt_form (CasesForm place arms (Some block)) ∙ (λ k. at_place place ++ (arms_same arms k ++ block_same block k))
 
-pub mentions_for : (place : Place) (i : Identifier) (type : Option TypeExpr) (from : RangeBound) (to : RangeBound) (block : List Stmt) → stmt_mentions (For place i type from to block) ≡ 
+pub mentions_for : (place : Place) (i : Identifier) (type : Option TypeExpr) (from : RangeBound) (to : RangeBound) (block : List Stmt) → stmt_mentions (For place i type from to block) ≡
     at_place place ++ (identifier_mentions i ++ (if_written type_mentions type ++ (bound_mentions from ++ (bound_mentions to ++ flat_map stmt_mentions block))))
 unfolding stmt_mentions roll-Stmt denote.Hole.Carrier.roll
 mentions_for place i type from to block = fold-roll-Stmt (List Mention) stmt_form (ForForm place i type from to block)
     ∙ ap (λ ms. at_place place ++ (identifier_mentions i ++ (if_written type_mentions type ++ (bound_mentions from ++ (bound_mentions to ++ ms))))) (block_same block)
 
-pub mentions_call : (place : Place) (targets : List Target) (i : Identifier) (arguments : List Expr) → stmt_mentions (Call place targets i arguments) ≡ 
+pub mentions_call : (place : Place) (targets : List Target) (i : Identifier) (arguments : List Expr) → stmt_mentions (Call place targets i arguments) ≡
     at_place place ++ (flat_map target_mentions targets ++ (identifier_mentions i ++ flat_map expr_mentions arguments))
 unfolding stmt_mentions roll-Stmt denote.Hole.Carrier.roll
 mentions_call place targets i arguments = fold-roll-Stmt (List Mention) stmt_form (CallForm place targets i arguments)

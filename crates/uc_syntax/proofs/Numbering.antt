@@ -163,5 +163,5 @@ copy_more view ks i k before after text distinct so_far within is own e =
     let at : get_or (map view ks) i text ≡ text = get_or-map view ks i k text within ∙ sym (own ∙ ap view is) in
     let here : i < length (map view ks) = omega (arith, within, length-map ks view) in
     let new : has_text before text ≡ false =
-        ap (λ ns. has_text ns text) so_far ∙ next_is_new (map view ks) i text distinct (slice_get-get_or (map view ks) i text here ∙ ap Some at) in
+    ap (λ ns. has_text ns text) so_far ∙ next_is_new (map view ks) i text distinct (slice_get-get_or (map view ks) i text here ∙ ap Some at) in
     e ∙ new_at_end before text new ∙ (λ j. so_far j ++ sym at j ∷ []) ∙ sym (take_more (map view ks) i text here)

@@ -4,11 +4,13 @@
 mod declaration;
 mod design;
 mod expression;
-mod written_enums;
 mod names;
 mod place;
 mod statement;
+#[cfg(test)]
+mod tests;
 mod type_expression;
+mod written_enums;
 
 pub use declaration::{
     Binding, Clause, Command, Decl, Module, Procedure, VariableKind, WrittenRun, copy_declarations,

@@ -26,11 +26,7 @@ fn names_of(alloc: Global, labels: &[Identifier]) -> Result<Items<u32>, AllocErr
 
 #[cycle(add_types)]
 #[tactic(auto, using(crate::proofs::Labels::labels_enumeration, crate::proofs::Labels::labels_record))]
-fn add_type(
-    alloc: Global,
-    ty: &TypeExpr,
-    enums: &mut Items<Items<u32>>,
-) -> Result<(), AllocError>
+fn add_type(alloc: Global, ty: &TypeExpr, enums: &mut Items<Items<u32>>) -> Result<(), AllocError>
     ensures { OnOk result (enums.new ≡ enums.old ++ type_labels ty.now) }
 {
     match ty {
@@ -142,11 +138,7 @@ fn add_statement(
 
 #[cycle(add_statements)]
 #[tactic(auto, using(crate::proofs::Added::added_begin, crate::proofs::Added::added_more, crate::proofs::Added::added_end))]
-fn add_block(
-    alloc: Global,
-    block: &[Stmt],
-    enums: &mut Items<Items<u32>>,
-) -> Result<(), AllocError>
+fn add_block(alloc: Global, block: &[Stmt], enums: &mut Items<Items<u32>>) -> Result<(), AllocError>
     ensures { OnOk result (enums.new ≡ enums.old ++ flat_map stmt_labels block.now) }
 {
     for statement in block {
@@ -221,12 +213,12 @@ fn add_declaration(
 #[tactic(auto, using(crate::proofs::Added::added_begin, crate::proofs::Added::added_more, crate::proofs::Added::added_end), unfolding(crate::specs::Labels::module_labels))]
 fn add_module(
     alloc: Global,
-    module: &Module,
+    whole: &Module,
     enums: &mut Items<Items<u32>>,
 ) -> Result<(), AllocError>
-    ensures { OnOk result (enums.new ≡ enums.old ++ module_labels module.now) }
+    ensures { OnOk result (enums.new ≡ enums.old ++ module_labels whole.now) }
 {
-    for declaration in module.decls.as_slice() {
+    for declaration in whole.decls.as_slice() {
         add_declaration(alloc, declaration, enums)?;
     }
     Ok(())
@@ -234,10 +226,7 @@ fn add_module(
 
 /// The labels of every enum of a design: an enum's number is its place in this list.
 #[tactic(auto, using(crate::proofs::Added::added_begin, crate::proofs::Added::added_more, crate::proofs::Added::added_end))]
-pub(crate) fn labels_of(
-    alloc: Global,
-    modules: &[Module],
-) -> Result<Items<Items<u32>>, AllocError>
+pub(crate) fn labels_of(alloc: Global, modules: &[Module]) -> Result<Items<Items<u32>>, AllocError>
     ensures { IfOk result (λ ls. ls ≡ labels_of modules.now) }
 {
     let mut enums = Items::new(alloc);

@@ -38,27 +38,27 @@ add_statement-returns-in-Next t c = adds_nothing stmt_labels _ _ _ c.in-Next.is 
 pub add_statement-returns-in_ok-add_block-in-For : goal.add_statement-returns-in_ok-add_block-in-For
 add_statement-returns-in_ok-add_block-in-For t c =
     adds_two stmt_labels _ _ _ c.in-For.is _ _ _ _
-        (labels_for _ _ _ _ _ _ ∙ (λ k. optional_labels c.in-For.ty ++ in_block (sym c.as_slice-in-For.ensures k)))
-        c.in_ok-add_optional_type-in-For.ensures c.in_ok-add_block-in-For.ensures
+    (labels_for _ _ _ _ _ _ ∙ (λ k. optional_labels c.in-For.ty ++ in_block (sym c.as_slice-in-For.ensures k)))
+    c.in_ok-add_optional_type-in-For.ensures c.in_ok-add_block-in-For.ensures
 
 pub add_statement-returns-in-None : goal.add_statement-returns-in-None
 add_statement-returns-in-None t c =
     adds_one stmt_labels _ _ _ (c.in-If.is ∙ ap (If _ _) c.in-None.is) _ _
-        (labels_if _ _ None ∙ append_nil _ ∙ ap in_arms (sym c.as_slice-in-If.ensures)) c.in_ok-add_arms-in-If.ensures
+    (labels_if _ _ None ∙ append_nil _ ∙ ap in_arms (sym c.as_slice-in-If.ensures)) c.in_ok-add_arms-in-If.ensures
 
 pub add_statement-returns-in_ok-add_block-in-Some : goal.add_statement-returns-in_ok-add_block-in-Some
 add_statement-returns-in_ok-add_block-in-Some t c =
     adds_two stmt_labels _ _ _ (c.in-If.is ∙ ap (If _ _) c.in-Some.is) _ _ _ _
-        (labels_if _ _ (Some _) ∙ (λ k. in_arms (sym c.as_slice-in-If.ensures k) ++ in_block (sym c.as_slice-in-Some.ensures k)))
-        c.in_ok-add_arms-in-If.ensures c.in_ok-add_block-in-Some.ensures
+    (labels_if _ _ (Some _) ∙ (λ k. in_arms (sym c.as_slice-in-If.ensures k) ++ in_block (sym c.as_slice-in-Some.ensures k)))
+    c.in_ok-add_arms-in-If.ensures c.in_ok-add_block-in-Some.ensures
 
 pub add_statement-returns-in-None-otherwise : goal.add_statement-returns-in-None-otherwise
 add_statement-returns-in-None-otherwise t c =
     adds_one stmt_labels _ _ _ (c.in-Case.is ∙ ap (Case _ _) c.in-None-otherwise.is) _ _
-        (labels_case _ _ None ∙ append_nil _ ∙ ap in_arms (sym c.as_slice-in-Case.ensures)) c.in_ok-add_arms-in-Case.ensures
+    (labels_case _ _ None ∙ append_nil _ ∙ ap in_arms (sym c.as_slice-in-Case.ensures)) c.in_ok-add_arms-in-Case.ensures
 
 pub add_statement-returns-in_ok-add_block-in-Some-otherwise : goal.add_statement-returns-in_ok-add_block-in-Some-otherwise
 add_statement-returns-in_ok-add_block-in-Some-otherwise t c =
     adds_two stmt_labels _ _ _ (c.in-Case.is ∙ ap (Case _ _) c.in-Some-otherwise.is) _ _ _ _
-        (labels_case _ _ (Some _) ∙ (λ k. in_arms (sym c.as_slice-in-Case.ensures k) ++ in_block (sym c.as_slice-in-Some-otherwise.ensures k)))
-        c.in_ok-add_arms-in-Case.ensures c.in_ok-add_block-in-Some-otherwise.ensures
+    (labels_case _ _ (Some _) ∙ (λ k. in_arms (sym c.as_slice-in-Case.ensures k) ++ in_block (sym c.as_slice-in-Some-otherwise.ensures k)))
+    c.in_ok-add_arms-in-Case.ensures c.in_ok-add_block-in-Some-otherwise.ensures

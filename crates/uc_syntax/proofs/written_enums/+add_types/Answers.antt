@@ -16,8 +16,8 @@ add_type-returns-in-Bits t c = adds_nothing type_labels _ _ _ c.in-Bits.is (labe
 pub add_type-returns-in_ok-add_type-in-Array-2 : goal.add_type-returns-in_ok-add_type-in-Array-2
 add_type-returns-in_ok-add_type-in-Array-2 t c =
     adds_two type_labels _ _ _ c.in-Array.is _ _ _ _
-        (labels_array _ _ _ ∙ (λ k. type_labels (sym c.get.ensures k) ++ type_labels (sym c.get-in-Array.ensures k)))
-        c.in_ok-add_type-in-Array.ensures c.in_ok-add_type-in-Array-2.ensures
+    (labels_array _ _ _ ∙ (λ k. type_labels (sym c.get.ensures k) ++ type_labels (sym c.get-in-Array.ensures k)))
+    c.in_ok-add_type-in-Array.ensures c.in_ok-add_type-in-Array-2.ensures
 
 pub add_type-returns-in-Named : goal.add_type-returns-in-Named
 add_type-returns-in-Named t c = adds_nothing type_labels _ _ _ c.in-Named.is (labels_named _ _)
