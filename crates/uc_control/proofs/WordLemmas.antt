@@ -5,7 +5,7 @@ use Rattle.std.specs.Prelude.{Option, Some, None, slice_get}
 use Rattle.std.specs.Borrow.{Bor}
 use Rattle.std.specs.Option.{option_map, option_map_or}
 use Rattle.uc_meaning.specs.Lines.{commands_of}
-use Rattle.uc_control.specs.Described.{Described}
+use Rattle.uc_meaning.specs.Lookup.{System}
 use Rattle.uc_control.specs.Text.{command_text, command_at}
 use Rattle.uc_control.specs.declared.tables.Tables.{Tables}
 use Rattle.uc_control.specs.Tables.{AreTables}
@@ -19,19 +19,19 @@ none_mapped f None y e = refl
 none_mapped f (Some a) y e = cc
 
 -- what the table has at a number
-get_word : (d : Described) (t : Tables) → AreTables d t → (n : ℕ) →
-    option_map (λ w. w.now) (slice_get t.words.items n) ≡ option_map (command_text d) (slice_get (commands_of d.system) n)
+get_word : (d : System) (t : Tables) → AreTables d t → (n : ℕ) →
+    option_map (λ w. w.now) (slice_get t.words.items n) ≡ option_map (command_text d) (slice_get (commands_of d) n)
 get_word d t are n =
-    sym (slice_get-map (λ w. w.now) t.words.items n) ∙ (ap (λ ws. slice_get ws n) are.words ∙ slice_get-map (command_text d) (commands_of d.system) n)
+    sym (slice_get-map (λ w. w.now) t.words.items n) ∙ (ap (λ ws. slice_get ws n) are.words ∙ slice_get-map (command_text d) (commands_of d) n)
 
-pub word_there : (d : Described) (t : Tables) → AreTables d t → (n : ℕ) (w : Bor (List ℕ)) →
+pub word_there : (d : System) (t : Tables) → AreTables d t → (n : ℕ) (w : Bor (List ℕ)) →
     Some w ≡ slice_get t.words.items n → w.now ≡ command_at d n
 unfolding command_at
 word_there d t are n w there =
-    some_mapped (command_text d) (slice_get (commands_of d.system) n) w.now [] (ap (option_map (λ w. w.now)) there ∙ get_word d t are n)
+    some_mapped (command_text d) (slice_get (commands_of d) n) w.now [] (ap (option_map (λ w. w.now)) there ∙ get_word d t are n)
 
-pub word_missing : (d : Described) (t : Tables) → AreTables d t → (n : ℕ) →
+pub word_missing : (d : System) (t : Tables) → AreTables d t → (n : ℕ) →
     None ≡ slice_get t.words.items n → [] ≡ command_at d n
 unfolding command_at
 word_missing d t are n missing =
-    none_mapped (command_text d) (slice_get (commands_of d.system) n) [] (ap (option_map (λ w. w.now)) missing ∙ get_word d t are n)
+    none_mapped (command_text d) (slice_get (commands_of d) n) [] (ap (option_map (λ w. w.now)) missing ∙ get_word d t are n)

@@ -2,11 +2,11 @@
 use Rattle.std.specs.Prelude.{◌≡◌, map}
 use Rattle.uc_meaning.specs.Lines.{commands_of}
 use Rattle.uc_control.specs.declared.tables.Tables.{Tables}
-use Rattle.uc_control.specs.Described.{Described}
+use Rattle.uc_meaning.specs.Lookup.{System}
 use Rattle.uc_control.specs.Named.{named_places}
 use Rattle.uc_control.specs.Text.{command_text}
 
 -- the texts of all commands of main in order, and the names in the code of all modules
-pub record AreTables (d : Described) (tables : Tables) : Type 0 where
-  pub words : map (λ w. w.now) tables.words.items ≡ map (command_text d) (commands_of d.system)
-  pub named : tables.named.items ≡ named_places d.system
+pub record AreTables (d : System) (tables : Tables) : Type 0 where
+  pub words : map (λ w. w.now) tables.words.items ≡ map (command_text d) (commands_of d)
+  pub named : tables.named.items ≡ named_places d

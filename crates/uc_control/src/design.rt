@@ -54,7 +54,7 @@ impl<'a> DesignView<'a> {
 
     /// The module of the instance at the end of a path.
     pub fn module_at(&self, path: &[u32]) -> Option<&'a Module>
-        ensures { option_copied result ≡ module_at (described self.now).system path.now }
+        ensures { option_copied result ≡ module_at (described self.now) path.now }
     {
         let mut here = self.modules.get(self.main as usize)?;
         for name in path {
@@ -76,7 +76,7 @@ impl<'a> DesignView<'a> {
 
     /// The declarations of main.
     pub fn main_declarations(&self) -> &'a [Decl]
-        ensures { result.now ≡ main_declarations (described self.now).system }
+        ensures { result.now ≡ main_declarations (described self.now) }
     {
         match at(self.modules, self.main as usize) {
             Some(main) => main.decls.as_slice(),
@@ -86,7 +86,7 @@ impl<'a> DesignView<'a> {
 
     /// The declaration of a number in the module of the instance at the end of a path.
     pub fn decl_at(&self, path: &[u32], decl: u32) -> Option<&'a Decl>
-        ensures { option_copied result ≡ option_and_then (λ m. slice_get m.decls decl) (module_at (described self.now).system path.now) }
+        ensures { option_copied result ≡ option_and_then (λ m. slice_get m.decls decl) (module_at (described self.now) path.now) }
     {
         let module = self.module_at(path)?;
         at(module.decls.as_slice(), decl as usize)
@@ -94,7 +94,7 @@ impl<'a> DesignView<'a> {
 
     /// The module of an instance in a module.
     fn module_below(&self, here: &Module, name: u32) -> Option<&'a Module>
-        ensures { option_copied result ≡ option_and_then (λ i. module_named (described self.now).system i.module_name) (instance_of here.now name) }
+        ensures { option_copied result ≡ option_and_then (λ i. module_named (described self.now) i.module_name) (instance_of here.now name) }
     {
         let module = module_of_instance(here.decls.as_slice(), name)?;
         module_named(self.modules, module)

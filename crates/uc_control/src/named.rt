@@ -15,7 +15,7 @@ pub type Named = (Place, u32);
 /// The names in the code of all modules.
 #[tactic(auto, unfolding(crate::specs::Named::named_places))]
 pub fn named_places(alloc: Global, d: &DesignView<'_>) -> Result<Vec<Named>, AllocError>
-    ensures { IfOk result (λ named. named.items ≡ named_places (described d.now).system) }
+    ensures { IfOk result (λ named. named.items ≡ named_places (described d.now)) }
 {
     let mut named = Vec::new(alloc);
     for module in d.modules {

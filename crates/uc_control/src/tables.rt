@@ -72,7 +72,7 @@ fn same_place(a: Place, b: Place) -> bool
 }
 
 fn command_words<'a>(alloc: Global, d: &DesignView<'a>) -> Result<Vec<&'a [u8]>, AllocError>
-    ensures { IfOk result (λ words. map (λ w. w.now) words.items ≡ map (command_text (described d.now)) (commands_of (described d.now).system)) }
+    ensures { IfOk result (λ words. map (λ w. w.now) words.items ≡ map (command_text (described d.now)) (commands_of (described d.now))) }
 {
     let mut words = Vec::new(alloc);
     for decl in d.main_declarations() {

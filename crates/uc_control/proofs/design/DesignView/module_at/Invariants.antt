@@ -5,4 +5,4 @@ use Rattle.uc_control.proofs.design.DesignView.module_at.Given as goal
 
 abbrev pub invariant-loop-name : goal.invariant-loop-name
 invariant-loop-name l =
-    module_from (described l.self).system l.here (drop l.name-index l.path) ≡ module_at (described l.self).system l.path
+    module_from (described l.self) l.here (drop l.name-index l.path) ≡ module_at (described l.self) l.path
