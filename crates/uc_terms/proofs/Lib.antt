@@ -1,0 +1,5 @@
+pub mod Growth
+pub mod Told
+pub mod Values
+pub mod Grown
+pub mod Sharing

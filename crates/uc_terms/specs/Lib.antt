@@ -1,0 +1,5 @@
+pub mod Along
+pub mod Tables
+pub mod Values
+pub mod Subterms
+pub mod Laws

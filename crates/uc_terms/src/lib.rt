@@ -1,0 +1,7 @@
+//! Terms: a table of nodes whose parts have smaller numbers, no two of which are equal.
+#![tactic(auto)]
+
+mod terms;
+
+pub use terms::Terms;
+pub use uc_ops::{Model, Node, Op, SymbolMap, TermId};
