@@ -1,3 +1,5 @@
 pub mod Lists
 pub mod Typed
 pub mod Rebuilt
+pub mod Differing
+pub mod Fitting
