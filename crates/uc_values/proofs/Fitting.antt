@@ -135,13 +135,16 @@ zero-Arr i e = ap zero_of (sym (rolls-Arr i e)) ∙ fold-roll-Ty Value zero_form
 pub fits-Enum : (n k : ℕ) (v : Value) → fits (Label n k) v ≡ fits_form (enum_type n k) (out-Value v)
 fits-Enum n k v = ap (λ ty. fits ty v) (sym (rolls-Enum n k)) ∙ ap (λ f. f v) (fold-roll-Ty Test step (enum_type n k))
 
-zero_label : (n k : ℕ) → nat_lt 0 k ≡ true → IsTrue (fits (Label n k) (Enum n 0))
-zero_label n k h =
-    let e : fits_form (enum_type n k) (out-Value (Enum n 0)) ≡ (nat_eq n n && nat_lt 0 k) = search (rules, the_lemmas) in
-    let t : (nat_eq n n && nat_lt 0 k) ≡ true = grind (arith, nat_tests) in
-    fits-Enum n k (Enum n 0) ∙ e ∙ t
+pub fits-IsLabel : (n k l : ℕ) → l < k → IsTrue (fits (Label n k) (Enum n l))
+fits-IsLabel n k l h =
+    let e : fits_form (enum_type n k) (out-Value (Enum n l)) ≡ (nat_eq n n && nat_lt l k) = search (rules, the_lemmas) in
+    let t : (nat_eq n n && nat_lt l k) ≡ true = grind (arith, nat_tests) in
+    fits-Enum n k (Enum n l) ∙ e ∙ t
 
-fits-Un : (n k : ℕ) → IsTrue (fits (Open n) (Un n k))
+zero_label : (n k : ℕ) → nat_lt 0 k ≡ true → IsTrue (fits (Label n k) (Enum n 0))
+zero_label n k h = fits-IsLabel n k 0 (grind (arith, nat_tests))
+
+pub fits-Un : (n k : ℕ) → IsTrue (fits (Open n) (Un n k))
 fits-Un n k =
     let e : fits_form (open_type n) (out-Value (Un n k)) ≡ nat_eq n n = search (rules, the_lemmas) in
     let t : nat_eq n n ≡ true = grind (arith, nat_tests) in

@@ -2,3 +2,9 @@ pub mod Shapes
 pub mod Scalars
 pub mod Fitting
 pub mod Stores
+pub mod Agreement
+pub mod Words
+pub mod Counting
+pub mod Numbered
+pub mod Everywhere
+pub mod Widths

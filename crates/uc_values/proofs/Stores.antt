@@ -5,7 +5,7 @@ use Rattle.std.proofs.Common.{rules, refl, sym, ap, ◌∙◌, subst}
 use Rattle.uc_values.specs.Values.{Exception, fits, same_scalar, lists, distinct, indices}
 use Rattle.uc_values.specs.Arrays.{element_at, at, stored, store}
 use Rattle.uc_values.proofs.Shapes.{and_true}
-use Rattle.uc_values.proofs.Scalars.{same_scalar-sym}
+use Rattle.uc_values.proofs.Scalars.{same_scalar-sym, same_scalar-eq}
 use Rattle.uc_values.proofs.Fitting.{IsArray-fits, fits-IsArray}
 use Rattle.uc_values.specs.declared.ty.Ty.{Ty}
 use Rattle.uc_values.specs.declared.ty.Ty.TheVariants.{Arr as Array}
@@ -94,3 +94,31 @@ store-fits s e a i x h f g =
     subst (λ v. IsTrue (fits (Array s e) (store v i x))) (sym r.is)
     (subst (λ v. IsTrue (fits (Array s e) v)) (sym (store-Arr r.default r.rows i x))
     (fits-IsArray s e r.default (stored r.rows i x) r.default_fits (stored_indices s r.rows i x f r.indices_fit) (stored_elements e r.rows i x g r.elements_fit) (stored_distinct r.rows i x r.distinct)))
+
+either : (b : Bool) (x y z : Value) → cond b x z ≡ cond b x (cond b y z)
+either true x y z = refl
+either false x y z = refl
+
+by_two : (P : Bool → Type 0) (b : Bool) → (b ≡ true → P true) → (b ≡ false → P false) → P b
+by_two P true t f = t refl
+by_two P false t f = f refl
+
+-- an index that is the same as another has what is stored there, and any other what it had
+pub element_at-stored : (d : Value) (rows : List Exception) (i x j : Value) → element_at d (stored rows i x) j ≡ cond (same_scalar i j) x (element_at d rows j)
+element_at-stored d [] i x j = refl
+element_at-stored d (row ∷ rows) i x j =
+    by_two (λ t. same_scalar row.0 i ≡ t → element_at d (cond t ((row.0, x) ∷ rows) (row ∷ stored rows i x)) j ≡ cond (same_scalar i j) x (element_at d (row ∷ rows) j)) (same_scalar row.0 i)
+    (λ e u.
+    let place : row.0 ≡ i = same_scalar-eq row.0 i e in
+    subst (λ k. cond (same_scalar k j) x (element_at d rows j) ≡ cond (same_scalar i j) x (cond (same_scalar k j) row.1 (element_at d rows j))) (sym place)
+    (either (same_scalar i j) x row.1 (element_at d rows j)))
+    (λ e u.
+    ap (λ v. cond (same_scalar row.0 j) row.1 v) (element_at-stored d rows i x j)
+    ∙ by_two (λ t. same_scalar row.0 j ≡ t → cond t row.1 (cond (same_scalar i j) x (element_at d rows j)) ≡ cond (same_scalar i j) x (cond t row.1 (element_at d rows j))) (same_scalar row.0 j)
+    (λ f w. sym (ap (λ b. cond b x row.1) (same_scalar-sym i j ∙ ap (λ k. same_scalar k i) (sym (same_scalar-eq row.0 j f)) ∙ e)))
+    (λ f w. refl) refl)
+    refl
+
+pub at-store : (d : Value) (rows : List Exception) (i x j : Value) → at (store (Arr d rows) i x) j ≡ cond (same_scalar i j) x (at (Arr d rows) j)
+at-store d rows i x j =
+    ap (λ a. at a j) (store-Arr d rows i x) ∙ at-Arr d (stored rows i x) j ∙ element_at-stored d rows i x j ∙ ap (λ v. cond (same_scalar i j) x v) (sym (at-Arr d rows j))

@@ -1,10 +1,12 @@
 -- When two values of a type are the same: part by part, and arrays where they hold the same at every index.
-use Rattle.std.specs.Prelude.{ℕ, ◌^◌, Bool, true, false, ◌&&◌, ◌||◌, nat_eq, if◌then◌else◌, List, [], ◌∷◌, length, Option, Some, None}
+use Rattle.std.specs.Prelude.{ℕ, ◌^◌, Bool, true, false, ◌&&◌, ◌||◌, nat_eq, if◌then◌else◌, List, [], ◌∷◌, length, map, Option, Some, None, IsTrue, ◌≡◌, ◌↔◌}
 use Rattle.std.specs.List.{list_all}
-use Rattle.uc_values.specs.Values.{Form, same_scalar, lists, indices, parts_of}
-use Rattle.uc_values.specs.Arrays.{element_at}
+use Rattle.uc_values.specs.Types.{is_scalar}
+use Rattle.uc_values.specs.Values.{Form, fits, same_scalar, lists, indices, parts_of}
+use Rattle.uc_values.specs.Arrays.{element_at, at}
 use Rattle.uc_values.specs.declared.ty.Field.{Field}
 use Rattle.uc_values.specs.declared.ty.Ty.{Ty}
+use Rattle.uc_values.specs.declared.ty.Ty.TheVariants.{Arr}
 use Rattle.uc_values.specs.declared.ty.Ty.TheFolds.{fold-Ty}
 use Rattle.uc_values.specs.declared.ty.Ty.TheOpen.{Ty-F}
 use Rattle.uc_values.specs.declared.ty.Ty.TheOpen.Ty-F.{Bool as boolean_type, Bv as bits_type, Enum as enum_type, Rec as record_type, Arr as array_type}
@@ -33,16 +35,16 @@ abbrev pub joined : List Value → List Value → List Value
 joined [] js = js
 joined (i ∷ is) js = if lists js i then joined is js else i ∷ joined is js
 
--- distinct values are all that there are, where there are so many
-abbrev pub are_all : Option ℕ → List Value → Bool
+-- so many distinct values of a type with this count are all that there are
+abbrev pub are_all : Option ℕ → ℕ → Bool
 are_all None listed = false
-are_all (Some n) listed = nat_eq n (length listed)
+are_all (Some n) listed = nat_eq n listed
 
 -- Two arrays agree at every index that either lists, and have the same default unless these are all values of the index type.
 abbrev pub same_arrays : Sameness → Sameness → Form → Form → Bool
 same_arrays index element (array d rows) (array e others) =
     list_all (λ i. element.same (element_at d rows i) (element_at e others i)) (joined (indices rows) (indices others))
-    && (are_all index.count (joined (indices rows) (indices others)) || element.same d e)
+    && (are_all index.count (length (joined (indices rows) (indices others))) || element.same d e)
 same_arrays index element a b = false
 
 abbrev pub same_form : Ty-F Sameness → Value → Value → Bool
@@ -59,3 +61,20 @@ sameness = fold-Ty Sameness sameness_form
 -- two values of a type are the same
 abbrev pub same : Ty → Value → Value → Bool
 same ty a b = (sameness ty).same a b
+
+-- the fields with the sameness of their types
+abbrev pub sames : List (Field Ty) → List (Field Sameness)
+sames fs = map (λ f. record { name = f.name; ty = sameness f.ty }) fs
+
+-- each of the first values passes or stands among the second
+abbrev pub all_or_listed : (Value → Bool) → List Value → List Value → Bool
+all_or_listed test is js = list_all (λ i. lists js i || test i) is
+
+-- two arrays hold the same at every index that fits
+abbrev pub Agrees : Ty → Ty → Value → Value → Type 0
+Agrees index element a b = (i : Value) → IsTrue (fits index i) → IsTrue (same element (at a i) (at b i))
+
+-- the answer says of fitting arrays whether they hold the same at every index that fits
+abbrev pub IsAgreement : Ty → Value → Value → Bool → Type 0
+IsAgreement ty a b answer =
+    (index element : Ty) → ty ≡ Arr index element → IsTrue (is_scalar index) → IsTrue (fits ty a) → IsTrue (fits ty b) → IsTrue answer ↔ Agrees index element a b
