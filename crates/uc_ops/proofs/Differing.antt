@@ -1,10 +1,10 @@
 -- An index at which two arrays differ fits the type of their indices.
-use Rattle.std.specs.Prelude.{◌≡◌, ℕ, ◌+◌, ◌^◌, ◌<◌, ◌≤◌, min, pos, Bool as Truth, true, false, cond, ◌&&◌, nat_eq, nat_lt, not, IsTrue, List, [], ◌∷◌, ◌++◌, map, length, Option, Some, None, zero, suc}
+use Rattle.std.specs.Prelude.{◌≡◌, ℕ, ◌+◌, ◌^◌, ◌<◌, ◌≤◌, min, pos, Bool as Truth, true, false, cond, ◌&&◌, ◌||◌, nat_eq, nat_lt, not, IsTrue, List, [], ◌∷◌, ◌++◌, map, length, Option, Some, None, zero, suc}
 use Rattle.std.specs.List.{list_all}
 use Rattle.std.proofs.Common.{refl, sym, ap, ◌∙◌, arith, subst, rules}
 use Rattle.std.proofs.lemmas.Bool.{false≢true}
 use Rattle.std.proofs.lemmas.Bool.Decides.{nat_tests}
-use Rattle.uc_values.specs.Values.{Form, Exception, fits, fits_form, zero_of, lists, indices}
+use Rattle.uc_values.specs.Values.{Form, Exception, fits, fits_form, zero_of, lists, indices, same_scalar}
 use Rattle.uc_values.specs.Types.{is_scalar}
 use Rattle.uc_values.specs.Sameness.{same}
 use Rattle.uc_values.specs.Arrays.{at}
@@ -22,6 +22,11 @@ use Rattle.uc_values.specs.declared.value.Value.TheViews.{out-Value, the_lemmas}
 use Rattle.uc_ops.specs.Typing.{Valid, index_of, element_of}
 use Rattle.uc_ops.specs.Differences.{nth_value, at_most, unlisted_from, unlisted, listed_in, default_of, first_difference, default_difference, value_or, difference_in, difference}
 use Rattle.uc_ops.proofs.Typed.{index-Arr, element-Arr}
+
+-- the first of two, else the second
+abbrev pub or_else : Option Value → Option Value → Option Value
+or_else None p = p
+or_else (Some v) p = Some v
 
 abbrev Fits : Ty → Value → Type 0
 Fits ty v = IsTrue (fits ty v)
@@ -116,3 +121,28 @@ pub difference-fits : (index element : Ty) (a b : Value) → Valid (Array index 
 difference-fits index element a b v f g =
     subst (λ i. Fits i (difference_in i (element_of (Array index element)) a b)) (sym (index-Arr index element))
     (subst (λ e. Fits index (difference_in index e a b)) (sym (element-Arr index element)) (difference_in-fits index element a b v f g))
+
+append_cases : (t : Truth) (o rest tail whole : Option Value) (i : Value) → o ≡ cond t rest (Some i) → (o ≡ rest → whole ≡ or_else o tail) → cond t whole (Some i) ≡ or_else o tail
+append_cases true o rest tail whole i h f = f h
+append_cases false o rest tail whole i h f = ap (λ x. or_else x tail) (sym h)
+
+-- the first difference in two lists is that in the first, else that in the second
+pub first_difference-append : (element : Ty) (a b : Value) (is js : List Value) (o : Option Value) → o ≡ first_difference element a b is
+    → first_difference element a b (is ++ js) ≡ or_else o (first_difference element a b js)
+first_difference-append element a b [] js o e = ap (λ x. or_else x (first_difference element a b js)) (sym e)
+first_difference-append element a b (i ∷ is) js o e =
+    append_cases (same element (at a i) (at b i)) o (first_difference element a b is) (first_difference element a b js) (first_difference element a b (is ++ js)) i e
+    (first_difference-append element a b is js o)
+
+-- a listed value is passed over
+pub unlisted_from-next : (ty : Ty) (listed : List Value) (n more less : ℕ) → more ≡ suc less → lists listed (nth_value ty n) ≡ true → unlisted_from ty listed n more ≡ unlisted_from ty listed (n + 1) less
+unlisted_from-next ty listed n more less e h =
+    ap (unlisted_from ty listed n) e ∙ ap (λ b. cond b (unlisted_from ty listed (n + 1) less) (Some (nth_value ty n))) h
+
+pub lists-append : (xs ys : List Value) (v : Value) → lists (xs ++ ys) v ≡ (lists xs v || lists ys v)
+lists-append [] ys v = refl
+lists-append (x ∷ xs) ys v = ap (λ b. same_scalar x v || b) (lists-append xs ys v) ∙ by (same_scalar x v)
+  where
+    by : (t : Truth) → (t || (lists xs v || lists ys v)) ≡ ((t || lists xs v) || lists ys v)
+    by true = refl
+    by false = refl

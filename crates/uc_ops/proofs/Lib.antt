@@ -3,3 +3,5 @@ pub mod Typed
 pub mod Rebuilt
 pub mod Differing
 pub mod Fitting
+pub mod Soundness
+pub mod Parts

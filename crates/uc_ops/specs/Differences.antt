@@ -45,8 +45,11 @@ default_form (array default rows) = default
 default_form other = nothing
 
 -- what an array lists, and what it holds elsewhere
+abbrev pub rows_in : Value → List Exception
+rows_in a = rows_form (out-Value a)
+
 abbrev pub listed_in : Value → List Value
-listed_in a = indices (rows_form (out-Value a))
+listed_in a = indices (rows_in a)
 
 abbrev pub default_of : Value → Value
 default_of a = default_form (out-Value a)

@@ -3,3 +3,4 @@ pub mod Decisions
 pub mod Typing
 pub mod Differences
 pub mod Meaning
+pub mod Met
