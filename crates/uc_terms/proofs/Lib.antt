@@ -3,3 +3,4 @@ pub mod Told
 pub mod Values
 pub mod Grown
 pub mod Sharing
+pub mod Walk

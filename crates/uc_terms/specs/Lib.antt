@@ -3,3 +3,5 @@ pub mod Tables
 pub mod Values
 pub mod Subterms
 pub mod Laws
+pub mod Met
+pub mod Marks

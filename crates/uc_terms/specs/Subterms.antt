@@ -1,5 +1,5 @@
 -- Subterms, and what they give to the numbers of symbols and functions.
-use Rattle.std.specs.Prelude.{◌≡◌, ℕ, IsTrue, List, slice_get, Some, All, Contains}
+use Rattle.std.specs.Prelude.{◌≡◌, ℕ, ◌≤◌, Bool, true, false, IsTrue, List, length, slice_get, slice_index_or, Some, All, Contains}
 use Rattle.std.specs.List.{AllZip}
 use Rattle.uc_values.specs.Values.{fits}
 use Rattle.uc_values.specs.declared.table.Table.{Table}
@@ -36,3 +36,18 @@ pub record FitsTerm (m : Model) (nodes : List Node) (t : ℕ) : Type 0 where
   pub symbols : (k number : ℕ) (ty : Ty) → IsSubterm nodes t k → HasOp nodes k (Symbol number ty) → (v : Value) × (slice_get m.symbols number ≡ Some v) × IsTrue (fits ty v)
   pub functions : (k number : ℕ) (ty : Ty) → IsSubterm nodes t k → HasOp nodes k (App number ty)
       → (table : Table) × (slice_get m.tables number ≡ Some table) × FitsTable (types_at nodes (parts_at nodes k)) ty table
+
+-- the number is that of a subterm of one of the terms
+pub record IsBelow (nodes : List Node) (roots : List ℕ) (k : ℕ) : Type 0 where
+  pub root : ℕ
+  pub listed : Contains roots root
+  pub below : IsSubterm nodes root k
+
+abbrev pub Marked : List Bool → ℕ → Type 0
+Marked marks k = slice_index_or marks k false ≡ true
+
+-- the marks are on the subterms of the terms
+pub record AreSubterms (nodes : List Node) (roots : List ℕ) (marks : List Bool) : Type 0 where
+  pub within : length marks ≤ length nodes
+  pub sound : (k : ℕ) → Marked marks k → IsBelow nodes roots k
+  pub complete : (k : ℕ) → IsBelow nodes roots k → Marked marks k
