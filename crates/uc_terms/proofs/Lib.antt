@@ -4,3 +4,6 @@ pub mod Values
 pub mod Grown
 pub mod Sharing
 pub mod Walk
+pub mod Fitting
+pub mod Ready
+pub mod Evaluating

@@ -5,3 +5,4 @@ pub mod Subterms
 pub mod Laws
 pub mod Met
 pub mod Marks
+pub mod Evaluated

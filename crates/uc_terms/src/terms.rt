@@ -57,6 +57,15 @@ impl Terms {
         self.nodes.len() as u32
     }
 
+    /// All nodes, by number.
+    pub fn nodes(&self) -> &[Node]
+        ensures nodes { result.now ≡ self.now }
+        ensures shared { NoTwoEqual self.now }
+        ensures well { WellTyped self.now }
+    {
+        self.nodes.as_slice()
+    }
+
     /// The node at a place.
     pub fn node(&self, place: usize) -> &Node
         requires { place < length self.now }
