@@ -1,23 +1,23 @@
 -- An index at which two arrays differ fits the type of their indices.
-use Rattle.std.specs.Prelude.{◌≡◌, ℕ, ◌+◌, ◌^◌, ◌<◌, ◌≤◌, min, pos, Bool as Truth, true, false, cond, ◌&&◌, ◌||◌, nat_eq, nat_lt, not, IsTrue, List, [], ◌∷◌, ◌++◌, map, length, Option, Some, None, zero, suc}
+use Rattle.std.specs.Prelude.{◌≡◌, ℕ, ◌+◌, ◌<◌, ◌≤◌, pos, Bool as Truth, true, false, cond, ◌&&◌, ◌||◌, nat_eq, nat_lt, not, IsTrue, List, [], ◌∷◌, ◌++◌, length, Option, Some, None, zero, suc}
 use Rattle.std.specs.List.{list_all}
 use Rattle.std.proofs.Common.{refl, sym, ap, ◌∙◌, arith, subst, rules}
 use Rattle.std.proofs.lemmas.Bool.{false≢true}
 use Rattle.std.proofs.lemmas.Bool.Decides.{nat_tests}
-use Rattle.uc_values.specs.Values.{Form, Exception, fits, fits_form, zero_of, lists, indices, same_scalar}
+use Rattle.uc_values.specs.Values.{Exception, fits, fits_form, zero_of, lists, indices, same_scalar}
 use Rattle.uc_values.specs.Types.{is_scalar}
 use Rattle.uc_values.specs.Sameness.{same}
 use Rattle.uc_values.specs.Arrays.{at}
 use Rattle.uc_values.proofs.Shapes.{and_true, valid-Arr, scalar-Rec, scalar-Arr}
-use Rattle.uc_values.proofs.Fitting.{fits-IsBits, fits-Enum, fits-Open, Truth-fits, Int-fits, zero-fits, IsArray, IsArray-fits}
+use Rattle.uc_values.proofs.Fitting.{fits-IsBits, fits-Enum, fits-Open, Truth-fits, Int-fits, zero-fits, IsArray-fits}
 use Rattle.uc_values.specs.declared.ty.Ty.{Ty}
-use Rattle.uc_values.specs.declared.ty.Ty.TheVariants.{Bool as Boolean, Int as Integer, Bv as Bits, Rec as Record, Enum as Label, Un as Open, Arr as Array, rolls-Bool, rolls-Int, rolls-Bv, rolls-Rec, rolls-Enum, rolls-Un, rolls-Arr}
+use Rattle.uc_values.specs.declared.ty.Ty.TheVariants.{Enum as Label, Un as Open, Arr as Array, rolls-Bool, rolls-Int, rolls-Bv, rolls-Rec, rolls-Enum, rolls-Un, rolls-Arr}
 use Rattle.uc_values.specs.declared.ty.Ty.TheViews as type
 use Rattle.uc_values.specs.declared.ty.Ty.TheViews.{out-Ty, roll-Ty}
 use Rattle.uc_values.specs.declared.ty.Ty.TheOpen.{Ty-F}
 use Rattle.uc_values.specs.declared.ty.Ty.TheOpen.Ty-F.{Bool as boolean_type, Int as integer_type, Bv as bits_type, Rec as record_type, Arr as array_type, Enum as enum_type, Un as open_type}
 use Rattle.uc_values.specs.declared.value.Value.{Value}
-use Rattle.uc_values.specs.declared.value.Value.TheVariants.{Bool as Truthful, Int, Bv, Enum, Un, Arr}
+use Rattle.uc_values.specs.declared.value.Value.TheVariants.{Enum, Un, Arr}
 use Rattle.uc_values.specs.declared.value.Value.TheViews.{out-Value, the_lemmas}
 use Rattle.uc_ops.specs.Typing.{Valid, index_of, element_of}
 use Rattle.uc_ops.specs.Differences.{nth_value, at_most, unlisted_from, unlisted, listed_in, default_of, first_difference, default_difference, value_or, difference_in, difference}

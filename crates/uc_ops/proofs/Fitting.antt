@@ -1,34 +1,31 @@
 -- The value of an operation on values that fit the types of its parts fits the type of the operation.
-use Rattle.std.specs.Prelude.{◌≡◌, ℕ, ◌+◌, ◌-◌, ◌*◌, ◌/◌, ◌%◌, ◌^◌, ◌<◌, ◌≤◌, Bool as Truth, true, false, cond, min, IsTrue, bit_and, bit_or, bit_xor, List, [], ◌∷◌, ◌++◌, map, length, slice_get, Option, Some, None, All, zero, suc}
-use Rattle.std.specs.List.{list_all}
+use Rattle.std.specs.Prelude.{◌≡◌, ℕ, ◌+◌, ◌-◌, ◌*◌, ◌/◌, ◌%◌, ◌^◌, ◌<◌, Bool as Truth, true, false, cond, IsTrue, bit_and, bit_or, bit_xor, List, [], ◌∷◌, length, slice_get, Option, Some, None, zero, suc}
 use Rattle.std.specs.Option.{option_map}
-use Rattle.std.proofs.Common.{refl, sym, ap, ◌∙◌, arith, subst, rules, pow_pos, inl, inr}
-use Rattle.std.proofs.lemmas.Bool.Decides.{leb_tells}
+use Rattle.std.proofs.Common.{refl, sym, ap, ◌∙◌, arith, subst, rules, pow_pos}
 use Rattle.std.proofs.lemmas.Nat.{mod_below, mul-add-lt, pow-add, and_le_l, or_lt, xor_lt, shr_le}
 use Rattle.std.proofs.Math.Pow.{pow_mono}
 use Rattle.std.proofs.lemmas.List.{length-map}
-use Rattle.uc_values.specs.Values.{Form, Exception, fits, zero_of, truth_of, bits_of, width_in, parts_of, field_of, lists, indices}
-use Rattle.uc_values.specs.Types.{is_valid, field_types}
+use Rattle.uc_values.specs.Values.{fits, zero_of, truth_of, parts_of, field_of}
+use Rattle.uc_values.specs.Types.{field_types}
 use Rattle.uc_values.specs.Operators.{on_bits, on_two_bits, added, subtracted, multiplied, negated, complemented, shifted_left, shifted_right, shifted_right_signed, is_low, concatenated, sign_extended, bv_concat, bv_zero_extend, bv_sign_extend}
-use Rattle.uc_values.proofs.Shapes.{and_true}
-use Rattle.uc_values.proofs.Fitting.{Fit, IsBits, IsBits-fits, fits-IsBits, Truth-fits, Int-fits, IsRecord, IsRecord-fits, fits-IsRecord, zero-fits, IsArray, IsArray-fits}
+use Rattle.uc_values.proofs.Fitting.{Fit, IsBits, IsBits-fits, fits-IsBits, Truth-fits, Int-fits, IsRecord-fits, fits-IsRecord, zero-fits}
 use Rattle.uc_values.proofs.Stores.{at-fits, store-fits}
 use Rattle.uc_values.specs.Arrays.{at, store}
 use Rattle.uc_values.specs.Tables.{result_of}
 use Rattle.uc_values.specs.declared.ty.Field.{Field}
 use Rattle.uc_values.specs.declared.ty.Ty.{Ty}
-use Rattle.uc_values.specs.declared.ty.Ty.TheVariants.{Bool, Int, Bv, Rec, Arr}
+use Rattle.uc_values.specs.declared.ty.Ty.TheVariants.{Bool, Bv, Rec, Arr}
 use Rattle.uc_values.specs.declared.value.Value.{Value}
-use Rattle.uc_values.specs.declared.value.Value.TheVariants.{Bool as Boolean, Int as Integer, Bv as Bits, Rec as Record}
+use Rattle.uc_values.specs.declared.value.Value.TheVariants.{Bv as Bits, Rec as Record}
 use Rattle.uc_values.specs.declared.value.Value.TheViews.{the_lemmas}
 use Rattle.uc_ops.specs.declared.model.Model.{Model}
 use Rattle.uc_ops.specs.declared.op.Op.{Op}
 use Rattle.uc_ops.specs.declared.op.Op.TheVariants.{Symbol, Const, Not, And, Or, Eq, Ite, Add, Scale, Le, BvAdd, BvSub, BvMul, BvNeg, BvAnd, BvOr, BvXor, BvNot, Concat, Extract, ZeroExt, SignExt, Shl, Lshr, Ashr, Slt, Sle, Ult, Ule, App, Select, Store, Diff, MkRec, GetField}
-use Rattle.uc_ops.specs.Typing.{Suits, Valid, AllValid, Bits as OneOfBits, Pair_of_bits, Extends, type_of, type_or, part_type, width_of, fields_of, element_of, index_of}
+use Rattle.uc_ops.specs.Typing.{Suits, Valid, AllValid, Bits as OneOfBits, Pair_of_bits, Extends, type_of, part_type, width_of, fields_of, element_of, index_of}
 use Rattle.uc_ops.specs.Meaning.{apply, fitting, part}
 use Rattle.uc_ops.specs.Differences.{difference}
 use Rattle.uc_ops.proofs.Differing.{difference-fits}
-use Rattle.uc_ops.proofs.Typed.{fields-Rec, element-Arr, index-Arr, first_valid}
+use Rattle.uc_ops.proofs.Typed.{fields-Rec, element-Arr, first_valid}
 
 abbrev pub Fits : Ty → Value → Type 0
 Fits ty v = IsTrue (fits ty v)

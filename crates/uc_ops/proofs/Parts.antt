@@ -1,5 +1,5 @@
 -- The values of parts by their places.
-use Rattle.std.proofs.Common.{◌≡◌, ℕ, ℤ, pos, ◌+ℤ◌, ◌+◌, ◌<◌, ◌≤◌, zero, suc, Bool, true, false, ◌&&◌, ◌||◌, List, [], ◌∷◌, ◌++◌, length, map, drop, get_or, slice_get, Option, Some, None, All, Contains, sym, ap, ◌∙◌, subst, unwrap_or, refl, arith, append_assoc, add-one, drop-cons, append-nil, length-append}
+use Rattle.std.proofs.Common.{◌≡◌, ℕ, ℤ, pos, ◌+ℤ◌, ◌+◌, ◌<◌, ◌≤◌, zero, suc, Bool, true, false, ◌&&◌, ◌||◌, List, [], ◌∷◌, ◌++◌, length, map, drop, get_or, slice_get, Option, All, Contains, sym, ap, ◌∙◌, subst, unwrap_or, refl, arith, append_assoc, add-one, drop-cons, append-nil, length-append}
 use Rattle.std.proofs.Math.Seq.{get_or-append_seam}
 use Rattle.std.proofs.lemmas.List.{drop_all, length-map, get_or-map}
 use Rattle.uc_values.specs.Values.{number_of}

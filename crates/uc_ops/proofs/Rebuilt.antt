@@ -1,19 +1,19 @@
 -- An operation that suits its parts is told by its code and the type that it holds.
-use Rattle.std.specs.Prelude.{◌≡◌, ℕ, ℤ, pos, negsuc, Bool, true, false, nat_eq, IsTrue, if◌then◌else◌, List, [], ◌∷◌, Option, Some, None}
+use Rattle.std.specs.Prelude.{◌≡◌, ℕ, ℤ, pos, negsuc, Bool, true, false, nat_eq, IsTrue, if◌then◌else◌, List}
 use Rattle.std.proofs.Common.{refl, sym, ap, ◌∙◌, subst}
 use Rattle.std.proofs.lemmas.Bool.{false≢true}
 use Rattle.uc_values.specs.Values.{fits}
-use Rattle.uc_values.proofs.Fitting.{IsBoolean, IsBoolean-fits, IsInteger, IsInteger-fits, IsBits, IsBits-fits, IsLabel, IsLabel-fits}
+use Rattle.uc_values.proofs.Fitting.{IsBoolean-fits, IsInteger-fits, IsBits-fits, IsLabel-fits}
 use Rattle.uc_values.specs.declared.ty.Ty.{Ty}
-use Rattle.uc_values.specs.declared.ty.Ty.TheVariants.{Bool as Boolean, Int as Integer, Bv as Bits, Rec as Record, Enum as Label, Un as Open, Arr as Array}
+use Rattle.uc_values.specs.declared.ty.Ty.TheVariants.{Bool as Boolean, Int as Integer, Bv as Bits, Enum as Label}
 use Rattle.uc_values.specs.declared.value.Value.{Value}
-use Rattle.uc_values.specs.declared.value.Value.TheVariants.{Bool as Truth, Int, Bv, Enum, Un}
+use Rattle.uc_values.specs.declared.value.Value.TheVariants.{Bool as Truth, Int, Bv, Enum}
 use Rattle.uc_ops.specs.declared.equality.Code.{Code}
 use Rattle.uc_ops.specs.declared.op.Op.{Op}
 use Rattle.uc_ops.specs.declared.op.Op.TheVariants.{Symbol, Const, Not, And, Or, Eq, Ite, Add, Scale, Le, BvAdd, BvSub, BvMul, BvNeg, BvAnd, BvOr, BvXor, BvNot, Concat, Extract, ZeroExt, SignExt, Shl, Lshr, Ashr, Slt, Sle, Ult, Ule, App, Select, Store, Diff, MkRec, GetField}
 use Rattle.uc_ops.specs.declared.node.Node.{Node}
-use Rattle.uc_ops.specs.Equality.{op_code, constant_code, held_type, equal_nodes}
-use Rattle.uc_ops.specs.Decisions.{key, nodes-decided, Key}
+use Rattle.uc_ops.specs.Equality.{op_code, held_type, equal_nodes}
+use Rattle.uc_ops.specs.Decisions.{nodes-decided, Key}
 use Rattle.uc_ops.specs.Typing.{Suits, type_or, is_constant}
 
 magnitude : ℤ → ℕ

@@ -1,5 +1,5 @@
 -- An operation can be evaluated on values that fit the types of its parts.
-use Rattle.std.specs.Prelude.{◌≡◌, ℕ, ◌+◌, ◌<◌, ◌≤◌, ◌^◌, List, [], ◌∷◌}
+use Rattle.std.specs.Prelude.{ℕ, ◌+◌, ◌<◌, ◌≤◌, ◌^◌, List, [], ◌∷◌}
 use Rattle.std.proofs.Common.{sym, ap, ◌∙◌, subst, arith}
 use Rattle.uc_values.specs.Values.{width_in, bits_of}
 use Rattle.uc_values.proofs.Fitting.{Fit, IsBits, IsBits-fits}

@@ -1,18 +1,18 @@
 -- The types of nodes and of parts; the type of an operation on parts that suit it is valid.
-use Rattle.std.specs.Prelude.{◌≡◌, ℕ, ◌+◌, ◌-◌, ◌<◌, ◌≤◌, Bool as Truth, true, false, ◌&&◌, nat_le, IsTrue, List, [], ◌∷◌, map, length, slice_get, Option, Some, None, All}
+use Rattle.std.specs.Prelude.{◌≡◌, ℕ, ◌+◌, ◌-◌, ◌≤◌, true, ◌&&◌, nat_le, List, [], ◌∷◌, slice_get, Some}
 use Rattle.std.specs.List.{list_all}
 use Rattle.std.specs.Option.{option_map}
 use Rattle.std.proofs.Common.{refl, sym, ap, ◌∙◌, arith, rules, subst, inl, inr}
 use Rattle.std.proofs.lemmas.Bool.Decides.{nat_tests, leb_tells}
 use Rattle.std.proofs.lemmas.Bool.{false≢true}
 use Rattle.std.proofs.lemmas.List.{length-map}
-use Rattle.std.proofs.lemmas.List.Elements.{All-head, All-tail, All-cons, All-nil}
+use Rattle.std.proofs.lemmas.List.Elements.{All-head, All-cons, All-nil}
 use Rattle.std.proofs.lemmas.Option.{slice_get-map, get_or_from_slice_get}
 use Rattle.uc_values.specs.Types.{is_valid, field_types}
 use Rattle.uc_values.proofs.Shapes.{and_true, valid-Bool, valid-Int, valid-Bv, valid-Rec, valid-Arr}
 use Rattle.uc_values.specs.declared.ty.Ty.{Ty}
 use Rattle.uc_values.specs.declared.ty.Field.{Field}
-use Rattle.uc_values.specs.declared.ty.Ty.TheVariants.{Bool, Int, Bv, Rec, Arr}
+use Rattle.uc_values.specs.declared.ty.Ty.TheVariants.{Bool, Bv, Rec, Arr}
 use Rattle.uc_values.specs.declared.ty.Ty.TheViews.{the_lemmas}
 use Rattle.uc_ops.specs.declared.op.Op.{Op}
 use Rattle.uc_ops.specs.declared.op.Op.TheVariants.{Symbol, Const, Not, And, Or, Eq, Ite, Add, Scale, Le, BvAdd, BvSub, BvMul, BvNeg, BvAnd, BvOr, BvXor, BvNot, Concat, Extract, ZeroExt, SignExt, Shl, Lshr, Ashr, Slt, Sle, Ult, Ule, App, Select, Store, Diff, MkRec, GetField}

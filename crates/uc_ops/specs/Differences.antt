@@ -1,6 +1,5 @@
 -- An index at which two arrays differ.
-use Rattle.std.specs.Prelude.{ℕ, pos, ◌+◌, ◌^◌, min, Bool, true, false, not, nat_eq, if◌then◌else◌, List, [], ◌∷◌, ◌++◌, length, Option, Some, None, zero, suc}
-use Rattle.std.specs.Option.{option_or}
+use Rattle.std.specs.Prelude.{ℕ, pos, ◌+◌, ◌^◌, min, not, nat_eq, if◌then◌else◌, List, [], ◌∷◌, ◌++◌, length, Option, Some, None, zero, suc}
 use Rattle.uc_values.specs.Values.{Form, Exception, zero_of, lists, indices, nothing}
 use Rattle.uc_values.specs.Arrays.{at}
 use Rattle.uc_values.specs.Sameness.{same}

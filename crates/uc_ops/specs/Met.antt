@@ -1,5 +1,5 @@
 -- The sums and products that the evaluation of an operation meets, and what it needs of the values of its parts.
-use Rattle.std.specs.Prelude.{◌≡◌, ℕ, ◌≤◌, ◌<◌, ◌+◌, ◌^◌, ℤ, pos, ◌+ℤ◌, List, [], ◌∷◌, map}
+use Rattle.std.specs.Prelude.{◌≡◌, ◌≤◌, ◌<◌, ◌+◌, ◌^◌, ℤ, pos, ◌+ℤ◌, List, [], ◌∷◌, map}
 use Rattle.uc_values.specs.Values.{number_of, bits_of, width_in}
 use Rattle.uc_values.specs.declared.value.Value.{Value}
 use Rattle.uc_linear.specs.Exact.{IsNarrow, exact}

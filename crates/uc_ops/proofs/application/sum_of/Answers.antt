@@ -1,9 +1,7 @@
-use Rattle.std.proofs.Common.{arith, rules, sym, map, pos, get_or, ◌≡◌, ◌∙◌, length, ◌<◌, ◌+ℤ◌}
-use Rattle.std.proofs.lemmas.Int.{ints, to_z-of_z}
-use Rattle.std.proofs.lemmas.List.{length-map, get_or-map}
+use Rattle.std.proofs.Common.{arith, rules, map, ◌∙◌}
+use Rattle.std.proofs.lemmas.Int.{to_z-of_z}
 use Rattle.std.specs.Int.{w128}
 use mir.Val.{SFits, to_z, of_z}
-use Rattle.uc_linear.specs.Exact.{IsNarrow}
 use Rattle.uc_values.specs.Values.{number_of}
 use Rattle.uc_ops.specs.Meaning.{part}
 use Rattle.uc_ops.proofs.Parts.{Summing-more, Summing-met, number_at}

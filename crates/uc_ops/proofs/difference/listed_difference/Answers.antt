@@ -1,7 +1,6 @@
-use Rattle.std.proofs.Common.{sym, ap, ◌∙◌, Some, None}
-use Rattle.uc_values.specs.Values.{indices}
-use Rattle.uc_ops.specs.Differences.{listed_in, first_difference}
-use Rattle.uc_ops.proofs.Differing.{first_difference-append, or_else}
+use Rattle.std.proofs.Common.{sym, ◌∙◌, Some, None}
+use Rattle.uc_ops.specs.Differences.{listed_in}
+use Rattle.uc_ops.proofs.Differing.{first_difference-append}
 use Rattle.uc_ops.proofs.difference.listed_difference.Goals as goal
 
 pub returns-in-Some : goal.returns-in-Some

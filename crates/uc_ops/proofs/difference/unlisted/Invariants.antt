@@ -1,4 +1,4 @@
-use Rattle.std.proofs.Common.{◌≡◌, ◌-◌, ◌+◌, ◌++◌, length}
+use Rattle.std.proofs.Common.{◌≡◌, ◌-◌, ◌++◌}
 use Rattle.uc_values.specs.Values.{indices}
 use Rattle.uc_ops.specs.Differences.{unlisted, unlisted_from}
 use Rattle.uc_ops.proofs.difference.unlisted.Given as goal

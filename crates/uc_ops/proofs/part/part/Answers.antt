@@ -1,4 +1,4 @@
-use Rattle.std.proofs.Common.{sym, ap, ◌∙◌, unwrap_or, Some, None}
+use Rattle.std.proofs.Common.{sym, ap, ◌∙◌, Some, None}
 use Rattle.uc_ops.specs.Meaning.{part}
 use Rattle.uc_ops.proofs.Parts.{part_by_option}
 use Rattle.uc_ops.proofs.part.part.Goals as goal

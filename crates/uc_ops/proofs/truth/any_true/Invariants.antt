@@ -1,4 +1,4 @@
-use Rattle.std.proofs.Common.{◌≡◌, ℕ, ◌<◌, true, false, map}
+use Rattle.std.proofs.Common.{◌≡◌, ℕ, ◌<◌, false, map}
 use Rattle.uc_values.specs.Values.{truth_of}
 use Rattle.uc_ops.specs.Meaning.{part}
 use Rattle.uc_ops.proofs.truth.any_true.Given as goal

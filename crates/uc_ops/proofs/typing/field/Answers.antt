@@ -1,4 +1,4 @@
-use Rattle.std.proofs.Common.{rules, arith, slice_get, map, ap, ◌∙◌, sym}
+use Rattle.std.proofs.Common.{rules}
 use Rattle.std.proofs.lemmas.Option.{slice_get-map}
 use Rattle.uc_values.specs.declared.ty.Ty.TheViews.{the_lemmas}
 use Rattle.uc_ops.proofs.typing.field.Goals as goal
