@@ -6,4 +6,4 @@ mod form;
 mod merge;
 
 pub use exact::{LinearError, Wide, WideOp, difference, product, sum};
-pub use form::{Form, add, scale};
+pub use form::{Form, add, combine, scale};
