@@ -1,7 +1,7 @@
 //! Operations on values.
 
 ghost use Rattle.std.specs.Prelude.{◌≡◌, map, IfOk, All, Contains, pos, ◌*ℤ◌, ◌∷◌, []};
-ghost use Rattle.uc_linear.specs.Linear.{OnWide};
+ghost use Rattle.uc_linear.specs.Exact.{OnWide};
 ghost use Rattle.uc_values.specs.Values.{number_of};
 ghost use Rattle.uc_ops.specs.Typing.{types_at};
 ghost use Rattle.uc_ops.specs.Meaning.{part, apply, total};

@@ -1,7 +1,7 @@
 //! The evaluation of terms.
 
 ghost use Rattle.std.specs.Prelude.{◌≡◌, ℕ, ◌<◌, ◌≤◌, length, map, IfOk, All, Contains};
-ghost use Rattle.uc_linear.specs.Linear.{OnWide};
+ghost use Rattle.uc_linear.specs.Exact.{OnWide};
 ghost use Rattle.uc_ops.specs.Meaning.{part};
 ghost use Rattle.uc_terms.specs.Tables.{parts_at};
 ghost use Rattle.uc_terms.specs.Values.{value, values_at};
