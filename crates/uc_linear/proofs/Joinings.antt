@@ -1,11 +1,11 @@
 -- The two ways in which coefficients are joined: their sum, and the sum of their multiples.
-use Rattle.std.specs.Prelude.{ℕ, zero, suc, ◌<◌, length, slice_index_or, ℤ, pos, List, [], ◌∷◌, ◌++◌, Result, Ok, Err, ◌+ℤ◌, ◌*ℤ◌, ◌≡◌, ◌⊎◌}
+use Rattle.std.specs.Prelude.{ℕ, zero, suc, ◌<◌, length, slice_index_or, ℤ, pos, List, [], ◌∷◌, ◌++◌, Result, Ok, Err, ◌+ℤ◌, ◌*ℤ◌, ◌≡◌}
 use Rattle.std.proofs.Common.{refl, sym, ap, ◌∙◌, subst, arith, inl, inr, take, get_or, map, ◌+◌}
 use Rattle.std.proofs.lemmas.List.{take_more, map-append}
 use Rattle.std.proofs.Math.IntN.{*ℤ_comm, zero-*ℤ}
 use Rattle.std.proofs.lemmas.Int.{ints}
 use Rattle.uc_linear.specs.declared.exact.Wide.{Wide}
-use Rattle.uc_linear.specs.declared.exact.WideOp.TheVariants.{Add, Mul}
+use Rattle.uc_linear.specs.declared.exact.WideOp.TheVariants.{Add}
 use Rattle.uc_linear.specs.declared.exact.LinearError.{LinearError}
 use Rattle.uc_linear.specs.declared.exact.LinearError.TheVariants.{NoMemory, Wide as TooWide}
 use Rattle.uc_linear.specs.Exact.{IsNarrow, AllNarrow, IsSumOf, IsProductOf, MetInTerm, exact, Leaves, IsWideOf, OnWide}

@@ -1,7 +1,7 @@
 -- A row `f <= 0` with its coefficients divided by their greatest common divisor.
-use Rattle.std.specs.Prelude.{ℕ, ℤ, pos, negsuc, neg_ℤ, suc, ◌+ℤ◌, ◌*ℤ◌, ◌≤ℤ◌, ◌<ℤ◌, unsigned_abs, ◌≡◌, ◌<◌, ◌/◌, List, [], ◌∷◌, map}
+use Rattle.std.specs.Prelude.{ℕ, ℤ, pos, negsuc, neg_ℤ, suc, ◌+ℤ◌, ◌*ℤ◌, ◌≤ℤ◌, ◌<ℤ◌, unsigned_abs, ◌≡◌, ◌/◌, ◌↔◌, List, [], ◌∷◌, map}
 use Rattle.std.specs.Int.{◌∣◌}
-use Rattle.uc_linear.specs.Linear.{Pair, Linear, times}
+use Rattle.uc_linear.specs.Linear.{Pair, Linear, Satisfies, times}
 
 -- the number divides every coefficient
 abbrev pub DividesAll : ℕ → List Pair → Type 0
@@ -29,6 +29,10 @@ pub record IsTightened (new old : Linear) : Type 0 where
 abbrev pub Tightens : Linear → Linear → List Pair → Type 0
 Tightens new old [] = new ≡ old
 Tightens new old (p ∷ ps) = IsTightened new old
+
+-- the same integer points satisfy both rows
+abbrev pub SamePoints : Linear → Linear → Type 0
+SamePoints new old = (point : ℕ → ℤ) → Satisfies point new ↔ Satisfies point old
 
 -- the quotient, rounded toward 0
 abbrev pub toward_zero : ℤ → ℕ → ℤ

@@ -7,7 +7,7 @@ use Rattle.std.proofs.Math.Bool.{and-false}
 use Rattle.std.proofs.Math.Pow.{pow_mono}
 use Rattle.std.proofs.Math.Nat.{div-eq_of_lt, lt-div-mul-add}
 use Rattle.std.proofs.lemmas.Bool.Decides.{nat_tests, leb_tells, eqb_tells}
-use Rattle.uc_values.specs.Values.{Test, Exception, fits, fits_form, fit_parts, fit_rows, indices, distinct, zero_of, zero_form}
+use Rattle.uc_values.specs.Values.{parts_of, Test, Exception, fits, fits_form, fit_parts, fit_rows, indices, distinct, zero_of, zero_form}
 use Rattle.uc_values.specs.Types.{is_valid, field_types}
 use Rattle.uc_values.proofs.Shapes.{with_test, types_mapped, and_true, valid-Enum, valid-Rec, valid-Arr}
 use Rattle.uc_values.specs.declared.ty.Field.{Field}
@@ -331,3 +331,7 @@ member_form number (array d rows) h = cc
 
 pub IsMember-fits : (number : ℕ) (v : Value) → IsTrue (fits (Open number) v) → IsMember number v
 IsMember-fits number v h = subst (IsMember number) (rolled v) (member_form number (out-Value v) (sym (fits-Open number v) ∙ h))
+
+-- the parts of a record are those that it was made of
+pub parts-Rec : (vs : List Value) → parts_of (Rec vs) ≡ vs
+parts-Rec vs = search (rules, the_lemmas)

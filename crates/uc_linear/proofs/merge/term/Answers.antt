@@ -3,7 +3,7 @@ use Rattle.std.specs.Int.{w128}
 use mir.Val.{SFits}
 use Rattle.std.proofs.lemmas.Int.{ints, to_z-of_z}
 use Rattle.uc_linear.specs.Exact.{IsNarrow}
-use Rattle.uc_linear.proofs.Joinings.{term_narrow, OnWide-sum}
+use Rattle.uc_linear.proofs.Joinings.{term_narrow}
 use Rattle.std.specs.Prelude.{◌+ℤ◌, ◌*ℤ◌}
 use Rattle.uc_linear.proofs.merge.term.Goals as goal
 
