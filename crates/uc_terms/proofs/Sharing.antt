@@ -16,7 +16,7 @@ use Rattle.uc_ops.proofs.Lists.{same_map, slice_get-within}
 use Rattle.uc_ops.proofs.Rebuilt.{same_nodes, nodes_equal}
 use Rattle.uc_terms.specs.Tables.{WellTyped, NoTwoEqual, node_of, Holds, Makes, Adds}
 use Rattle.uc_terms.specs.Values.{value, values_at}
-use Rattle.uc_terms.proofs.Grown.{slice_get-last, slice_get-push, types-keep, added-fine}
+use Rattle.uc_terms.proofs.Grown.{slice_get-last, slice_get-push, types-keep, type-keeps, type-node, added-fine}
 use Rattle.uc_terms.proofs.Values.{value-node, value-keeps, within_all}
 
 any-place : {A : Type 0} (f : A → Bool) (xs : List A) (k : ℕ) (x : A) → slice_get xs k ≡ Some x → f x ≡ true → list_any f xs ≡ true
@@ -116,3 +116,17 @@ once E flip (z ∷ xs) d (suc j) (suc k) x y g h e = ap suc (once E flip xs d.1 
 -- no two nodes of a table are equal
 pub no_two_equal : (nodes : List Node) → IsDistinct equal_nodes nodes → NoTwoEqual nodes
 no_two_equal nodes d j k m n g h e f = once equal_nodes nodes-equivalence.symm nodes d j k m n g h (nodes_equal m n e f)
+
+-- the term that was asked for is in the table, and has the type of the operation
+pub made-within : (old new : List Node) (t : ℕ) (op : Op) (parts : List ℕ) → Makes old new t op parts → t < length new
+made-within old new t op parts a = slice_get-within new t (node_of old op parts) a.node
+
+pub made-type : (old new : List Node) (t : ℕ) (op : Op) (parts : List ℕ) → Makes old new t op parts → type_at new t ≡ type_of op (types_at old parts)
+made-type old new t op parts a = type-node new t (node_of old op parts) a.node
+
+-- and all terms keep their types
+pub made-keeps : (old new : List Node) (t : ℕ) (op : Op) (parts : List ℕ) → Makes old new t op parts → (p : ℕ) → p < length old → type_at new p ≡ type_at old p
+made-keeps old new t op parts a p h = ap (λ ns. type_at ns p) a.grown.1 ∙ type-keeps old a.grown.0 p h
+
+pub made-length : (old new : List Node) (t : ℕ) (op : Op) (parts : List ℕ) → Makes old new t op parts → length old ≤ length new
+made-length old new t op parts a = omega (arith, length-append old a.grown.0, ap length a.grown.1)

@@ -6,3 +6,4 @@ pub mod Laws
 pub mod Met
 pub mod Marks
 pub mod Evaluated
+pub mod Built
