@@ -60,12 +60,16 @@ fn combine(p: i128, r: &Form, q: i128, s: &Form) -> Option<Form> {
 }
 
 fn time(name: &str, call: impl Fn() -> Option<Form>) {
-    let start = Instant::now();
     let mut pairs = 0;
-    for _ in 0..2_000 {
-        pairs += black_box(call()).map_or(0, |f| f.pairs.len() + (f.constant == 0) as usize);
+    let mut best = u128::MAX;
+    for _ in 0..200 {
+        let start = Instant::now();
+        for _ in 0..10 {
+            pairs += black_box(call()).map_or(0, |f| f.pairs.len() + (f.constant == 0) as usize);
+        }
+        best = best.min(start.elapsed().as_nanos());
     }
-    println!("{name} {} {pairs}", start.elapsed().as_nanos() / 2_000);
+    println!("{name} {best} {pairs}");
 }
 
 fn main() {

@@ -3,7 +3,8 @@
 ghost use Rattle.std.specs.Prelude.{◌≡◌};
 ghost use Rattle.uc_grammar.specs.Code.{code_of, name_in};
 
-use uc_syntax::{BitFunction, Place};
+use uc_lexer::Place;
+use uc_syntax::BitFunction;
 
 /// What a word is.
 #[derive(Clone, Copy, Debug, PartialEq, Eq)]

@@ -1,0 +1,22 @@
+//! The operations of terms: which parts suit them, what they give, and when two nodes are equal.
+#![tactic(auto)]
+
+mod application;
+mod bitwise;
+mod built;
+mod difference;
+mod equality;
+mod model;
+mod node;
+mod op;
+mod part;
+mod term_id;
+mod truth;
+mod typing;
+
+pub use application::apply;
+pub use model::{Model, SymbolMap};
+pub use node::Node;
+pub use op::Op;
+pub use term_id::TermId;
+pub use typing::result_type;

@@ -1,0 +1,9 @@
+pub mod Growth
+pub mod Told
+pub mod Values
+pub mod Grown
+pub mod Sharing
+pub mod Walk
+pub mod Fitting
+pub mod Ready
+pub mod Evaluating
