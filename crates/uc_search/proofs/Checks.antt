@@ -1,7 +1,7 @@
 -- What a next block of single assignments asks, and where an init block of them leads, by their moves.
-use Rattle.std.proofs.Common.{◌≡◌, ℕ, zero, suc, ◌+◌, ◌<◌, ◌≤◌, List, [], ◌∷◌, ◌++◌, map, length, Option, Some, None, Bool, true, false, not, ◌&&◌, ◌||◌, refl, ap, ◌∙◌, sym, subst, arith, cond}
+use Rattle.std.proofs.Common.{◌≡◌, ℕ, ◌+◌, ◌<◌, ◌≤◌, List, [], ◌∷◌, ◌++◌, map, length, Option, Some, None, Bool, true, false, not, ◌&&◌, ◌||◌, refl, ap, ◌∙◌, sym, subst, arith, cond}
 use Rattle.std.specs.Prelude.{nat_eq, slice_set, unwrap_or}
-use Rattle.std.specs.List.{list_all, list_any, position_from, flat_map}
+use Rattle.std.specs.List.{list_all, position_from}
 use Rattle.std.proofs.lemmas.Bool.{eqb-true}
 use Rattle.std.proofs.lemmas.Bool.Decides.{nat_tests}
 use Rattle.uc_lexer.specs.declared.place.Place.{Place}
@@ -22,7 +22,7 @@ use Rattle.uc_meaning.specs.declared.scope.Site.{Site}
 use Rattle.uc_meaning.specs.Lookup.{System}
 use Rattle.uc_meaning.specs.Cells.{cell_of, cells_of}
 use Rattle.uc_meaning.specs.Expressions.{value, in_cell}
-use Rattle.uc_meaning.specs.Code.{Running, Goes, in_scope, then_run, run_each, run_statement, run_by, run, bodies, write, write_all, set_name}
+use Rattle.uc_meaning.specs.Code.{Running, Goes, in_scope, then_run, run_each, run_statement, run_by, run, bodies, write, write_all}
 use Rattle.uc_meaning.specs.Steps.{Watched, Kept, Constraint, Blocks, then_check, kept_if, check_each, check_form, check_statement, check_targets, check_by, check, is_assigned, target_parts, writes, step_scope, state_of}
 use Rattle.uc_meaning.specs.Fragment.{InFragment, is_simple, variables, variable_names, holds_name, assigns, assigns_one, targets_of, targets_in, all_differ}
 use Rattle.uc_meaning.specs.Plain.{IsTop}
@@ -97,6 +97,7 @@ cells_apart system f x y hx hy h = by_test (nat_eq (cell_number system x) (cell_
   where
     at : (z : ℕ) → holds_name (variables system) z ≡ true → position_from (nat_eq z) 0 (variable_names f.code.decls) ≡ Some (cell_number system z)
     at z hz = sym (fragment_cell_of system f z) ∙ (cell_found system f z hz).place
+
     by_test : (b : Bool) → nat_eq (cell_number system x) (cell_number system y) ≡ b → nat_eq (cell_number system x) (cell_number system y) ≡ false
     by_test false e = e
     by_test true e =

@@ -1,5 +1,5 @@
 -- Each state of the fragment has one successor, and each list of choices leads to one initial state.
-use Rattle.std.proofs.Common.{◌≡◌, ℕ, zero, suc, ◌+◌, ◌-◌, ◌≤◌, List, [], ◌∷◌, map, length, take, drop, Option, Some, None, Bool, true, false, refl, ap, ◌∙◌, sym, subst, arith, length-drop}
+use Rattle.std.proofs.Common.{◌≡◌, ℕ, ◌≤◌, List, [], ◌∷◌, map, length, take, drop, Some, None, Bool, true, false, refl, ap, ◌∙◌, sym, subst, arith, length-drop}
 use Rattle.std.specs.Prelude.{slice_set}
 use Rattle.std.specs.List.{list_all, flat_map}
 use Rattle.std.proofs.lemmas.List.{drop_all, take_all}
@@ -9,14 +9,13 @@ use Rattle.uc_values.specs.declared.ty.Ty.TheVariants.{Bool as boolean_type}
 use Rattle.uc_values.specs.declared.value.Value.{Value}
 use Rattle.uc_values.specs.Values.{fits}
 use Rattle.uc_values.proofs.Shapes.{and_true}
-use Rattle.uc_meaning.specs.declared.scope.Scope.{Scope}
 use Rattle.uc_meaning.specs.declared.scope.State.{State}
 use Rattle.uc_meaning.specs.declared.scope.Site.{Site}
 use Rattle.uc_meaning.specs.declared.code.CodeEnd.{CodeEnd}
 use Rattle.uc_meaning.specs.declared.code.CodeEnd.TheVariants.{Ended, Stopped as AnsweredStopped, BadChoice}
 use Rattle.uc_meaning.specs.Lookup.{System, init_in}
 use Rattle.uc_meaning.specs.Cells.{cells_of, FitAll, IsState}
-use Rattle.uc_meaning.specs.Code.{Running, Ending, Goes, run}
+use Rattle.uc_meaning.specs.Code.{Goes}
 use Rattle.uc_meaning.specs.Steps.{kept_if, writes, step_scope, state_of, main_next, init, IsStep, IsInitial}
 use Rattle.uc_meaning.specs.Fragment.{InFragment, variables, assigns, targets_in, all_differ, main_init}
 use Rattle.uc_meaning.specs.Answers.{whole_cells, AsksBlock, all_kept}
@@ -30,7 +29,7 @@ use Rattle.uc_search.specs.Levels.{EndsIn}
 use Rattle.uc_search.specs.Moves.{cells_moved, all_have, Proper}
 use Rattle.uc_search.proofs.Values.{value_fits}
 use Rattle.uc_search.proofs.Given.{given_has, given_kept, given_only, given_length, given_truths, set_truths}
-use Rattle.uc_search.proofs.Checks.{OneAssigned, one_assigned, block_checked, block_proper, code_run}
+use Rattle.uc_search.proofs.Checks.{one_assigned, block_checked, block_proper, code_run}
 
 next_simple : (system : System) (f : InFragment system) → list_all (assigns true (variables system)) (main_next system) ≡ true
 next_simple system f = ap (list_all (assigns true (variables system))) (fragment_next system f) ∙ fragment_next_simple system f
@@ -95,6 +94,7 @@ successor_only system f old new choices sites fit fit' st = by_have (all_have ne
         ap state_of (given_only (next_moves system old) old.cells new.cells (next_proper system f old fit) (state_sized system f new fit' ∙ sym (state_sized system f old fit)) h k)
     by_kept false k h =
         absurd (no_step_change system (step_scope no_symbols old new) choices (cells_moved (next_moves system old)) (stepped system no_symbols old new (state_sized system f old fit) (state_sized system f new fit')) (fragment_kinds system f) (asks_moves system f old new h) (sym k) sites st)
+
     by_have : (b : Bool) → all_have new (next_moves system old) ≡ b → (new ≡ state_of (given old.cells (next_moves system old))) × (choices ≡ [])
     by_have true h = (
       by_kept (all_kept (whole_cells (cells_moved (next_moves system old))) 0 old.cells new.cells) refl h,

@@ -1,10 +1,9 @@
 -- How a table of reached states is filled.
-use Rattle.std.proofs.Common.{◌≡◌, ℕ, zero, suc, ◌+◌, ◌<◌, ◌≤◌, ◌⊎◌, inl, inr, ⊎_elim, List, [], ◌∷◌, ◌++◌, length, get_or, Option, Some, None, Bool, true, false, refl, ap, ◌∙◌, sym, subst, arith}
-use Rattle.std.specs.Prelude.{nat_eq, nat_lt, slice_get, slice_set, unwrap_or}
+use Rattle.std.proofs.Common.{◌≡◌, ℕ, zero, suc, ◌+◌, ◌<◌, ◌≤◌, ◌⊎◌, inl, inr, ⊎_elim, List, [], ◌∷◌, ◌++◌, length, Option, Some, None, Bool, true, false, refl, ap, ◌∙◌, sym, subst, arith}
+use Rattle.std.specs.Prelude.{nat_eq, nat_lt, slice_set, unwrap_or}
 use Rattle.std.proofs.lemmas.Bool.{eqb-true}
 use Rattle.std.proofs.lemmas.Bool.Decides.{nat_tests}
 use Rattle.std.proofs.Math.ListN.{length-set}
-use Rattle.uc_values.specs.declared.value.Value.{Value}
 use Rattle.uc_meaning.specs.declared.scope.State.{State}
 use Rattle.uc_meaning.specs.Lookup.{System}
 use Rattle.uc_meaning.specs.Cells.{cells_of, IsState}
@@ -44,14 +43,17 @@ marks_more system n j done done' table place seed before within leads more = rec
   where
     inside : place < length table
     inside = omega (arith, within, before.sized)
+
     here : (k : ℕ) → place ≡ k → marked (slice_set table place (Some seed)) k ≡ None → ⊥
     here k e none = not_some seed (sym (mark_same table place (Some seed) inside) ∙ ap (marked (slice_set table place (Some seed))) e ∙ none)
+
     by_place : (k s : ℕ) (b : Bool) → nat_eq place k ≡ b → marked (slice_set table place (Some seed)) k ≡ Some s → cells_after system n j s ≡ values_of n k
     by_place k s true e h =
         let at : place ≡ k = eqb-true place k e in
         let same : seed ≡ s = some_one seed s (sym (mark_same table place (Some seed) inside) ∙ ap (marked (slice_set table place (Some seed))) at ∙ h) in
         sym (ap (cells_after system n j) same) ∙ leads ∙ ap (values_of n) at
     by_place k s false e h = before.sound k s (sym (mark_other table place k (Some seed) (apart place k e)) ∙ h)
+
     by_number : (other : ℕ) → other < power n → done other → marked (slice_set table place (Some seed)) (number_of (cells_after system n j other)) ≡ None → (b : Bool) → nat_eq place (number_of (cells_after system n j other)) ≡ b → ⊥
     by_number other lt was none true e = here (number_of (cells_after system n j other)) (eqb-true place (number_of (cells_after system n j other)) e) none
     by_number other lt was none false e =

@@ -1,10 +1,9 @@
 -- The lines of the fragment: the invariants of main, and no site.
-use Rattle.std.proofs.Common.{◌≡◌, ℕ, zero, suc, ◌+◌, ◌-◌, ◌<◌, ◌≤◌, List, [], ◌∷◌, ◌++◌, map, length, get_or, drop, Option, Some, None, Bool, true, false, ◌&&◌, refl, ap, ◌∙◌, sym, subst, arith, append-nil, append_assoc}
+use Rattle.std.proofs.Common.{◌≡◌, ℕ, zero, suc, ◌+◌, ◌-◌, ◌<◌, ◌≤◌, List, [], ◌∷◌, ◌++◌, length, get_or, drop, Option, Some, Bool, true, false, refl, ap, ◌∙◌, sym, subst, arith, append-nil, append_assoc}
 use Rattle.std.specs.Prelude.{slice_get, unwrap_or}
 use Rattle.std.specs.Option.{option_and_then}
 use Rattle.std.specs.List.{list_all, flat_map, filter_map}
 use Rattle.std.proofs.lemmas.List.{drop_all}
-use Rattle.std.proofs.lemmas.Grind.{flat_map-append}
 use Rattle.uc_lexer.specs.declared.place.Place.{Place}
 use Rattle.uc_syntax.specs.declared.place.Identifier.{Identifier}
 use Rattle.uc_syntax.specs.declared.expression.Expr.{Expr}
@@ -17,13 +16,9 @@ use Rattle.uc_syntax.specs.declared.declaration.Decl.{Decl}
 use Rattle.uc_syntax.specs.declared.declaration.Decl.TheVariants.{Invariant, Hyperinvariant}
 use Rattle.uc_values.proofs.Shapes.{and_true}
 use Rattle.uc_meaning.specs.declared.line.At.TheVariants.{Exactly}
-use Rattle.uc_meaning.specs.declared.line.What.TheVariants.{Formula}
 use Rattle.uc_meaning.specs.declared.line.Line.{Line}
-use Rattle.uc_meaning.specs.declared.scope.Site.{Site}
 use Rattle.uc_meaning.specs.Lookup.{System, init_in, init_of, next_in}
-use Rattle.uc_meaning.specs.Cells.{as_list, main_instance, instances}
-use Rattle.uc_meaning.specs.Steps.{main_next}
-use Rattle.uc_meaning.specs.Lines.{Sites, sites_form, sites_by, sites_through, sites_in, in_order, init_sites, step_sites, sites_after, numbered, Judged, invariant_judged, hyperinvariant_judged, judged_by, all_judged, lines_at, lines_from, main_declarations, formula_in, formula_of}
+use Rattle.uc_meaning.specs.Lines.{Sites, sites_form, sites_by, sites_through, sites_in, in_order, init_sites, step_sites, sites_after, numbered, Judged, invariant_judged, hyperinvariant_judged, judged_by, all_judged, lines_at, lines_from, main_declarations, formula_in}
 use Rattle.uc_meaning.specs.Fragment.{InFragment, IsFragmentLine, is_simple, is_simple_decl, assigns, variables, variable_names}
 use Rattle.uc_meaning.proofs.Fragments.{all_simple, fragment_instances, fragment_names, fragment_declarations, fragment_next, fragment_next_simple, fragment_init_simple, main_at_top}
 use Rattle.uc_meaning.proofs.Lists.{drop_turn}
@@ -142,7 +137,7 @@ decls_end command steps decls k lines before past =
 
 get_all : {A : Type 0} (p : A → Bool) (xs : List A) (k : ℕ) (x : A) → list_all p xs ≡ true → slice_get xs k ≡ Some x → p x ≡ true
 get_all p [] k x h at = cc
-get_all p (y ∷ ys) zero x h at = let e : y ≡ x = ap (λ o. unwrap_or o y) at in sym (ap p (sym e)) ∙ (and_true h).0
+get_all p (y ∷ ys) zero x h at = let e : y ≡ x = ap (λ o. unwrap_or o y) at in sym (ap p e) ∙ (and_true h).0
 get_all p (y ∷ ys) (suc k) x h at = get_all p ys k x (and_true h).1 at
 
 pub got : {A : Type 0} (xs : List A) (k : ℕ) (x : A) → k < length xs → x ≡ get_or xs k x → slice_get xs k ≡ Some x
@@ -155,7 +150,7 @@ invariant_simple system f k place i formula at =
     ap (λ ns. is_simple ns formula) (fragment_names system f)
     ∙ get_all (is_simple_decl (variable_names f.code.decls)) f.code.decls k (Invariant place i formula) (all_simple system f) (ap (λ ds. slice_get ds k) (sym (fragment_declarations system f)) ∙ at)
 
-pub fragment_line : (system : System) (f : InFragment system) (command steps k : ℕ) (place : Place) (i : Identifier) (formula : Expr) → slice_get (main_declarations system) k ≡ Some (Invariant place i formula) → IsFragmentLine system (invariant_line command steps k)
+unfoldable pub fragment_line : (system : System) (f : InFragment system) (command steps k : ℕ) (place : Place) (i : Identifier) (formula : Expr) → slice_get (main_declarations system) k ≡ Some (Invariant place i formula) → IsFragmentLine system (invariant_line command steps k)
 fragment_line system f command steps k place i formula at = record {
   steps = steps;
   decl = k;

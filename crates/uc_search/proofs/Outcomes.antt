@@ -1,5 +1,5 @@
 -- From a level to what is right of a line.
-use Rattle.std.proofs.Common.{◌≡◌, ℕ, zero, suc, ◌+◌, ◌-◌, ◌<◌, ◌≤◌, List, [], ◌∷◌, ◌++◌, map, length, Option, Some, None, Bool, true, false, refl, ap, ◌∙◌, sym, subst, arith, append_assoc, append-nil}
+use Rattle.std.proofs.Common.{◌≡◌, ℕ, zero, suc, ◌+◌, ◌-◌, ◌<◌, ◌≤◌, List, [], ◌∷◌, ◌++◌, length, Option, Some, None, Bool, true, false, refl, ap, ◌∙◌, sym, subst, arith, append_assoc, append-nil}
 use Rattle.std.specs.List.{All}
 use Rattle.std.specs.Prelude.{nat_lt, slice_get}
 use Rattle.std.proofs.lemmas.Bool.Decides.{nat_tests}
@@ -7,25 +7,24 @@ use Rattle.std.proofs.lemmas.List.Elements.{All-nil, All-push}
 use Rattle.uc_lexer.specs.declared.place.Place.{Place}
 use Rattle.uc_syntax.specs.declared.place.Identifier.{Identifier}
 use Rattle.uc_syntax.specs.declared.expression.Expr.{Expr}
-use Rattle.uc_syntax.specs.declared.declaration.Decl.{Decl}
 use Rattle.uc_syntax.specs.declared.declaration.Decl.TheVariants.{Invariant}
 use Rattle.uc_values.specs.declared.value.Value.{Value}
 use Rattle.uc_meaning.specs.declared.scope.State.{State}
 use Rattle.uc_meaning.specs.declared.line.Line.{Line}
 use Rattle.uc_meaning.specs.declared.line.Trace.{Trace}
 use Rattle.uc_meaning.specs.Lookup.{System}
-use Rattle.uc_meaning.specs.Cells.{cells_of, IsState}
+use Rattle.uc_meaning.specs.Cells.{cells_of}
 use Rattle.uc_meaning.specs.Expressions.{is_true}
 use Rattle.uc_meaning.specs.Steps.{state_of}
 use Rattle.uc_meaning.specs.Runs.{Position}
 use Rattle.uc_meaning.specs.Lines.{main_declarations}
 use Rattle.uc_meaning.specs.Fragment.{InFragment, IsFragmentLine}
 use Rattle.uc_search.specs.declared.judging.Judgement.{Judgement}
-use Rattle.uc_search.specs.Successors.{scope_in, successor, first_state, state_after}
+use Rattle.uc_search.specs.Successors.{scope_in, successor, first_state}
 use Rattle.uc_search.specs.Numbers.{number_of, values_of, power}
 use Rattle.uc_search.specs.Levels.{cells_after, marked, IsLevel, true_at, FalseAt, Found}
 use Rattle.uc_search.specs.Trails.{steps_from, trail, trace_of, FalseAfter, IsOutcome}
-use Rattle.uc_search.specs.Judgements.{IsRight, IsRightTrace, invariant_line, lines_judged, line_of_decl}
+use Rattle.uc_search.specs.Judgements.{IsRight, IsRightTrace, invariant_line, lines_judged}
 use Rattle.uc_search.proofs.Runs.{trail_refutes, never_false}
 use Rattle.uc_search.proofs.Numbers.{values_fit, state_numbered, state_small}
 use Rattle.uc_search.proofs.Levels.{cells_fit}
@@ -66,6 +65,7 @@ outcome_right system f line l None h = never_false system f line l h
 outcome_right system f line l (Some t) h = trail_refutes system f line l t h.0 h.1 h.2 h.3
 
 pub invariant_right : (system : System) (f : InFragment system) (command steps k : ℕ) (place : Place) (i : Identifier) (formula : Expr) (j : Judgement) → slice_get (main_declarations system) k ≡ Some (Invariant place i formula) → j.line ≡ invariant_line command steps k → IsOutcome system steps formula j.trace → IsRight system j
+unfolding fragment_line
 invariant_right system f command steps k place i formula j at is h =
     subst (λ l. IsRightTrace system l j.trace) (sym is) (outcome_right system f (invariant_line command steps k) (fragment_line system f command steps k place i formula at) j.trace h)
 

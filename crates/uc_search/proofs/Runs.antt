@@ -1,24 +1,22 @@
 -- Runs of the fragment: the choices of the initial state determine all states.
-use Rattle.std.proofs.Common.{◌≡◌, ℕ, zero, suc, ◌+◌, ◌-◌, ◌<◌, ◌≤◌, List, [], ◌∷◌, length, get_or, Option, Some, None, Bool, true, false, refl, ap, ◌∙◌, sym, subst, arith}
-use Rattle.uc_syntax.specs.declared.expression.Expr.{Expr}
+use Rattle.std.proofs.Common.{◌≡◌, ℕ, zero, suc, ◌+◌, ◌-◌, ◌<◌, ◌≤◌, List, [], ◌∷◌, length, Some, false, refl, ap, ◌∙◌, sym, subst, arith}
 use Rattle.uc_values.specs.declared.value.Value.{Value}
 use Rattle.uc_meaning.specs.declared.scope.State.{State}
-use Rattle.uc_meaning.specs.declared.scope.Interp.{Interp}
 use Rattle.uc_meaning.specs.declared.line.Line.{Line}
 use Rattle.uc_meaning.specs.declared.line.Trace.{Trace}
 use Rattle.uc_meaning.specs.Lookup.{System}
 use Rattle.uc_meaning.specs.Cells.{IsState}
 use Rattle.uc_meaning.specs.Expressions.{is_true}
-use Rattle.uc_meaning.specs.Steps.{scope_of, state_of, IsInitial, IsStep}
+use Rattle.uc_meaning.specs.Steps.{scope_of, state_of}
 use Rattle.uc_meaning.specs.Runs.{Position, no_position, position_at, Continues, IsRunListing, IsRun}
 use Rattle.uc_meaning.specs.Lines.{Refutes, IsValid}
 use Rattle.uc_meaning.specs.Fragment.{InFragment, IsFragmentLine}
-use Rattle.uc_meaning.specs.Positions.{judged_formula, Follows, FailsAtEnd}
+use Rattle.uc_meaning.specs.Positions.{judged_formula, Follows}
 use Rattle.uc_meaning.proofs.Fragments.{fragment_interp}
 use Rattle.uc_meaning.proofs.Judged.{element, run_starts, run_follows, nothing_fits}
 use Rattle.uc_meaning.proofs.Refuting.{run_refutes, refuted_run, refuted_copies}
 use Rattle.uc_search.specs.Successors.{no_symbols, scope_in, successor, first_state, state_after}
-use Rattle.uc_search.specs.Trails.{steps_from, trail, FalseAfter, trace_of, IsOutcome}
+use Rattle.uc_search.specs.Trails.{steps_from, trail, FalseAfter}
 use Rattle.uc_search.proofs.Leads.{successor_state, successor_steps, successor_only, first_fits, first_initial, initial_is}
 
 pub run_choices : (system : System) (f : InFragment system) (run : List Position) → IsRun system no_symbols run → 0 < length run → IsState system (state_of (position_at 0 run).1)

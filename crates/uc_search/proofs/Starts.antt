@@ -1,5 +1,5 @@
 -- Where all init code leads from the choices of a number.
-use Rattle.std.proofs.Common.{◌≡◌, ℕ, List, [], length, refl, ap, ◌∙◌, sym, subst}
+use Rattle.std.proofs.Common.{◌≡◌, ℕ, List, length, refl, ap, ◌∙◌, sym, subst}
 use Rattle.uc_values.specs.declared.value.Value.{Value}
 use Rattle.uc_meaning.specs.declared.scope.Scope.{Scope}
 use Rattle.uc_meaning.specs.declared.scope.Site.{Site}

@@ -1,10 +1,8 @@
 -- Values of simple expressions: a truth value, which depends on the old state alone.
-use Rattle.std.proofs.Common.{◌≡◌, ℕ, zero, suc, List, [], ◌∷◌, map, get_or, Option, Some, None, Bool, true, false, not, ◌&&◌, refl, ap, ◌∙◌, sym, subst, rules}
+use Rattle.std.proofs.Common.{◌≡◌, ℕ, zero, suc, List, [], ◌∷◌, map, Option, Some, None, Bool, true, false, not, refl, ap, ◌∙◌, sym, subst, rules}
 use Rattle.std.specs.Prelude.{slice_get, unwrap_or}
-use Rattle.std.specs.Option.{option_and_then}
 use Rattle.std.specs.List.{list_all}
 use Rattle.uc_lexer.specs.declared.place.Place.{Place}
-use Rattle.uc_syntax.specs.declared.expression.UnaryOperator.{UnaryOperator}
 use Rattle.uc_syntax.specs.declared.expression.UnaryOperator.TheVariants.{Not}
 use Rattle.uc_syntax.specs.declared.expression.Primary.{Primary}
 use Rattle.uc_syntax.specs.declared.expression.Primary.TheVariants.{Truth, Name}

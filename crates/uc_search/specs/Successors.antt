@@ -1,6 +1,5 @@
 -- Where a state of a design of boolean variables leads: its one successor, and the state after all init code.
-use Rattle.std.specs.Prelude.{ℕ, zero, suc, Bool, true, false, ◌&&◌, List, [], ◌∷◌, map, length, take, slice_set, Option, Some, None, unwrap_or}
-use Rattle.uc_lexer.specs.declared.place.Place.{Place}
+use Rattle.std.specs.Prelude.{ℕ, zero, suc, false, List, [], ◌∷◌, map, slice_set, unwrap_or}
 use Rattle.uc_syntax.specs.declared.expression.Expr.{Expr}
 use Rattle.uc_syntax.specs.declared.statement.Target.{Target}
 use Rattle.uc_syntax.specs.declared.statement.Stmt.{Stmt}
@@ -11,7 +10,7 @@ use Rattle.uc_meaning.specs.declared.scope.Scope.{Scope}
 use Rattle.uc_meaning.specs.declared.scope.State.{State}
 use Rattle.uc_meaning.specs.declared.scope.Interp.{Interp}
 use Rattle.uc_meaning.specs.Lookup.{System}
-use Rattle.uc_meaning.specs.Cells.{cell_of, cells_of}
+use Rattle.uc_meaning.specs.Cells.{cell_of}
 use Rattle.uc_meaning.specs.Expressions.{value}
 use Rattle.uc_meaning.specs.Steps.{scope_of, state_of, main_next}
 use Rattle.uc_meaning.specs.Fragment.{main_init}

@@ -1,4 +1,4 @@
-//! The splitting search: which lines of a design of boolean variables are valid, and traces that refute the others.
+//! The search through the runs of a design of boolean variables: which lines of `unroll` are valid, and traces that refute the others.
 #![tactic(auto)]
 
 mod binary;

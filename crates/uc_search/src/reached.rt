@@ -8,8 +8,8 @@ ghost use Rattle.uc_search.specs.Successors.{first_state, successor};
 ghost use Rattle.uc_search.specs.Numbers.{number_of, values_of, power};
 ghost use Rattle.uc_search.specs.Levels.{IsLevel, IsBlank, EndsIn, marked};
 
-use crate::moves::{no_symbols, successor};
 use crate::binary::{number_of, power, values_of};
+use crate::moves::{no_symbols, successor};
 use std::alloc::{AllocError, Global};
 use uc_items::Items;
 use uc_meaning::{CodeEnd, EvalError, Ordered, State, init_end};
@@ -104,12 +104,7 @@ pub fn state_of(alloc: Global, count: usize, number: usize) -> Result<State, All
 }
 
 /// The state to which that of a number leads.
-fn next_state(
-    alloc: Global,
-    d: &Ordered,
-    count: usize,
-    number: usize,
-) -> Result<State, EvalError>
+fn next_state(alloc: Global, d: &Ordered, count: usize, number: usize) -> Result<State, EvalError>
     requires { count ≡ length (cells_of d.now) }
     ensures is { IfOk result (λ s. s ≡ successor d.now (state_of (values_of count number))) }
     ensures fits { IfOk result (IsState d.now) }

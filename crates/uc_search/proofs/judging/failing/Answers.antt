@@ -1,4 +1,4 @@
-use Rattle.std.proofs.Common.{◌∙◌, ◌≤◌, ap, sym, subst, None, Some}
+use Rattle.std.proofs.Common.{◌≤◌, subst}
 use Rattle.uc_search.specs.Levels.{FalseAt}
 use Rattle.uc_search.proofs.Outcomes.{true_begin, true_more, true_end, false_found}
 use Rattle.uc_search.proofs.judging.failing.Goals as goal

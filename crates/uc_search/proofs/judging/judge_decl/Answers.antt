@@ -1,4 +1,4 @@
-use Rattle.std.proofs.Common.{◌≡◌, ◌∙◌, ap, sym, subst, Some}
+use Rattle.std.proofs.Common.{◌∙◌, ap, sym, Some}
 use Rattle.uc_search.specs.Judgements.{lines_judged, line_of_decl}
 use Rattle.uc_search.proofs.Lines.{no_line}
 use Rattle.uc_search.proofs.Outcomes.{none_right}

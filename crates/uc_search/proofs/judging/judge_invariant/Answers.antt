@@ -1,4 +1,4 @@
-use Rattle.std.proofs.Common.{◌≡◌, ◌∙◌, ap, sym, subst, List, [], ◌∷◌, ◌++◌, ℕ}
+use Rattle.std.proofs.Common.{◌∙◌, ap, List, [], ◌∷◌, ◌++◌, ℕ}
 use Rattle.uc_meaning.specs.declared.line.At.TheVariants.{Exactly}
 use Rattle.uc_meaning.specs.declared.line.What.TheVariants.{Formula}
 use Rattle.uc_meaning.specs.declared.line.Line.{Line}

@@ -1,4 +1,4 @@
-use Rattle.std.proofs.Common.{◌∙◌, subst}
+use Rattle.std.proofs.Common.{subst}
 use Rattle.uc_search.specs.Levels.{Found}
 use Rattle.uc_search.proofs.Outcomes.{found_none, outcome_some}
 use Rattle.uc_search.proofs.judging.refuting.Goals as goal

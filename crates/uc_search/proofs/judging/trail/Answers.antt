@@ -1,11 +1,10 @@
-use Rattle.std.proofs.Common.{◌∙◌, ap, sym, subst}
 use Rattle.uc_search.specs.Numbers.{values_of}
 use Rattle.uc_search.proofs.Outcomes.{trail_begin, trail_more, trail_end}
 use Rattle.uc_search.proofs.judging.trail.Goals as goal
 
 pub loop-k-init : goal.loop-k-init
 loop-k-init c =
-    trail_begin c.args.d.now c.args.steps (values_of c.args.count c.args.seed) c.in_ok-choices.choices c.in_ok-state.state c.in_ok-first.first c.in_ok-run.run c.in_ok-first.ensures.is c.in_ok-choices.ensures c.in_ok-state.ensures c.in_ok-run.ensures
+    trail_begin c.args.d.now c.args.steps (values_of c.args.count c.args.seed) c.in_ok-choices.choices c.in_ok-state.state c.in_ok-first.first c.in_ok-run.run' c.in_ok-first.ensures.is c.in_ok-choices.ensures c.in_ok-state.ensures c.in_ok-run.ensures
 
 pub loop-k-preserved : goal.loop-k-preserved
 loop-k-preserved c =

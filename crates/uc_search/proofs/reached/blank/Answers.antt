@@ -1,4 +1,3 @@
-use Rattle.std.proofs.Common.{ap, ◌∙◌, sym}
 use Rattle.uc_search.proofs.Levels.{blank_begin, blank_more, blank_end}
 use Rattle.uc_search.proofs.reached.blank.Goals as goal
 

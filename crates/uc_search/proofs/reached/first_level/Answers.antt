@@ -1,4 +1,4 @@
-use Rattle.std.proofs.Common.{◌∙◌, ◌+◌, ◌≤◌, ap, sym, subst}
+use Rattle.std.proofs.Common.{◌+◌, ◌≤◌, sym, subst}
 use Rattle.uc_search.proofs.Levels.{FirstMarks, first_begin, first_more, first_end}
 use Rattle.uc_search.proofs.reached.first_level.Goals as goal
 

@@ -1,4 +1,4 @@
-use Rattle.std.proofs.Common.{◌≡◌, ◌<◌, ◌∙◌, ap, sym, subst, length, ◌≤◌}
+use Rattle.std.proofs.Common.{◌<◌, ◌∙◌, ap, sym, subst, length, ◌≤◌}
 use Rattle.uc_search.specs.Numbers.{number_of, power}
 use Rattle.uc_search.proofs.Numbers.{state_few, state_small}
 use Rattle.uc_search.proofs.reached.place_of.Goals as goal
