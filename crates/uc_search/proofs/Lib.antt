@@ -1,0 +1,11 @@
+pub mod Values
+pub mod Given
+pub mod Checks
+pub mod Leads
+pub mod Writing
+pub mod Runs
+pub mod Numbers
+pub mod Levels
+pub mod Starts
+pub mod Lines
+pub mod Outcomes
