@@ -1,5 +1,5 @@
 -- What words mention: the numbers of their names and the files of their places.
-use Rattle.std.specs.Prelude.{ℕ, List, [], ◌∷◌}
+use Rattle.std.specs.Prelude.{List, [], ◌∷◌}
 use Rattle.std.specs.List.{flat_map}
 use Rattle.uc_lexer.specs.declared.token.Token.{Token}
 use Rattle.uc_syntax.specs.Mentions.{Mention, OfName, OfFile}

@@ -57,3 +57,7 @@ with_token text names token = with_kind (fixed_kind token.kind) names (bytes_of 
 -- the names after these tokens, in order
 abbrev pub with_tokens : List (List ℕ) → List ℕ → List Token → List (List ℕ)
 with_tokens names text tokens = fold (with_token text) names tokens
+
+-- the names after some of these tokens, from the first on
+abbrev pub HasFrontOf : List (List ℕ) → List ℕ → List Token → List (List ℕ) → Type 0
+HasFrontOf before text tokens after = (n : ℕ) × (after ≡ with_tokens before text (take n tokens))

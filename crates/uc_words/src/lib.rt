@@ -8,5 +8,7 @@ mod pass;
 #[cfg(test)]
 mod tests;
 
-pub use law::{text_has_one_list, tokens_are_within, words_stay};
+pub use law::{
+    names_are_mentioned, text_has_one_list, tokens_are_within, tokens_have_one_list, words_stay,
+};
 pub use pass::{words, words_of_text};

@@ -1,10 +1,13 @@
-ghost use Rattle.std.specs.Prelude.{◌≡◌, ◌≤◌, ◌<◌, ℕ, length, IfOk, IfErr, OnOk};
-ghost use Rattle.uc_lexer.specs.Text.{IsLexError};
+ghost use Rattle.std.specs.Prelude.{◌≡◌, ◌≤◌, ◌<◌, ℕ, List, length, Err, IfOk, IfErr, OnOk, OnErr};
+ghost use Rattle.uc_lexer.specs.declared.error.LexError.TheVariants.{Fault};
+ghost use Rattle.uc_lexer.specs.declared.fault.LexFault.{LexFault};
+ghost use Rattle.uc_lexer.specs.declared.token.Token.{Token};
+ghost use Rattle.uc_lexer.specs.Text.{IsLexError, Tokens};
 ghost use Rattle.uc_syntax.specs.Numbering.{KeepNumbers};
 ghost use Rattle.uc_syntax.specs.Mentions.{NamesBelow, FilesBelow};
 ghost use Rattle.uc_words.specs.Fixed as spec;
 ghost use Rattle.uc_words.specs.Mentions.{tokens_mention, words_mention};
-ghost use Rattle.uc_words.specs.Words.{AreWithin, AreWords, IsKind, IsText, bytes_of, with_token, with_tokens};
+ghost use Rattle.uc_words.specs.Words.{AreWithin, AreWords, HasFrontOf, IsKind, IsText, bytes_of, with_token, with_tokens};
 
 use crate::fixed::fixed_kind;
 use crate::known::name_kind;
@@ -14,7 +17,7 @@ use uc_lexer::{LexError, MAX_TEXT, Token, tokens};
 use uc_syntax::Names;
 
 /// The words of the tokens of a text. Each name gets its number, as it comes. An `Err` is want of memory, or of numbers for
-/// names; the names of the tokens before have their numbers then.
+/// names. Then those of the first tokens have their numbers.
 pub fn words(
     alloc: Global,
     names: &mut Names,
@@ -25,6 +28,7 @@ pub fn words(
     ensures words { IfOk result (λ ws. AreWords names.new text.now tokens.now ws.items) }
     ensures names { OnOk result (names.new ≡ with_tokens names.old text.now tokens.now) }
     ensures kept { KeepNumbers names.old names.new }
+    ensures err { OnErr result (HasFrontOf names.old text.now tokens.now names.new) }
     ensures names_known { IfOk result (λ ws. NamesBelow (length names.new) (words_mention ws.items)) }
     ensures files_known { IfOk result (λ ws. (n : ℕ) → FilesBelow n (tokens_mention tokens.now) → FilesBelow n (words_mention ws.items)) }
 {
@@ -40,17 +44,13 @@ pub fn words(
 }
 
 /// The kind of a token's word, and the number of its name.
-fn kind_of(
-    alloc: Global,
-    names: &mut Names,
-    text: &[u8],
-    token: &Token,
-) -> Result<Kind, AllocError>
+fn kind_of(alloc: Global, names: &mut Names, text: &[u8], token: &Token) -> Result<Kind, AllocError>
     requires start { token.now.start ≤ token.now.end }
     requires end { token.now.end ≤ length text.now }
     ensures kind { IfOk result (IsKind names.new (bytes_of text.now token.now) (spec.fixed_kind token.now.kind)) }
     ensures names { OnOk result (names.new ≡ with_token text.now names.old token.now) }
     ensures kept { KeepNumbers names.old names.new }
+    ensures err { OnErr result (names.new ≡ names.old) }
 {
     if let Some(kind) = fixed_kind(token.kind) {
         return Ok(kind);
@@ -69,10 +69,12 @@ pub fn words_of_text(
 ) -> Result<Vec<Word>, LexError>
     requires { length text.now ≤ MAX_TEXT }
     ensures words { IfOk result (λ ws. IsText names.new file text.now ws.items) }
+    ensures names { OnOk result ((tokens : List Token) → Tokens file text.now tokens → names.new ≡ with_tokens names.old text.now tokens) }
     ensures kept { KeepNumbers names.old names.new }
     ensures names_known { IfOk result (λ ws. NamesBelow (length names.new) (words_mention ws.items)) }
     ensures files_known { IfOk result (λ ws. (n : ℕ) → file < n → FilesBelow n (words_mention ws.items)) }
     ensures fault { IfErr result (IsLexError file text.now) }
+    ensures fault_keeps { (fault : LexFault) → result ≡ Err (Fault fault) → names.new ≡ names.old }
 {
     let tokens = tokens(alloc, file, text)?;
     match words(alloc, names, text, tokens.as_slice()) {
