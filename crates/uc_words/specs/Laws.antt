@@ -29,7 +29,7 @@ StayWords = (before after : List (List ℕ)) (text : List ℕ) (tokens : List To
 abbrev pub StaysText : Type 0
 StaysText = (before after : List (List ℕ)) (file : ℕ) (text : List ℕ) (words : List Word) → KeepNumbers before after → IsText before file text words → IsText after file text words
 
--- the words that mention a name are those of the first nine kinds, by the number that the grammar takes for the name
+-- a word mentions a name where the code of its kind is below 9, and the number is the one that the grammar takes for the name
 abbrev pub NamesAreMentioned : Type 0
 NamesAreMentioned = (kind : Kind) → kind_mentions kind ≡ (if nat_lt (code_of kind) 9 then OfName (name_in kind) ∷ [] else [])
 
@@ -46,6 +46,6 @@ AreSameTokens text [] other (its ∷ others) = ⊥
 AreSameTokens text (token ∷ tokens) other [] = ⊥
 AreSameTokens text (token ∷ tokens) other (its ∷ others) = IsSameToken text token other its × AreSameTokens text tokens other others
 
--- words tell their tokens
+-- words tell their tokens: the same words under the same names are the same tokens
 abbrev pub WordsTellTokens : Type 0
 WordsTellTokens = (names : List (List ℕ)) (text other : List ℕ) (tokens others : List Token) (words : List Word) → AreWords names text tokens words → AreWords names other others words → AreSameTokens text tokens other others
