@@ -1,0 +1,4 @@
+pub mod Yields
+pub mod Below
+pub mod Types
+pub mod Expressions
