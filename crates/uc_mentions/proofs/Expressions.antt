@@ -73,7 +73,7 @@ module _ (names files : ℕ) where
   compared_in p None h k = h
   compared_in p (Some y) h k = (h.0, same (mentions_compare p.0 (comparison y.0.kind) y.0.place p.1 y.1.1) (file_then h.0 (file_then k.0 (append h.1 k.1.1))))
 
-  branches_in : (bs : List Branch) (e : Expr) → Each BranchIn bs → ExprIn names files e → ExprIn names files (branches bs e)
+  pub branches_in : (bs : List Branch) (e : Expr) → Each BranchIn bs → ExprIn names files e → ExprIn names files (branches bs e)
   branches_in [] e no_more h = h
   branches_in (b ∷ bs) e (one_more q more) h = same (mentions_if b.0 b.1.0 b.1.1 (branches bs e)) (file_then q.0 (append q.1.0 (append q.1.1 (branches_in bs e more h))))
 

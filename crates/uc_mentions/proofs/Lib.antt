@@ -2,3 +2,7 @@ pub mod Yields
 pub mod Below
 pub mod Types
 pub mod Expressions
+pub mod Statements
+pub mod Declarations
+pub mod Texts
+pub mod Laws
