@@ -1,6 +1,6 @@
--- What the words of an expression spell mentions no more than they have.
-use Rattle.std.proofs.Common.{◌≡◌, ℕ, List, [], ◌∷◌, map, Option, Some, None, ◌⊎◌, inl, inr}
-use Rattle.uc_forms.specs.Form.{Form, deep, many}
+-- What the words of an expression spell mentions only what they mention.
+use Rattle.std.proofs.Common.{◌≡◌, Bool, List, [], ◌∷◌, map, Option, Some, None, ◌⊎◌, inl, inr}
+use Rattle.uc_forms.specs.Form.{deep}
 use Rattle.uc_forms.specs.Spelling.{Language}
 use Rattle.uc_lexer.specs.declared.place.Place.{Place}
 use Rattle.uc_syntax.specs.declared.place.Identifier.{Identifier}
@@ -10,148 +10,147 @@ use Rattle.uc_syntax.specs.declared.expression.Selection.{Selection}
 use Rattle.uc_syntax.specs.declared.expression.Selection.TheVariants.{Field, Copy}
 use Rattle.uc_syntax.specs.declared.expression.Expr.{Expr}
 use Rattle.uc_syntax.specs.declared.expression.Expr.TheViews as exprs_
-use Rattle.uc_syntax.specs.Mentions.{chain_by, primary_by, expr_mentions}
-use Rattle.uc_syntax.proofs.Mentions.{mentions_if, mentions_iff, mentions_implies, mentions_or, mentions_and, mentions_bit_or, mentions_bit_xor, mentions_bit_and, mentions_concat, mentions_product, mentions_sum, mentions_compare, mentions_unary, mentions_selected}
+use Rattle.uc_syntax.specs.Mentions.{Mention, OfName, chain_by, primary_by, expr_mentions}
+use Rattle.uc_syntax.proofs.Mentions.{mentions_if, mentions_iff, mentions_implies, mentions_or, mentions_and, mentions_bit_or, mentions_bit_xor, mentions_bit_and, mentions_concat, mentions_product, mentions_sum, mentions_compare, mentions_selected}
 use Rattle.uc_grammar.specs.declared.word.Word.{Word}
 use Rattle.uc_grammar.specs.declared.word.Kind.{Kind}
 use Rattle.uc_grammar.specs.declared.word.Kind.TheVariants.{OnBits}
 use Rattle.uc_grammar.specs.Code.{name_in, value_in}
 use Rattle.uc_grammar.specs.Syntax.{words, Nested, Value, F, Placed, arguments, in_name, parens, brackets, sign_operand, if_expression, Head, applied, named, primary, selection, selected_of, unary, chain_of, level, sum_sign, sum_of, comparison, compared_of, product, summed, concatenated, bit_and, bit_xor, bit_or, compared, conjunction, disjunction, implication, equivalence, expression, expr, Branch, branch, branches}
-use Rattle.uc_mentions.proofs.Yields.{Each, no_more, one_more, each_map, OnEither, OnSome, Under, FileIn, NameIn, IdIn, Yields, a_word, and_then, no_word, one_way, makes, any_number, behind, in_front, once_or_not, ◌<or>◌, a_named_word, an_id}
-use Rattle.uc_mentions.proofs.Below.{PlaceIn, ExprIn, PlacedIn, SelectionIn, NestedIn, Below, no_mention, file_then, file_alone, name_then, id_alone, append, same, places, exprs, selections}
+use Rattle.uc_mentions.proofs.Yields.{Each, no_more, one_more, each_map, OnEither, OnSome, Passes, FilePasses, NamePasses, IdPasses, Yields, a_word, and_then, no_word, one_way, makes, any_number, in_front, once_or_not, ◌<or>◌, a_named_word, an_id}
+use Rattle.uc_mentions.proofs.Passing.{PlacePasses, ExprPasses, PlacedPasses, SelectionPasses, NestedPasses, PassAll, no_mention, one_then, one_alone, id_alone, append, same, places, exprs, selections}
 
-module _ (names files : ℕ) where
-  abbrev pub HeadIn : Head → Type 0
-  HeadIn x = PlaceIn names files x.0 × OnEither (λ q. Below names files (primary_by expr_mentions q)) (ExprIn names files) x.1
+module _ (test : Mention → Bool) where
+  abbrev pub HeadPasses : Head → Type 0
+  HeadPasses x = PlacePasses test x.0 × OnEither (λ q. PassAll test (primary_by expr_mentions q)) (ExprPasses test) x.1
 
-  abbrev pub BranchIn : Branch → Type 0
-  BranchIn b = PlaceIn names files b.0 × (ExprIn names files b.1.0 × ExprIn names files b.1.1)
+  abbrev pub BranchPasses : Branch → Type 0
+  BranchPasses b = PlacePasses test b.0 × (ExprPasses test b.1.0 × ExprPasses test b.1.1)
 
-  applied_in : (k : Kind) (es : List Expr) → Under names (name_in k) → Each (ExprIn names files) es → Below names files (primary_by expr_mentions (applied k es))
-  applied_in (OnBits f n) es u h = exprs h
-  applied_in k es u h = name_then u (exprs h)
+  applied_passes : (k : Kind) (es : List Expr) → Passes test (OfName (name_in k)) → Each (ExprPasses test) es → PassAll test (primary_by expr_mentions (applied k es))
+  applied_passes (OnBits f n) es u h = exprs h
+  applied_passes k es u h = one_then u (exprs h)
 
-  named_in : (w : Word) (x : Word ⊎ (List Expr ⊎ Unit {0})) → NameIn names files w → OnEither (FileIn files) (OnEither (Each (ExprIn names files)) (λ u. Unit {0})) x → HeadIn (named (w, x))
-  named_in w (inl v) n h = (n.0, name_then n.1 no_mention)
-  named_in w (inr (inl es)) n h = (n.0, applied_in w.kind es n.1 h)
-  named_in w (inr (inr u)) n h = (n.0, name_then n.1 no_mention)
+  named_passes : (w : Word) (x : Word ⊎ (List Expr ⊎ Unit {0})) → NamePasses test w → OnEither (FilePasses test) (OnEither (Each (ExprPasses test)) (λ u. Unit {0})) x → HeadPasses (named (w, x))
+  named_passes w (inl v) n h = (n.0, one_then n.1 no_mention)
+  named_passes w (inr (inl es)) n h = (n.0, applied_passes w.kind es n.1 h)
+  named_passes w (inr (inr u)) n h = (n.0, one_then n.1 no_mention)
 
-  dot_in : (w : Word) (x : Identifier ⊎ Word) → FileIn files w → OnEither (IdIn names files) (FileIn files) x → SelectionIn names files (elim x [ inl i ↦ Field w.place i | inr v ↦ Copy w.place (value_in v.kind) ])
-  dot_in w (inl i) f h = file_then f (id_alone h)
-  dot_in w (inr v) f h = file_alone f
+  dot_passes : (w : Word) (x : Identifier ⊎ Word) → FilePasses test w → OnEither (IdPasses test) (FilePasses test) x → SelectionPasses test (elim x [ inl i ↦ Field w.place i | inr v ↦ Copy w.place (value_in v.kind) ])
+  dot_passes w (inl i) f h = one_then f (id_alone h)
+  dot_passes w (inr v) f h = one_alone f
 
-  selected_in : (p : Place) (q : Primary Expr ⊎ Expr) (ss : List (Selection Expr)) → HeadIn (p, q) → Each (SelectionIn names files) ss → PlacedIn names files (selected_of ((p, q), ss))
-  selected_in p (inl q) ss h each = (h.0, same (mentions_selected p q ss) (file_then h.0 (append h.1 (selections each))))
-  selected_in p (inr e) [] h each = h
-  selected_in p (inr e) (s ∷ ss) h each = (h.0, same (mentions_selected p (Grouped e) (s ∷ ss)) (file_then h.0 (append h.1 (selections each))))
+  selected_passes : (p : Place) (q : Primary Expr ⊎ Expr) (ss : List (Selection Expr)) → HeadPasses (p, q) → Each (SelectionPasses test) ss → PlacedPasses test (selected_of ((p, q), ss))
+  selected_passes p (inl q) ss h each = (h.0, same (mentions_selected p q ss) (one_then h.0 (append h.1 (selections each))))
+  selected_passes p (inr e) [] h each = h
+  selected_passes p (inr e) (s ∷ ss) h each = (h.0, same (mentions_selected p (Grouped e) (s ∷ ss)) (one_then h.0 (append h.1 (selections each))))
 
   -- what stands behind the first operand: each mark with its operand
-  abbrev TurnIn : Word × Placed → Type 0
-  TurnIn y = FileIn files y.0 × PlacedIn names files y.1
+  abbrev TurnPasses : Word × Placed → Type 0
+  TurnPasses y = FilePasses test y.0 × PlacedPasses test y.1
 
-  operands_in : {ys : List (Word × Placed)} → Each TurnIn ys → Each (λ y. ExprIn names files y.1.1) ys
-  operands_in no_more = no_more
-  operands_in (one_more q more) = one_more q.1.1 (operands_in more)
+  operands_passes : {ys : List (Word × Placed)} → Each TurnPasses ys → Each (λ y. ExprPasses test y.1.1) ys
+  operands_passes no_more = no_more
+  operands_passes (one_more q more) = one_more q.1.1 (operands_passes more)
 
-  marks_in : {ys : List (Word × Placed)} → Each TurnIn ys → Each (λ y. FileIn files y.0) ys
-  marks_in no_more = no_more
-  marks_in (one_more q more) = one_more q.0 (marks_in more)
+  marks_passes : {ys : List (Word × Placed)} → Each TurnPasses ys → Each (λ y. FilePasses test y.0) ys
+  marks_passes no_more = no_more
+  marks_passes (one_more q more) = one_more q.0 (marks_passes more)
 
-  chain_below : (p : Placed) (ys : List (Word × Placed)) (marks : List Place) → PlacedIn names files p → Each TurnIn ys → Each (PlaceIn names files) marks → Below names files (chain_by expr_mentions p.0 (p.1 ∷ map (λ y. y.1.1) ys) marks)
-  chain_below p ys marks h each at = file_then h.0 (append (exprs (one_more h.1 (each_map (λ y. y.1.1) (operands_in each)))) (places at))
+  chain_by_passes : (p : Placed) (ys : List (Word × Placed)) (marks : List Place) → PlacedPasses test p → Each TurnPasses ys → Each (PlacePasses test) marks → PassAll test (chain_by expr_mentions p.0 (p.1 ∷ map (λ y. y.1.1) ys) marks)
+  chain_by_passes p ys marks h each at = one_then h.0 (append (exprs (one_more h.1 (each_map (λ y. y.1.1) (operands_passes each)))) (places at))
 
-  chain_in : (node : Place → List Expr → List Place → Expr) → ((place : Place) (operands : List Expr) (marks : List Place) → expr_mentions (node place operands marks) ≡ chain_by expr_mentions place operands marks)
-      → (p : Placed) (ys : List (Word × Placed)) → PlacedIn names files p → Each TurnIn ys → PlacedIn names files (chain_of node (p, ys))
-  chain_in node is p [] h each = h
-  chain_in node is p (y ∷ ys) h each = (h.0, same (is p.0 (p.1 ∷ map (λ z. z.1.1) (y ∷ ys)) (map (λ z. z.0.place) (y ∷ ys))) (chain_below p (y ∷ ys) _ h each (each_map (λ z. z.0.place) (marks_in each))))
+  chain_passes : (node : Place → List Expr → List Place → Expr) → ((place : Place) (operands : List Expr) (marks : List Place) → expr_mentions (node place operands marks) ≡ chain_by expr_mentions place operands marks)
+      → (p : Placed) (ys : List (Word × Placed)) → PlacedPasses test p → Each TurnPasses ys → PlacedPasses test (chain_of node (p, ys))
+  chain_passes node is p [] h each = h
+  chain_passes node is p (y ∷ ys) h each = (h.0, same (is p.0 (p.1 ∷ map (λ z. z.1.1) (y ∷ ys)) (map (λ z. z.0.place) (y ∷ ys))) (chain_by_passes p (y ∷ ys) _ h each (each_map (λ z. z.0.place) (marks_passes each))))
 
-  sum_in : (p : Placed) (ys : List (Word × Placed)) → PlacedIn names files p → Each TurnIn ys → PlacedIn names files (sum_of (p, ys))
-  sum_in p [] h each = h
-  sum_in p (y ∷ ys) h each = (h.0, same (mentions_sum p.0 (p.1 ∷ map (λ z. z.1.1) (y ∷ ys)) (map (λ z. sum_sign z.0) (y ∷ ys))) (chain_below p (y ∷ ys) _ h each (each_map (λ s. s.place) (each_map (λ z. sum_sign z.0) (marks_in each)))))
+  sum_passes : (p : Placed) (ys : List (Word × Placed)) → PlacedPasses test p → Each TurnPasses ys → PlacedPasses test (sum_of (p, ys))
+  sum_passes p [] h each = h
+  sum_passes p (y ∷ ys) h each = (h.0, same (mentions_sum p.0 (p.1 ∷ map (λ z. z.1.1) (y ∷ ys)) (map (λ z. sum_sign z.0) (y ∷ ys))) (chain_by_passes p (y ∷ ys) _ h each (each_map (λ s. s.place) (each_map (λ z. sum_sign z.0) (marks_passes each)))))
 
-  compared_in : (p : Placed) (o : Option (Word × Placed)) → PlacedIn names files p → OnSome TurnIn o → PlacedIn names files (compared_of (p, o))
-  compared_in p None h k = h
-  compared_in p (Some y) h k = (h.0, same (mentions_compare p.0 (comparison y.0.kind) y.0.place p.1 y.1.1) (file_then h.0 (file_then k.0 (append h.1 k.1.1))))
+  comparison_passes : (p : Placed) (o : Option (Word × Placed)) → PlacedPasses test p → OnSome TurnPasses o → PlacedPasses test (compared_of (p, o))
+  comparison_passes p None h k = h
+  comparison_passes p (Some y) h k = (h.0, same (mentions_compare p.0 (comparison y.0.kind) y.0.place p.1 y.1.1) (one_then h.0 (one_then k.0 (append h.1 k.1.1))))
 
-  pub branches_in : (bs : List Branch) (e : Expr) → Each BranchIn bs → ExprIn names files e → ExprIn names files (branches bs e)
-  branches_in [] e no_more h = h
-  branches_in (b ∷ bs) e (one_more q more) h = same (mentions_if b.0 b.1.0 b.1.1 (branches bs e)) (file_then q.0 (append q.1.0 (append q.1.1 (branches_in bs e more h))))
+  pub branches_passes : (bs : List Branch) (e : Expr) → Each BranchPasses bs → ExprPasses test e → ExprPasses test (branches bs e)
+  branches_passes [] e no_more h = h
+  branches_passes (b ∷ bs) e (one_more q more) h = same (mentions_if b.0 b.1.0 b.1.1 (branches bs e)) (one_then q.0 (append q.1.0 (append q.1.1 (branches_passes bs e more h))))
 
+  level_passes : {L : Language words Nested Value} (node : Place → List Expr → List Place → Expr) → ((place : Place) (operands : List Expr) (marks : List Place) → expr_mentions (node place operands marks) ≡ chain_by expr_mentions place operands marks)
+      → {sign : Kind} {f : F Placed} → Yields test L f (PlacedPasses test) → Yields test L (level node sign f) (PlacedPasses test)
+  level_passes node is p = makes (and_then p (any_number (and_then a_word p))) (λ x h. chain_passes node is x.0 x.1 h.0 h.1)
 
-  level_in : {L : Language words Nested Value} (node : Place → List Expr → List Place → Expr) → ((place : Place) (operands : List Expr) (marks : List Place) → expr_mentions (node place operands marks) ≡ chain_by expr_mentions place operands marks)
-      → {sign : Kind} {f : F Placed} → Yields names files L f (PlacedIn names files) → Yields names files L (level node sign f) (PlacedIn names files)
-  level_in node is p = makes (and_then p (any_number (and_then a_word p))) (λ x h. chain_in node is x.0 x.1 h.0 h.1)
-
-module _ (names files : ℕ) (L : Language words Nested Value) (nested : (n : Nested) → Yields names files L (deep n) (NestedIn names files n)) where
-  pub primary_in : Yields names files L primary (HeadIn names files)
+module _ (test : Mention → Bool) (L : Language words Nested Value) (nested : (n : Nested) → Yields test L (deep n) (NestedPasses test n)) where
+  pub primary_passes : Yields test L primary (HeadPasses test)
   unfolding primary
-  primary_in = makes a_word (λ w h. (h, no_mention))
-    <or> makes a_word (λ w h. (h, no_mention))
-    <or> makes a_word (λ w h. (h, no_mention))
-    <or> makes a_word (λ w h. (h, no_mention))
-    <or> makes (and_then a_word (nested in_name)) (λ x h. (h.0, id_alone h.1))
-    <or> makes (nested parens) (λ p h. h)
-    <or> makes (and_then a_named_word (one_way a_word (one_way (nested arguments) no_word))) (λ x h. named_in names files x.0 x.1 h.0 h.1)
+  primary_passes = makes a_word (λ w h. (h, no_mention))
+      <or> makes a_word (λ w h. (h, no_mention))
+      <or> makes a_word (λ w h. (h, no_mention))
+      <or> makes a_word (λ w h. (h, no_mention))
+      <or> makes (and_then a_word (nested in_name)) (λ x h. (h.0, id_alone h.1))
+      <or> makes (nested parens) (λ p h. h)
+      <or> makes (and_then a_named_word (one_way a_word (one_way (nested arguments) no_word))) (λ x h. named_passes test x.0 x.1 h.0 h.1)
 
-  pub selection_in : Yields names files L selection (SelectionIn names files)
+  pub selection_passes : Yields test L selection (SelectionPasses test)
   unfolding selection
-  selection_in = makes (and_then a_word (one_way an_id a_word)) (λ x h. dot_in names files x.0 x.1 h.0 h.1) <or> nested brackets
+  selection_passes = makes (and_then a_word (one_way an_id a_word)) (λ x h. dot_passes test x.0 x.1 h.0 h.1) <or> nested brackets
 
-  pub unary_in : Yields names files L unary (PlacedIn names files)
+  pub unary_passes : Yields test L unary (PlacedPasses test)
   unfolding unary
-  unary_in = nested sign_operand <or> makes (and_then primary_in (any_number selection_in)) (λ x h. selected_in names files x.0.0 x.0.1 x.1 h.0 h.1)
+  unary_passes = nested sign_operand <or> makes (and_then primary_passes (any_number selection_passes)) (λ x h. selected_passes test x.0.0 x.0.1 x.1 h.0 h.1)
 
-  product_in : Yields names files L product (PlacedIn names files)
+  product_passes : Yields test L product (PlacedPasses test)
   unfolding product
-  product_in = level_in names files exprs_.Product mentions_product unary_in
+  product_passes = level_passes test exprs_.Product mentions_product unary_passes
 
-  summed_in : Yields names files L summed (PlacedIn names files)
+  summed_passes : Yields test L summed (PlacedPasses test)
   unfolding summed
-  summed_in = makes (and_then product_in (any_number (and_then a_word product_in))) (λ x h. sum_in names files x.0 x.1 h.0 h.1)
+  summed_passes = makes (and_then product_passes (any_number (and_then a_word product_passes))) (λ x h. sum_passes test x.0 x.1 h.0 h.1)
 
-  concatenated_in : Yields names files L concatenated (PlacedIn names files)
+  concatenated_passes : Yields test L concatenated (PlacedPasses test)
   unfolding concatenated
-  concatenated_in = level_in names files exprs_.Concat mentions_concat summed_in
+  concatenated_passes = level_passes test exprs_.Concat mentions_concat summed_passes
 
-  bit_and_in : Yields names files L bit_and (PlacedIn names files)
+  bit_and_passes : Yields test L bit_and (PlacedPasses test)
   unfolding bit_and
-  bit_and_in = level_in names files exprs_.BitAnd mentions_bit_and concatenated_in
+  bit_and_passes = level_passes test exprs_.BitAnd mentions_bit_and concatenated_passes
 
-  bit_xor_in : Yields names files L bit_xor (PlacedIn names files)
+  bit_xor_passes : Yields test L bit_xor (PlacedPasses test)
   unfolding bit_xor
-  bit_xor_in = level_in names files exprs_.BitXor mentions_bit_xor bit_and_in
+  bit_xor_passes = level_passes test exprs_.BitXor mentions_bit_xor bit_and_passes
 
-  bit_or_in : Yields names files L bit_or (PlacedIn names files)
+  bit_or_passes : Yields test L bit_or (PlacedPasses test)
   unfolding bit_or
-  bit_or_in = level_in names files exprs_.BitOr mentions_bit_or bit_xor_in
+  bit_or_passes = level_passes test exprs_.BitOr mentions_bit_or bit_xor_passes
 
-  pub compared_is_in : Yields names files L compared (PlacedIn names files)
+  pub compared_passes : Yields test L compared (PlacedPasses test)
   unfolding compared
-  compared_is_in = makes (and_then bit_or_in (once_or_not (and_then a_word bit_or_in))) (λ x h. compared_in names files x.0 x.1 h.0 h.1)
+  compared_passes = makes (and_then bit_or_passes (once_or_not (and_then a_word bit_or_passes))) (λ x h. comparison_passes test x.0 x.1 h.0 h.1)
 
-  conjunction_in : Yields names files L conjunction (PlacedIn names files)
+  conjunction_passes : Yields test L conjunction (PlacedPasses test)
   unfolding conjunction
-  conjunction_in = level_in names files exprs_.And mentions_and compared_is_in
+  conjunction_passes = level_passes test exprs_.And mentions_and compared_passes
 
-  disjunction_in : Yields names files L disjunction (PlacedIn names files)
+  disjunction_passes : Yields test L disjunction (PlacedPasses test)
   unfolding disjunction
-  disjunction_in = level_in names files exprs_.Or mentions_or conjunction_in
+  disjunction_passes = level_passes test exprs_.Or mentions_or conjunction_passes
 
-  implication_in : Yields names files L implication (PlacedIn names files)
+  implication_passes : Yields test L implication (PlacedPasses test)
   unfolding implication
-  implication_in = level_in names files exprs_.Implies mentions_implies disjunction_in
+  implication_passes = level_passes test exprs_.Implies mentions_implies disjunction_passes
 
-  pub equivalence_in : Yields names files L equivalence (PlacedIn names files)
+  pub equivalence_passes : Yields test L equivalence (PlacedPasses test)
   unfolding equivalence
-  equivalence_in = level_in names files exprs_.Iff mentions_iff implication_in
+  equivalence_passes = level_passes test exprs_.Iff mentions_iff implication_passes
 
-  pub expression_in : Yields names files L expression (PlacedIn names files)
+  pub expression_passes : Yields test L expression (PlacedPasses test)
   unfolding expression
-  expression_in = nested if_expression <or> equivalence_in
+  expression_passes = nested if_expression <or> equivalence_passes
 
-  pub expr_in : Yields names files L expr (ExprIn names files)
-  expr_in = makes expression_in (λ p h. h.1)
+  pub expr_passes : Yields test L expr (ExprPasses test)
+  expr_passes = makes expression_passes (λ p h. h.1)
 
-  pub branch_in : Yields names files L branch (BranchIn names files)
+  pub branch_passes : Yields test L branch (BranchPasses test)
   unfolding branch
-  branch_in = makes (and_then a_word (and_then (in_front expr_in) (in_front expr_in))) (λ x h. h)
+  branch_passes = makes (and_then a_word (and_then (in_front expr_passes) (in_front expr_passes))) (λ x h. h)

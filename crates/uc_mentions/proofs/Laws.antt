@@ -1,21 +1,62 @@
 -- The laws, with what a caller needs beside them: words and modules under greater bounds, and joined ones.
-use Rattle.std.proofs.Common.{◌≡◌, ℕ, ◌≤◌, Bool, true, false, ◌&&◌, nat_lt, List, [], ◌∷◌, ◌++◌, refl, sym, ap, ◌∙◌, arith}
-use Rattle.std.specs.List.{flat_map, list_all}
+use Rattle.std.proofs.Common.{◌≡◌, ℕ, ◌≤◌, Bool, true, nat_lt, List, [], ◌∷◌, ◌++◌, refl, ap, ◌∙◌, arith}
+use Rattle.std.specs.List.{list_all}
 use Rattle.std.proofs.lemmas.Bool.{and_parts, and_from, ltb-true, lt-ltb}
 use Rattle.std.proofs.lemmas.List.Concat.{flat_map-append}
 use Rattle.uc_forms.specs.Answer.{IsAnswer, spelled}
 use Rattle.uc_syntax.specs.declared.declaration.Module.{Module}
-use Rattle.uc_syntax.specs.Mentions.{Mention, module_mentions, modules_mention, name_below, file_below}
-use Rattle.uc_syntax.proofs.Mentions.{all_append, all_weaker, names_below_more, files_below_more}
+use Rattle.uc_syntax.specs.Mentions.{Mention, module_mentions, modules_mention, name_below, file_below, NamesBelow, FilesBelow}
+use Rattle.uc_syntax.proofs.Mentions.{all_append, all_flat_map, all_weaker, names_below_more, files_below_more}
 use Rattle.uc_grammar.specs.declared.word.Word.{Word}
 use Rattle.uc_grammar.specs.declared.word.Kind.{Kind}
 use Rattle.uc_grammar.specs.declared.word.Kind.TheVariants.{Name, OnBits, Range, Unroll, Induction, Verify, Check, PrintResults, PrintCex}
 use Rattle.uc_grammar.specs.Language.{grammar}
-use Rattle.uc_mentions.specs.Below.{name_below_in, word_below, WordsBelow, ModulesBelow, MentionsLaw, GreaterBounds, JoinedModules}
-use Rattle.uc_mentions.proofs.Texts.{mentions_below}
+use Rattle.uc_mentions.specs.Words.{kind_mentions, word_mentions, words_mention}
+use Rattle.uc_mentions.specs.Below.{name_below_in, word_below, WordsBelow, ModulesBelow}
+use Rattle.uc_mentions.specs.Law.{MentionsLaw, GreaterBounds, JoinedModules}
+use Rattle.uc_mentions.proofs.Texts.{mentions_are_of_words}
+
+-- A word below the bounds mentions only what is below them.
+
+names_in : (n : ℕ) (k : Kind) → name_below_in n k ≡ true → list_all (name_below n) (kind_mentions k) ≡ true
+names_in n (Name x) h = and_from (nat_lt x n) true h refl
+names_in n (OnBits f x) h = and_from (nat_lt x n) true h refl
+names_in n (Range x) h = and_from (nat_lt x n) true h refl
+names_in n (Unroll x) h = and_from (nat_lt x n) true h refl
+names_in n (Induction x) h = and_from (nat_lt x n) true h refl
+names_in n (Verify x) h = and_from (nat_lt x n) true h refl
+names_in n (Check x) h = and_from (nat_lt x n) true h refl
+names_in n (PrintResults x) h = and_from (nat_lt x n) true h refl
+names_in n (PrintCex x) h = and_from (nat_lt x n) true h refl
+names_in n _ h = refl
+
+files_in : (n : ℕ) (k : Kind) → list_all (file_below n) (kind_mentions k) ≡ true
+files_in n (Name x) = refl
+files_in n (OnBits f x) = refl
+files_in n (Range x) = refl
+files_in n (Unroll x) = refl
+files_in n (Induction x) = refl
+files_in n (Verify x) = refl
+files_in n (Check x) = refl
+files_in n (PrintResults x) = refl
+files_in n (PrintCex x) = refl
+files_in n _ = refl
+
+pub words_names : (names files : ℕ) (ws : List Word) → WordsBelow names files ws → NamesBelow names (words_mention ws)
+words_names names files ws below = all_flat_map (name_below names) word_mentions ws (all_weaker (word_below names files) (λ w. list_all (name_below names) (word_mentions w)) here ws below)
+  where
+    here : (w : Word) → word_below names files w ≡ true → list_all (name_below names) (word_mentions w) ≡ true
+    here w h = names_in names w.kind (and_parts (name_below_in names w.kind) (nat_lt w.place.file files) h).0
+
+pub words_files : (names files : ℕ) (ws : List Word) → WordsBelow names files ws → FilesBelow files (words_mention ws)
+words_files names files ws below = all_flat_map (file_below files) word_mentions ws (all_weaker (word_below names files) (λ w. list_all (file_below files) (word_mentions w)) here ws below)
+  where
+    here : (w : Word) → word_below names files w ≡ true → list_all (file_below files) (word_mentions w) ≡ true
+    here w h = and_from (nat_lt w.place.file files) _ (and_parts (name_below_in names w.kind) (nat_lt w.place.file files) h).1 (files_in files w.kind)
 
 pub mentions_law : MentionsLaw
-mentions_law = mentions_below
+mentions_law m names files ws modules s below =
+    (mentions_are_of_words m (name_below names) ws modules s (words_names names files ws below), mentions_are_of_words m (file_below files) ws modules s (words_files names files ws below))
 
 -- Modules.
 
@@ -41,7 +82,7 @@ no_modules names files = (refl, refl)
 
 -- what is to be answered for words mentions no more than they have
 pub answer_below : (levels limit names files : ℕ) (ws : List Word) (modules : List Module) → IsAnswer grammar levels limit ws (spelled modules) → WordsBelow names files ws → ModulesBelow names files modules
-answer_below levels limit names files ws modules is h = mentions_below is.0 names files ws modules is.1 h
+answer_below levels limit names files ws modules is h = mentions_law is.0 names files ws modules is.1 h
 
 -- Words.
 

@@ -1,5 +1,5 @@
 pub mod Yields
-pub mod Below
+pub mod Passing
 pub mod Types
 pub mod Expressions
 pub mod Statements

@@ -1,68 +1,72 @@
--- What the words of a whole text spell mentions no more than they have.
-use Rattle.std.proofs.Common.{◌≡◌, ℕ, zero, suc, ◌≤◌, List, [], ◌∷◌, ◌++◌, Option, Some, None, ◌⊎◌, inl, inr}
-use Rattle.uc_forms.specs.Form.{Form, deep}
-use Rattle.uc_forms.specs.Spelling.{Language, SpellAt, Spells}
-use Rattle.uc_lexer.specs.declared.place.Place.{Place}
+-- What the words of a whole text spell mentions only what they mention.
+use Rattle.std.proofs.Common.{◌≡◌, ℕ, Bool, zero, suc, List, [], ◌∷◌, ◌&&◌, refl, sym, ap, ◌∙◌, ◌⊎◌, inl, inr}
+use Rattle.std.specs.List.{list_all}
+use Rattle.std.proofs.lemmas.List.Folds.{list_all-append}
+use Rattle.uc_forms.specs.Form.{deep}
+use Rattle.uc_forms.specs.Spelling.{Language, SpellAt}
 use Rattle.uc_syntax.specs.declared.expression.Selection.TheVariants.{Element, Update, Extract}
 use Rattle.uc_syntax.specs.declared.expression.Expr.{Expr}
-use Rattle.uc_syntax.specs.declared.declaration.Module.{Module}
-use Rattle.uc_syntax.specs.Mentions.{modules_mention}
+use Rattle.uc_syntax.specs.Mentions.{Mention}
 use Rattle.uc_syntax.proofs.Mentions.{mentions_array, mentions_unary}
 use Rattle.uc_grammar.specs.declared.word.Word.{Word}
 use Rattle.uc_grammar.specs.Code.{value_in}
-use Rattle.uc_grammar.specs.Syntax.{words, Nested, Value, F, rule, text, unary_operator, branches, enum_braces, record_braces, array, arguments, in_name, parens, brackets, sign_operand, if_expression, target_index, block, typed_name, range_bounds, negative_bound, call_targets, in_number, maybe_number, paths, control_braces, params, binds, bind_value, hyper_number, module_braces}
-use Rattle.uc_mentions.specs.Below.{WordsBelow, ModulesBelow, MentionsLaw}
-use Rattle.uc_mentions.proofs.Yields.{Each, one_more, OnEither, FileIn, Yields, a_word, and_then, one_way, makes, looks_ahead, up_to, any_number, joined, behind, in_front, in_parens, an_id, a_new_id}
-use Rattle.uc_mentions.proofs.Below.{PlaceIn, ExprIn, SelectionIn, BindingIn, NestedIn, ModuleIn, file_then, file_alone, id_then, append, same, modules, names_of, files_of}
-use Rattle.uc_mentions.proofs.Types.{type_in, parameter_in}
-use Rattle.uc_mentions.proofs.Expressions.{unary_in, equivalence_in, expr_in, branch_in, branches_in}
-use Rattle.uc_mentions.proofs.Statements.{targets_in, bound_in, statement_in}
-use Rattle.uc_mentions.proofs.Declarations.{command_in, declaration_in, text_in}
+use Rattle.uc_grammar.specs.Syntax.{words, Nested, Value, rule, unary_operator, enum_braces, record_braces, array, arguments, in_name, parens, brackets, sign_operand, if_expression, target_index, block, typed_name, range_bounds, negative_bound, call_targets, in_number, maybe_number, paths, control_braces, params, binds, bind_value, hyper_number, module_braces}
+use Rattle.uc_mentions.specs.Words.{word_mentions, words_mention}
+use Rattle.uc_mentions.specs.Law.{MentionsAreOfWords}
+use Rattle.uc_mentions.proofs.Yields.{word_passes, one_more, OnEither, FilePasses, Yields, a_word, and_then, one_way, makes, looks_ahead, up_to, any_number, joined, behind, in_front, in_parens, an_id, a_new_id}
+use Rattle.uc_mentions.proofs.Passing.{ExprPasses, SelectionPasses, BindingPasses, NestedPasses, one_then, one_alone, id_then, append, same, modules}
+use Rattle.uc_mentions.proofs.Types.{type_passes, parameter_passes}
+use Rattle.uc_mentions.proofs.Expressions.{unary_passes, equivalence_passes, expr_passes, branch_passes, branches_passes}
+use Rattle.uc_mentions.proofs.Statements.{targets_passes, bound_passes, statement_passes}
+use Rattle.uc_mentions.proofs.Declarations.{command_passes, declaration_passes, text_passes}
 
-bracket_in : (names files : ℕ) (w : Word) (x : (Word × Word) ⊎ (Expr × (Word ⊎ Expr))) → FileIn files w → OnEither (λ y. FileIn files y.0 × FileIn files y.1) (λ y. ExprIn names files y.0 × OnEither (FileIn files) (ExprIn names files) y.1) x → SelectionIn names files (elim x [
+bracket_passes : (test : Mention → Bool) (w : Word) (x : (Word × Word) ⊎ (Expr × (Word ⊎ Expr))) → FilePasses test w → OnEither (λ y. FilePasses test y.0 × FilePasses test y.1) (λ y. ExprPasses test y.0 × OnEither (FilePasses test) (ExprPasses test) y.1) x → SelectionPasses test (elim x [
   | inl y ↦ Extract w.place (value_in y.0.kind) (value_in y.1.kind)
   | inr y ↦ elim y.1 [ inl v ↦ Element w.place y.0 | inr e ↦ Update w.place y.0 e ]
 ])
-bracket_in names files w (inl y) f h = file_alone f
-bracket_in names files w (inr (i, inl v)) f h = file_then f h.0
-bracket_in names files w (inr (i, inr e)) f h = file_then f (append h.0 h.1)
+bracket_passes test w (inl y) f h = one_alone f
+bracket_passes test w (inr (i, inl v)) f h = one_then f h.0
+bracket_passes test w (inr (i, inr e)) f h = one_then f (append h.0 h.1)
 
 -- ---- nested forms
 
-module _ (names files : ℕ) (L : Language words Nested Value) (nested : (n : Nested) → Yields names files L (deep n) (NestedIn names files n)) where
-  rule_in : (n : Nested) → Yields names files L (rule n) (NestedIn names files n)
-  rule_in enum_braces = behind (in_front (joined a_new_id))
-  rule_in record_braces = behind (in_front (joined (parameter_in names files L nested)))
-  rule_in array = makes (and_then a_word (and_then (in_front (type_in names files L nested)) (type_in names files L nested))) (λ x h. same (mentions_array x.0.place x.1.0 x.1.1) (file_then h.0 (append h.1.0 h.1.1)))
-  rule_in arguments = in_parens (joined (expr_in names files L nested))
-  rule_in in_name = behind (in_front an_id)
-  rule_in parens = makes (and_then a_word (in_front (expr_in names files L nested))) (λ x h. h)
-  rule_in brackets = makes (and_then a_word (looks_ahead a_word (in_front a_word) (and_then (expr_in names files L nested) (one_way a_word (behind (in_front (expr_in names files L nested))))))) (λ x h. bracket_in names files x.0 x.1 h.0 h.1)
-  rule_in sign_operand = makes (and_then a_word (unary_in names files L nested)) (λ x h. (h.0, same (mentions_unary x.0.place (unary_operator x.0.kind) x.1.1) (file_then h.0 h.1.1)))
-  rule_in if_expression = makes (and_then (branch_in names files L nested) (and_then (any_number (branch_in names files L nested)) (equivalence_in names files L nested))) (λ x h. (h.0.0, branches_in names files (x.0 ∷ x.1.0) x.1.1.1 (one_more h.0 h.1.0) h.1.1.1))
-  rule_in target_index = makes (and_then a_word (in_front (expr_in names files L nested))) (λ x h. file_then h.0 h.1)
-  rule_in block = makes (and_then a_word (up_to (statement_in names files L nested) a_word)) (λ x h. (h.0, h.1.0))
-  rule_in typed_name = behind (in_front (parameter_in names files L nested))
-  rule_in range_bounds = behind (in_front (and_then (bound_in names files L nested) (behind (bound_in names files L nested))))
-  rule_in negative_bound = makes (and_then a_word a_word) (λ x h. file_alone h.0)
-  rule_in call_targets = in_parens (targets_in names files L nested)
-  rule_in in_number = makes (behind (in_front a_word)) (λ w h. tt)
-  rule_in maybe_number = behind (makes (one_way a_word (in_front a_word)) (λ x h. tt))
-  rule_in paths = in_parens (joined (joined an_id))
-  rule_in control_braces = makes (and_then a_word (up_to (command_in names files L nested) a_word)) (λ x h. h.1.0)
-  rule_in params = in_parens (joined (parameter_in names files L nested))
-  rule_in binds = in_parens (joined (makes {R = BindingIn names files} (and_then an_id (behind (nested bind_value))) (λ x h. id_then h.0 h.1)))
-  rule_in bind_value = behind (in_front (expr_in names files L nested))
-  rule_in hyper_number = makes (behind (in_front a_word)) (λ w h. tt)
-  rule_in module_braces = makes (and_then a_word (up_to (declaration_in names files L nested) a_word)) (λ x h. h.1.0)
+module _ (test : Mention → Bool) (L : Language words Nested Value) (nested : (n : Nested) → Yields test L (deep n) (NestedPasses test n)) where
+  rule_passes : (n : Nested) → Yields test L (rule n) (NestedPasses test n)
+  rule_passes enum_braces = behind (in_front (joined a_new_id))
+  rule_passes record_braces = behind (in_front (joined (parameter_passes test L nested)))
+  rule_passes array = makes (and_then a_word (and_then (in_front (type_passes test L nested)) (type_passes test L nested))) (λ x h. same (mentions_array x.0.place x.1.0 x.1.1) (one_then h.0 (append h.1.0 h.1.1)))
+  rule_passes arguments = in_parens (joined (expr_passes test L nested))
+  rule_passes in_name = behind (in_front an_id)
+  rule_passes parens = makes (and_then a_word (in_front (expr_passes test L nested))) (λ x h. h)
+  rule_passes brackets = makes (and_then a_word (looks_ahead a_word (in_front a_word) (and_then (expr_passes test L nested) (one_way a_word (behind (in_front (expr_passes test L nested))))))) (λ x h. bracket_passes test x.0 x.1 h.0 h.1)
+  rule_passes sign_operand = makes (and_then a_word (unary_passes test L nested)) (λ x h. (h.0, same (mentions_unary x.0.place (unary_operator x.0.kind) x.1.1) (one_then h.0 h.1.1)))
+  rule_passes if_expression = makes (and_then (branch_passes test L nested) (and_then (any_number (branch_passes test L nested)) (equivalence_passes test L nested))) (λ x h. (h.0.0, branches_passes test (x.0 ∷ x.1.0) x.1.1.1 (one_more h.0 h.1.0) h.1.1.1))
+  rule_passes target_index = makes (and_then a_word (in_front (expr_passes test L nested))) (λ x h. one_then h.0 h.1)
+  rule_passes block = makes (and_then a_word (up_to (statement_passes test L nested) a_word)) (λ x h. (h.0, h.1.0))
+  rule_passes typed_name = behind (in_front (parameter_passes test L nested))
+  rule_passes range_bounds = behind (in_front (and_then (bound_passes test L nested) (behind (bound_passes test L nested))))
+  rule_passes negative_bound = makes (and_then a_word a_word) (λ x h. one_alone h.0)
+  rule_passes call_targets = in_parens (targets_passes test L nested)
+  rule_passes in_number = makes (behind (in_front a_word)) (λ w h. tt)
+  rule_passes maybe_number = behind (makes (one_way a_word (in_front a_word)) (λ x h. tt))
+  rule_passes paths = in_parens (joined (joined an_id))
+  rule_passes control_braces = makes (and_then a_word (up_to (command_passes test L nested) a_word)) (λ x h. h.1.0)
+  rule_passes params = in_parens (joined (parameter_passes test L nested))
+  rule_passes binds = in_parens (joined (makes {R = BindingPasses test} (and_then an_id (behind (nested bind_value))) (λ x h. id_then h.0 h.1)))
+  rule_passes bind_value = behind (in_front (expr_passes test L nested))
+  rule_passes hyper_number = makes (behind (in_front a_word)) (λ w h. tt)
+  rule_passes module_braces = makes (and_then a_word (up_to (declaration_passes test L nested) a_word)) (λ x h. h.1.0)
 
-nested_in : (names files m : ℕ) (n : Nested) → Yields names files (SpellAt rule m) (deep n) (NestedIn names files n)
+nested_passes : (test : Mention → Bool) (m : ℕ) (n : Nested) → Yields test (SpellAt rule m) (deep n) (NestedPasses test n)
 unfolding SpellAt
-nested_in names files zero n = record { of_words = λ ws v h s. absurd s }
-nested_in names files (suc m) n = record { of_words = λ ws v h s. (rule_in names files (SpellAt rule m) (nested_in names files m) n).of_words ws v h s }
+nested_passes test zero n = record { of_words = λ ws v h s. absurd s }
+nested_passes test (suc m) n = record { of_words = λ ws v h s. (rule_passes test (SpellAt rule m) (nested_passes test m) n).of_words ws v h s }
 
--- what modules mention, by the words that spell them
-pub mentions_below : (m names files : ℕ) (ws : List Word) (ms : List Module) → Spells rule m text ws ms → WordsBelow names files ws → ModulesBelow names files ms
-mentions_below m names files ws ms s h =
-    let b = modules ((text_in names files (SpellAt rule m) (nested_in names files m)).of_words ws ms h s) in
-    (names_of names files (modules_mention ms) b, files_of names files (modules_mention ms) b)
+-- words one by one
+each_word : (test : Mention → Bool) (ws : List Word) → list_all test (words_mention ws) ≡ list_all (word_passes test) ws
+each_word test [] = refl
+each_word test (w ∷ ws) = list_all-append test (word_mentions w) (words_mention ws) ∙ ap (λ b. word_passes test w && b) (each_word test ws)
+
+pub mentions_are_of_words : MentionsAreOfWords
+mentions_are_of_words m test ws ms s h =
+    (modules ((text_passes test (SpellAt rule m) (nested_passes test m)).of_words ws ms (sym (each_word test ws) ∙ h) s)).all

@@ -5,22 +5,26 @@
 //! of the modules. `proofs/Laws.antt` has the laws as lemmas, with what a reader needs of words that come one by one.
 #![tactic(auto)]
 
-ghost use Rattle.uc_mentions.specs.Below.{MentionsLaw, GreaterBounds, JoinedModules};
+ghost use Rattle.uc_mentions.specs.Law.{MentionsAreOfWords, MentionsLaw, GreaterBounds, JoinedModules};
 
-/// Modules mention only names and files of the words that spell them.
+/// Modules mention only what the words mention that spell them.
+#[tactic(auto, using(crate::proofs::Texts::mentions_are_of_words))]
+pub fn mentions_are_of_words()
+    ensures { MentionsAreOfWords }
+{}
+
+/// Modules are below two numbers where the words that spell them are.
 #[tactic(auto, using(crate::proofs::Laws::mentions_law))]
 pub fn mentions_law()
     ensures { MentionsLaw }
 {}
 
 /// What is below two numbers is below greater ones.
-#[tactic(auto, using(crate::proofs::Laws::greater_bounds))]
 pub fn greater_bounds()
     ensures { GreaterBounds }
 {}
 
 /// Modules that are joined mention what both mention.
-#[tactic(auto, using(crate::proofs::Laws::joined_modules))]
 pub fn joined_modules()
     ensures { JoinedModules }
 {}
@@ -31,6 +35,7 @@ mod tests {
 
     #[test]
     fn laws_can_be_called(_rt: HostRuntime) {
+        mentions_are_of_words();
         mentions_law();
         greater_bounds();
         joined_modules();
