@@ -1,4 +1,4 @@
--- What the words of a declaration spell mentions only what they mention.
+-- Commands, declarations and modules mention only what their words mention.
 use Rattle.std.proofs.Common.{ℕ, Bool, List, [], ◌∷◌, Option, Some, None, refl, ◌⊎◌, inl, inr}
 use Rattle.uc_forms.specs.Form.{quiet, deep}
 use Rattle.uc_forms.specs.Spelling.{Language}

@@ -1,4 +1,4 @@
--- What the words of an expression spell mentions only what they mention.
+-- An expression mentions only what its words mention.
 use Rattle.std.proofs.Common.{◌≡◌, Bool, List, [], ◌∷◌, map, Option, Some, None, ◌⊎◌, inl, inr}
 use Rattle.uc_forms.specs.Form.{deep}
 use Rattle.uc_forms.specs.Spelling.{Language}
@@ -57,17 +57,17 @@ module _ (test : Mention → Bool) where
   marks_passes no_more = no_more
   marks_passes (one_more q more) = one_more q.0 (marks_passes more)
 
-  chain_by_passes : (p : Placed) (ys : List (Word × Placed)) (marks : List Place) → PlacedPasses test p → Each TurnPasses ys → Each (PlacePasses test) marks → PassAll test (chain_by expr_mentions p.0 (p.1 ∷ map (λ y. y.1.1) ys) marks)
-  chain_by_passes p ys marks h each at = one_then h.0 (append (exprs (one_more h.1 (each_map (λ y. y.1.1) (operands_passes each)))) (places at))
+  chain_mentions_pass : (p : Placed) (ys : List (Word × Placed)) (marks : List Place) → PlacedPasses test p → Each TurnPasses ys → Each (PlacePasses test) marks → PassAll test (chain_by expr_mentions p.0 (p.1 ∷ map (λ y. y.1.1) ys) marks)
+  chain_mentions_pass p ys marks h each at = one_then h.0 (append (exprs (one_more h.1 (each_map (λ y. y.1.1) (operands_passes each)))) (places at))
 
   chain_passes : (node : Place → List Expr → List Place → Expr) → ((place : Place) (operands : List Expr) (marks : List Place) → expr_mentions (node place operands marks) ≡ chain_by expr_mentions place operands marks)
       → (p : Placed) (ys : List (Word × Placed)) → PlacedPasses test p → Each TurnPasses ys → PlacedPasses test (chain_of node (p, ys))
   chain_passes node is p [] h each = h
-  chain_passes node is p (y ∷ ys) h each = (h.0, same (is p.0 (p.1 ∷ map (λ z. z.1.1) (y ∷ ys)) (map (λ z. z.0.place) (y ∷ ys))) (chain_by_passes p (y ∷ ys) _ h each (each_map (λ z. z.0.place) (marks_passes each))))
+  chain_passes node is p (y ∷ ys) h each = (h.0, same (is p.0 (p.1 ∷ map (λ z. z.1.1) (y ∷ ys)) (map (λ z. z.0.place) (y ∷ ys))) (chain_mentions_pass p (y ∷ ys) _ h each (each_map (λ z. z.0.place) (marks_passes each))))
 
   sum_passes : (p : Placed) (ys : List (Word × Placed)) → PlacedPasses test p → Each TurnPasses ys → PlacedPasses test (sum_of (p, ys))
   sum_passes p [] h each = h
-  sum_passes p (y ∷ ys) h each = (h.0, same (mentions_sum p.0 (p.1 ∷ map (λ z. z.1.1) (y ∷ ys)) (map (λ z. sum_sign z.0) (y ∷ ys))) (chain_by_passes p (y ∷ ys) _ h each (each_map (λ s. s.place) (each_map (λ z. sum_sign z.0) (marks_passes each)))))
+  sum_passes p (y ∷ ys) h each = (h.0, same (mentions_sum p.0 (p.1 ∷ map (λ z. z.1.1) (y ∷ ys)) (map (λ z. sum_sign z.0) (y ∷ ys))) (chain_mentions_pass p (y ∷ ys) _ h each (each_map (λ s. s.place) (each_map (λ z. sum_sign z.0) (marks_passes each)))))
 
   comparison_passes : (p : Placed) (o : Option (Word × Placed)) → PlacedPasses test p → OnSome TurnPasses o → PlacedPasses test (compared_of (p, o))
   comparison_passes p None h k = h

@@ -18,18 +18,7 @@ use Rattle.uc_mentions.proofs.Texts.{mentions_are_of_words}
 
 -- A word below the bounds mentions only what is below them.
 
-names_in : (n : ℕ) (k : Kind) → name_below_in n k ≡ true → list_all (name_below n) (kind_mentions k) ≡ true
-names_in n (Name x) h = and_from (nat_lt x n) true h refl
-names_in n (OnBits f x) h = and_from (nat_lt x n) true h refl
-names_in n (Range x) h = and_from (nat_lt x n) true h refl
-names_in n (Unroll x) h = and_from (nat_lt x n) true h refl
-names_in n (Induction x) h = and_from (nat_lt x n) true h refl
-names_in n (Verify x) h = and_from (nat_lt x n) true h refl
-names_in n (Check x) h = and_from (nat_lt x n) true h refl
-names_in n (PrintResults x) h = and_from (nat_lt x n) true h refl
-names_in n (PrintCex x) h = and_from (nat_lt x n) true h refl
-names_in n _ h = refl
-
+-- the kind of a word mentions no file
 files_in : (n : ℕ) (k : Kind) → list_all (file_below n) (kind_mentions k) ≡ true
 files_in n (Name x) = refl
 files_in n (OnBits f x) = refl
@@ -46,7 +35,7 @@ pub words_names : (names files : ℕ) (ws : List Word) → WordsBelow names file
 words_names names files ws below = all_flat_map (name_below names) word_mentions ws (all_weaker (word_below names files) (λ w. list_all (name_below names) (word_mentions w)) here ws below)
   where
     here : (w : Word) → word_below names files w ≡ true → list_all (name_below names) (word_mentions w) ≡ true
-    here w h = names_in names w.kind (and_parts (name_below_in names w.kind) (nat_lt w.place.file files) h).0
+    here w h = (and_parts (name_below_in names w.kind) (nat_lt w.place.file files) h).0
 
 pub words_files : (names files : ℕ) (ws : List Word) → WordsBelow names files ws → FilesBelow files (words_mention ws)
 words_files names files ws below = all_flat_map (file_below files) word_mentions ws (all_weaker (word_below names files) (λ w. list_all (file_below files) (word_mentions w)) here ws below)
@@ -80,26 +69,21 @@ pub no_modules : (names files : ℕ) → ModulesBelow names files []
 unfolding modules_mention
 no_modules names files = (refl, refl)
 
--- what is to be answered for words mentions no more than they have
+-- What is to be answered for words mentions no more than they do.
+
+pub answer_names : (levels limit n : ℕ) (ws : List Word) (modules : List Module) → IsAnswer grammar levels limit ws (spelled modules) → NamesBelow n (words_mention ws) → NamesBelow n (modules_mention modules)
+answer_names levels limit n ws modules is below = mentions_are_of_words is.0 (name_below n) ws modules is.1 below
+
+pub answer_files : (levels limit n : ℕ) (ws : List Word) (modules : List Module) → IsAnswer grammar levels limit ws (spelled modules) → FilesBelow n (words_mention ws) → FilesBelow n (modules_mention modules)
+answer_files levels limit n ws modules is below = mentions_are_of_words is.0 (file_below n) ws modules is.1 below
+
 pub answer_below : (levels limit names files : ℕ) (ws : List Word) (modules : List Module) → IsAnswer grammar levels limit ws (spelled modules) → WordsBelow names files ws → ModulesBelow names files modules
-answer_below levels limit names files ws modules is h = mentions_law is.0 names files ws modules is.1 h
+answer_below levels limit names files ws modules is below = mentions_law is.0 names files ws modules is.1 below
 
 -- Words.
 
 lt_more : (x n m : ℕ) → n ≤ m → nat_lt x n ≡ true → nat_lt x m ≡ true
 lt_more x n m le h = lt-ltb x m (omega (arith, ltb-true x n h))
-
-name_more : (n m : ℕ) (k : Kind) → n ≤ m → name_below_in n k ≡ true → name_below_in m k ≡ true
-name_more n m (Name x) le h = lt_more x n m le h
-name_more n m (OnBits f x) le h = lt_more x n m le h
-name_more n m (Range x) le h = lt_more x n m le h
-name_more n m (Unroll x) le h = lt_more x n m le h
-name_more n m (Induction x) le h = lt_more x n m le h
-name_more n m (Verify x) le h = lt_more x n m le h
-name_more n m (Check x) le h = lt_more x n m le h
-name_more n m (PrintResults x) le h = lt_more x n m le h
-name_more n m (PrintCex x) le h = lt_more x n m le h
-name_more n m _ le h = refl
 
 pub words_below_more : (names files more_names more_files : ℕ) (ws : List Word) → names ≤ more_names → files ≤ more_files → WordsBelow names files ws → WordsBelow more_names more_files ws
 words_below_more names files more_names more_files ws n f below = all_weaker (word_below names files) (word_below more_names more_files) more ws below
@@ -107,7 +91,7 @@ words_below_more names files more_names more_files ws n f below = all_weaker (wo
     more : (w : Word) → word_below names files w ≡ true → word_below more_names more_files w ≡ true
     more w h =
         let parts = and_parts (name_below_in names w.kind) (nat_lt w.place.file files) h in
-        and_from _ _ (name_more names more_names w.kind n parts.0) (lt_more w.place.file files more_files f parts.1)
+        and_from _ _ (names_below_more names more_names (kind_mentions w.kind) n parts.0) (lt_more w.place.file files more_files f parts.1)
 
 pub words_below_append : (names files : ℕ) (front back : List Word) → WordsBelow names files front → WordsBelow names files back → WordsBelow names files (front ++ back)
 words_below_append names files front back p q = all_append (word_below names files) front back p q

@@ -1,4 +1,4 @@
--- What the words of a statement spell mentions only what they mention.
+-- A statement mentions only what its words mention.
 use Rattle.std.proofs.Common.{Bool, List, ◌∷◌, Option, Some, None, ◌⊎◌, inl, inr}
 use Rattle.uc_forms.specs.Form.{deep}
 use Rattle.uc_forms.specs.Spelling.{Language}

@@ -1,4 +1,4 @@
--- What the words of a whole text spell mentions only what they mention.
+-- The modules of a text mention only what its words mention.
 use Rattle.std.proofs.Common.{◌≡◌, ℕ, Bool, zero, suc, List, [], ◌∷◌, ◌&&◌, refl, sym, ap, ◌∙◌, ◌⊎◌, inl, inr}
 use Rattle.std.specs.List.{list_all}
 use Rattle.std.proofs.lemmas.List.Folds.{list_all-append}

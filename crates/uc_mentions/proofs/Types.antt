@@ -1,4 +1,4 @@
--- What the words of a type spell mentions only what they mention.
+-- A type mentions only what its words mention.
 use Rattle.std.proofs.Common.{Bool, Option, Some, None}
 use Rattle.uc_forms.specs.Form.{deep}
 use Rattle.uc_forms.specs.Spelling.{Language}

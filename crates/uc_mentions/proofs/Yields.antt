@@ -103,9 +103,11 @@ one_passes : (test : Mention → Bool) (ws : List Word) (w : Word) → ws ≡ w 
 one_passes test ws w e h = (and_parts (word_passes test w) true (subst (λ (us : List Word). WordsPass test us) e h)).0
 
 module _ {test : Mention → Bool} {L : Language words Nested Value} where
+  -- the place of a word
   pub a_word : {q : Mark} {j : Kind} {js : List Kind} → Yields test L (any q j js) (FilePasses test)
   a_word = record { of_words = λ ws w h s. record { it = (and_parts (test (OfFile w.place.file)) _ (one_passes test ws w s.0 h)).0 } }
 
+  -- one after the other
   pub and_then : {A B : Type 0} {f : F A} {g : F B} {Q : A → Type 0} {R : B → Type 0} → Yields test L f Q → Yields test L g R → Yields test L (both f g) (λ x. Q x.0 × R x.1)
   and_then p q = record {
     of_words = λ ws x h s.
@@ -116,6 +118,7 @@ module _ {test : Mention → Bool} {L : Language words Nested Value} where
   pub no_word : Yields test L nothing (λ u. Unit {0})
   no_word = record { of_words = λ ws u h s. tt }
 
+  -- one or the other
   pub one_way : {A B : Type 0} {f : F A} {g : F B} {Q : A → Type 0} {R : B → Type 0} → Yields test L f Q → Yields test L g R → Yields test L (either f g) (OnEither Q R)
   one_way {A} {B} {f} {g} {Q} {R} p q = record { of_words = there }
     where
@@ -123,9 +126,11 @@ module _ {test : Mention → Bool} {L : Language words Nested Value} where
       there ws (inl a) h s = p.of_words ws a h s
       there ws (inr b) h s = q.of_words ws b h s
 
+  -- a value made of the parts
   pub makes : {A B : Type 0} {k : A → B} {f : F A} {Q : A → Type 0} {R : B → Type 0} → Yields test L f Q → ((a : A) → Q a → R (k a)) → Yields test L (made k f) R
   makes {R = R} p then = record { of_words = λ ws b h s. subst R (sym s.1) (then s.0 (p.of_words ws s.0 h s.2)) }
 
+  -- any number, and then maybe one
   pub turns : {A B : Type 0} {f : F (A ⊎ B)} {Q : A ⊎ B → Type 0} → Yields test L f Q → Yields test L (chain f) (λ x. Each (λ a. Q (inl a)) x.0 × OnSome (λ b. Q (inr b)) x.1)
   turns {A} {B} {f} {Q} p = record { of_words = λ ws x h s. there ws x.0 x.1 h s }
     where
@@ -137,6 +142,7 @@ module _ {test : Mention → Bool} {L : Language words Nested Value} where
           let rest = there s.1 xs o (back_true (word_passes test) s.0 s.1 k) s.4 in
           (one_more (p.of_words s.0 (inl x) (front_true (word_passes test) s.0 s.1 k) s.3) rest.0, rest.1)
 
+  -- any number, and then one
   pub up_to : {A B : Type 0} {f : F A} {g : F B} {Q : A → Type 0} {R : B → Type 0} → Yields test L f Q → Yields test L g R → Yields test L (until f g) (λ x. Each Q x.0 × R x.1)
   up_to {A} {B} {f} {g} {Q} {R} p q = record { of_words = λ ws x h s. there ws x.0 x.1 h s }
     where
@@ -147,6 +153,7 @@ module _ {test : Mention → Bool} {L : Language words Nested Value} where
           let rest = there s.1 xs b (back_true (word_passes test) s.0 s.1 k) s.4 in
           (one_more (p.of_words s.0 x (front_true (word_passes test) s.0 s.1 k) s.3) rest.0, rest.1)
 
+  -- a label that the second word tells
   pub looks_ahead : {A B : Type 0} {q : Mark} {j : Kind} {js : List Kind} {c : Kind} {f : F A} {g : F B} {W : Word → Type 0} {Q : A → Type 0} {R : B → Type 0} → Yields test L (any quiet j js) W → Yields test L f Q → Yields test L g R → Yields test L (ahead q j js c f g) (OnEither (λ a. W a.0 × Q a.1) R)
   looks_ahead {A} {B} {q} {j} {js} {c} {f} {g} {W} {Q} {R} first p other = record { of_words = there }
     where
