@@ -11,7 +11,7 @@ use Rattle.uc_grammar.specs.declared.word.Word.{Word}
 use Rattle.uc_grammar.specs.declared.word.Kind.{Kind}
 use Rattle.uc_grammar.specs.declared.word.Kind.TheVariants.{Name, OnBits, Range, Unroll, Induction, Verify, Check, PrintResults, PrintCex}
 use Rattle.uc_grammar.specs.Language.{grammar}
-use Rattle.uc_mentions.specs.Words.{kind_mentions, word_mentions, words_mention}
+use Rattle.uc_words.specs.Mentions.{kind_mentions, word_mentions, words_mention}
 use Rattle.uc_mentions.specs.Below.{name_below_in, word_below, WordsBelow, ModulesBelow}
 use Rattle.uc_mentions.specs.Law.{MentionsLaw, GreaterBounds, JoinedModules}
 use Rattle.uc_mentions.proofs.Texts.{mentions_are_of_words}

@@ -11,7 +11,7 @@ use Rattle.uc_syntax.proofs.Mentions.{mentions_array, mentions_unary}
 use Rattle.uc_grammar.specs.declared.word.Word.{Word}
 use Rattle.uc_grammar.specs.Code.{value_in}
 use Rattle.uc_grammar.specs.Syntax.{words, Nested, Value, rule, unary_operator, enum_braces, record_braces, array, arguments, in_name, parens, brackets, sign_operand, if_expression, target_index, block, typed_name, range_bounds, negative_bound, call_targets, in_number, maybe_number, paths, control_braces, params, binds, bind_value, hyper_number, module_braces}
-use Rattle.uc_mentions.specs.Words.{word_mentions, words_mention}
+use Rattle.uc_words.specs.Mentions.{word_mentions, words_mention}
 use Rattle.uc_mentions.specs.Law.{MentionsAreOfWords}
 use Rattle.uc_mentions.proofs.Yields.{word_passes, one_more, OnEither, FilePasses, Yields, a_word, and_then, one_way, makes, looks_ahead, up_to, any_number, joined, behind, in_front, in_parens, an_id, a_new_id}
 use Rattle.uc_mentions.proofs.Passing.{ExprPasses, SelectionPasses, BindingPasses, NestedPasses, one_then, one_alone, id_then, append, same, modules}

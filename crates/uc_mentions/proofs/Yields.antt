@@ -13,7 +13,7 @@ use Rattle.uc_grammar.specs.Code.{code_of, name_in}
 use Rattle.uc_syntax.specs.declared.place.Identifier.{Identifier}
 use Rattle.uc_grammar.specs.Syntax.{words, Nested, Value, F, known, a_name, id, new_id, optional, labelled, label_of, enclosed}
 use Rattle.uc_syntax.specs.Mentions.{Mention, OfName, OfFile}
-use Rattle.uc_mentions.specs.Words.{kind_mentions, word_mentions}
+use Rattle.uc_words.specs.Mentions.{kind_mentions, word_mentions}
 
 -- ---- tests
 

@@ -5,7 +5,7 @@ use Rattle.uc_syntax.specs.declared.declaration.Module.{Module}
 use Rattle.uc_syntax.specs.Mentions.{name_below, NamesBelow, FilesBelow, modules_mention}
 use Rattle.uc_grammar.specs.declared.word.Word.{Word}
 use Rattle.uc_grammar.specs.declared.word.Kind.{Kind}
-use Rattle.uc_mentions.specs.Words.{kind_mentions}
+use Rattle.uc_words.specs.Mentions.{kind_mentions}
 
 -- the number of the name is below n, if the kind is that of a name
 abbrev pub name_below_in : ℕ → Kind → Bool

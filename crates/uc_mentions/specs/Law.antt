@@ -6,7 +6,7 @@ use Rattle.uc_syntax.specs.declared.declaration.Module.{Module}
 use Rattle.uc_syntax.specs.Mentions.{Mention, modules_mention}
 use Rattle.uc_grammar.specs.declared.word.Word.{Word}
 use Rattle.uc_grammar.specs.Syntax.{rule, text}
-use Rattle.uc_mentions.specs.Words.{words_mention}
+use Rattle.uc_words.specs.Mentions.{words_mention}
 use Rattle.uc_mentions.specs.Below.{WordsBelow, ModulesBelow}
 
 -- Whatever holds of all that the words mention holds of all that the modules mention which they spell.
