@@ -1,0 +1,26 @@
+-- Parts of forms that a function reads by itself.
+use Rattle.std.specs.Prelude.{List, []}
+use Rattle.uc_forms.specs.Form.{both, nothing, either, made, deep, word, many, after, ◌<|>◌}
+use Rattle.uc_forms.specs.Form as forms
+use Rattle.uc_grammar.specs.declared.word.Kind.TheVariants.{Comma, Prime}
+use Rattle.uc_grammar.specs.Syntax.{F, Head, a_name, arguments, named, selection, expr, Branch, branch, Placed, primary, selected_of}
+use Rattle.uc_syntax.specs.declared.expression.Expr.{Expr}
+use Rattle.uc_syntax.specs.declared.expression.Selection.{Selection}
+
+-- a primary that begins with a name
+unfoldable pub named_primary : F Head
+named_primary = made named (both a_name (either (word Prime) (either (deep arguments) nothing)))
+
+-- a primary with its selections
+unfoldable pub selected : F Placed
+selected = made selected_of (both primary (many selection))
+
+unfoldable pub selections : F (List (Selection Expr))
+selections = many selection
+
+-- the expressions behind the first of a list
+unfoldable pub more_expressions : F (List Expr)
+more_expressions = many (after Comma expr)
+
+unfoldable pub more_branches : F (List Branch)
+more_branches = many branch
