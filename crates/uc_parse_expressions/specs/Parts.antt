@@ -19,8 +19,8 @@ unfoldable pub selections : F (List (Selection Expr))
 selections = many selection
 
 -- the expressions behind the first of a list
-unfoldable pub more_expressions : F (List Expr)
+abbrev pub more_expressions : F (List Expr)
 more_expressions = many (after Comma expr)
 
-unfoldable pub more_branches : F (List Branch)
+abbrev pub more_branches : F (List Branch)
 more_branches = many branch

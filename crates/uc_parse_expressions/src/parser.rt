@@ -393,7 +393,7 @@ fn if_expression(reader: &mut Reader<'_>, levels: u8) -> Result<(Place, Expr), S
     if levels == 0 {
         return Err(reader.no_level(Kind::KwIf));
     }
-    let (place, first) = branch(reader, levels - 1)?;
+    let (place, first) = if_branch(reader, levels - 1)?;
     let mut branches = Items::new(reader.alloc);
     branches.push((place, first))?;
     more_branches(reader, levels - 1, &mut branches)?;
@@ -411,7 +411,7 @@ fn more_branches(
     ensures { Leaves found.new result (state reader.new) (with_front found.old (form levels parts.more_branches (state reader.old))) }
 {
     'turns: while reader.is_at(Kind::KwIf) {
-        let next = branch(reader, levels)?;
+        let next = if_branch(reader, levels)?;
         found.push(next)?;
     }
     Ok(())
@@ -419,7 +419,7 @@ fn more_branches(
 
 #[cycle(expressions)]
 #[tactic(auto, unfolding(uc_grammar::specs::Syntax::branch))]
-fn branch(reader: &mut Reader<'_>, levels: u8) -> Result<Branch, Stop>
+fn if_branch(reader: &mut Reader<'_>, levels: u8) -> Result<Branch, Stop>
     ensures { Counts result (state reader.new) (form levels syntax.branch (state reader.old)) }
 {
     let opening = reader.take(Kind::KwIf)?;
