@@ -1,3 +1,4 @@
 mod Chains
 mod Ranks
 mod Branches
+mod Compared

@@ -1,11 +1,14 @@
 -- Parts of forms that a function reads by itself.
-use Rattle.std.specs.Prelude.{List, []}
-use Rattle.uc_forms.specs.Form.{both, nothing, either, made, deep, word, many, after, ◌<|>◌}
-use Rattle.uc_forms.specs.Form as forms
-use Rattle.uc_grammar.specs.declared.word.Kind.TheVariants.{Comma, Prime}
+use Rattle.std.specs.Prelude.{List, ◌⊎◌}
+use Rattle.std.proofs.Common.{inl, inr}
+use Rattle.uc_forms.specs.Form.{both, nothing, either, made, deep, word, many, after, before}
+use Rattle.uc_grammar.specs.declared.word.Kind.TheVariants.{Arrow, Comma, Prime, RightBracket}
+use Rattle.uc_lexer.specs.declared.place.Place.{Place}
+use Rattle.uc_grammar.specs.declared.word.Word.{Word}
 use Rattle.uc_grammar.specs.Syntax.{F, Head, a_name, arguments, named, selection, expr, Branch, branch, Placed, primary, selected_of}
 use Rattle.uc_syntax.specs.declared.expression.Expr.{Expr}
 use Rattle.uc_syntax.specs.declared.expression.Selection.{Selection}
+use Rattle.uc_syntax.specs.declared.expression.Selection.TheVariants as selection_kinds
 
 -- a primary that begins with a name
 unfoldable pub named_primary : F Head
@@ -24,3 +27,10 @@ more_expressions = many (after Comma expr)
 
 abbrev pub more_branches : F (List Branch)
 more_branches = many branch
+
+-- an index in brackets, and maybe a value that is put there
+unfoldable pub element : F (Expr × (Word ⊎ Expr))
+element = both expr (either (word RightBracket) (after Arrow (before expr RightBracket)))
+
+abbrev pub element_of : Place → Expr × (Word ⊎ Expr) → Selection Expr
+element_of place y = elim y.1 [ inl w ↦ selection_kinds.Element place y.0 | inr e ↦ selection_kinds.Update place y.0 e ]

@@ -12,6 +12,7 @@ ghost use Rattle.uc_parse_expressions.specs.Chains.{chain_form, operand_form, si
 ghost use Rattle.uc_parse_expressions.specs.Gives.{CountsAs};
 ghost use Rattle.uc_parse_expressions.specs.Heads.{head_of};
 ghost use Rattle.uc_parse_expressions.specs.Parts as parts;
+ghost use Rattle.uc_parse_expressions.specs.Parts.{element_of};
 ghost use Rattle.uc_parse_expressions.specs.Signs.{minus, sum_codes};
 ghost use Rattle.uc_reader.specs.Reading.{state, form, nested};
 
@@ -212,15 +213,24 @@ fn brackets(reader: &mut Reader<'_>, levels: u8) -> Result<Selection<Expr>, Stop
         let low = value_of(low.kind);
         return Ok(Selection::Extract(opening.place, high, low));
     }
-    let index = expr(reader, levels - 1)?;
+    element(reader, levels - 1, opening.place)
+}
+
+/// An index, and maybe a value that is put there.
+#[cycle(expressions)]
+#[tactic(auto, unfolding(crate::specs::Parts::element))]
+fn element(reader: &mut Reader<'_>, levels: u8, place: Place) -> Result<Selection<Expr>, Stop>
+    ensures { Counts result (state reader.new) (turned (element_of place) (form levels parts.element (state reader.old))) }
+{
+    let index = expr(reader, levels)?;
     if reader.is_at(Kind::RightBracket) {
         reader.take(Kind::RightBracket)?;
-        return Ok(Selection::Element(opening.place, index));
+        return Ok(Selection::Element(place, index));
     }
     reader.take(Kind::Arrow)?;
-    let value = expr(reader, levels - 1)?;
+    let value = expr(reader, levels)?;
     reader.take(Kind::RightBracket)?;
-    Ok(Selection::Update(opening.place, index, value))
+    Ok(Selection::Update(place, index, value))
 }
 
 #[cycle(expressions)]

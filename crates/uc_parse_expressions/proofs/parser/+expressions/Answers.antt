@@ -12,9 +12,10 @@ use Rattle.uc_grammar.specs.declared.word.Kind.TheVariants.{Comma, Dot, LeftBrac
 use Rattle.uc_grammar.specs.Syntax as syntax
 use Rattle.uc_grammar.specs.Syntax.{words, rule, opens, expr, selection, branch, product, chain_of, sum_of, sum_sign}
 use Rattle.uc_parse_expressions.specs.Chains.{chain_form, operand_form, sign_of, node_of, gathered}
-use Rattle.uc_parse_expressions.specs.Parts.{selections}
-use Rattle.uc_parse_expressions.specs.Signs.{minus, sum_codes}
+use Rattle.uc_parse_expressions.specs.Parts.{selections, element}
+use Rattle.uc_parse_expressions.specs.Signs.{minus, sum_codes, order_codes}
 use Rattle.uc_parse_expressions.proofs.Chains.{gathers_on, gather_fails, gather_done, chain_given, sum_given, fold_more, fold_alone, chain_folds, sum_folds, pair_is, pair_fails}
+use Rattle.uc_parse_expressions.proofs.Compared.{compared_alone, compared_pair, compared_fails}
 use Rattle.uc_reader.specs.Reading.{state, form}
 use Rattle.uc_reader.proofs.Here.{takes, one_deeper, none_left}
 use Rattle.uc_syntax.specs.declared.expression.Expr.TheViews as exprs
@@ -69,34 +70,42 @@ pub brackets-returns-then-levels-eq0 : goal.brackets-returns-then-levels-eq0
 brackets-returns-then-levels-eq0 t c = rw c.no_level.ensures (none_left c.args.levels syntax.brackets (state c.args.reader.now) c.if-levels-eq0.true)
 
 pub brackets-returns-in_err-opening : goal.brackets-returns-in_err-opening
+unfolding element
 brackets-returns-in_err-opening t c = rw (one_deeper c.args.levels syntax.brackets (state c.args.reader.now) (omega arith)) (search rules)
 
 pub brackets-returns-in_err-low : goal.brackets-returns-in_err-low
+unfolding element
 brackets-returns-in_err-low t c = rw (one_deeper c.args.levels syntax.brackets (state c.args.reader.now) (omega arith)) (search rules)
 
 pub brackets-returns-in_err-take-2 : goal.brackets-returns-in_err-take-2
+unfolding element
 brackets-returns-in_err-take-2 t c = rw (one_deeper c.args.levels syntax.brackets (state c.args.reader.now) (omega arith)) (search rules)
 
 pub brackets-returns-then-at_bounds : goal.brackets-returns-then-at_bounds
+unfolding element
 brackets-returns-then-at_bounds t c = rw (one_deeper c.args.levels syntax.brackets (state c.args.reader.now) (omega arith)) (search rules)
 
-pub brackets-returns-in_err-index : goal.brackets-returns-in_err-index
-brackets-returns-in_err-index t c = rw (one_deeper c.args.levels syntax.brackets (state c.args.reader.now) (omega arith)) (search rules)
-
-pub brackets-returns-then-is_at : goal.brackets-returns-then-is_at
-brackets-returns-then-is_at t c = rw (one_deeper c.args.levels syntax.brackets (state c.args.reader.now) (omega arith)) (search rules)
-
-pub brackets-returns-in_err-take-4 : goal.brackets-returns-in_err-take-4
-brackets-returns-in_err-take-4 t c = rw (one_deeper c.args.levels syntax.brackets (state c.args.reader.now) (omega arith)) (search rules)
-
-pub brackets-returns-in_err-value : goal.brackets-returns-in_err-value
-brackets-returns-in_err-value t c = rw (one_deeper c.args.levels syntax.brackets (state c.args.reader.now) (omega arith)) (search rules)
-
-pub brackets-returns-in_err-take-5 : goal.brackets-returns-in_err-take-5
-brackets-returns-in_err-take-5 t c = rw (one_deeper c.args.levels syntax.brackets (state c.args.reader.now) (omega arith)) (search rules)
-
 pub brackets-returns : goal.brackets-returns
+unfolding element
 brackets-returns t c = rw (one_deeper c.args.levels syntax.brackets (state c.args.reader.now) (omega arith)) (search rules)
+
+pub comparison-returns-then-not-at_comparison : goal.comparison-returns-then-not-at_comparison
+comparison-returns-then-not-at_comparison t c =
+    let at : is_at words order_codes c.chain.new.reader.rest.now ≡ false = search rules in
+    compared_alone c.args.levels (c.in_ok-place.place, c.in_ok-place.left) (state c.args.reader.now) (state c.chain.new.reader) c.in_ok-place.ensures at
+
+pub comparison-returns-in_err-right : goal.comparison-returns-in_err-right
+comparison-returns-in_err-right t c =
+    let p = err_from_is_err_and c.from_residual-in_err-right.result c.from_residual-in_err-right.ensures.1 in
+    let e = c.in_err-right.field-0.0 in
+    let at : is_at words order_codes c.chain.new.reader.rest.now ≡ true = search rules in
+    rw (p.1, p.2) (compared_fails e c.args.levels (c.in_ok-place.place, c.in_ok-place.left) (state c.args.reader.now) (state c.chain.new.reader) c.in_ok-sign.sign (state c.take_comparison.new.reader) (state c.chain-right.new.reader) c.in_ok-place.ensures at c.in_ok-sign.ensures c.in_err-right.ensures)
+
+pub comparison-returns : goal.comparison-returns
+comparison-returns t c =
+    let at : is_at words order_codes c.chain.new.reader.rest.now ≡ true = search rules in
+    let all = compared_pair c.args.levels (c.in_ok-place.place, c.in_ok-place.left) (state c.args.reader.now) (state c.chain.new.reader) c.in_ok-sign.sign (state c.take_comparison.new.reader) (c.in_ok-right.field-0-0, c.in_ok-right.right) (state c.chain-right.new.reader) c.in_ok-place.ensures at c.in_ok-sign.ensures c.in_ok-right.ensures in
+    rw (c.comparison_of.ensures, c.in_ok-left.ensures, c.in_ok-right-2.ensures) all
 
 pub if_expression-returns-then-levels-eq0 : goal.if_expression-returns-then-levels-eq0
 if_expression-returns-then-levels-eq0 t c = rw c.no_level.ensures (none_left c.args.levels syntax.if_expression (state c.args.reader.now) c.if-levels-eq0.true)

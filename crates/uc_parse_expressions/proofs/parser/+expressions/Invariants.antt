@@ -21,6 +21,9 @@ decreases-arguments l = 64 * l.levels + 0
 abbrev pub decreases-brackets : goal.decreases-brackets
 decreases-brackets l = 64 * l.levels + 0
 
+abbrev pub decreases-element : goal.decreases-element
+decreases-element l = 64 * l.levels + 37
+
 abbrev pub decreases-sign_operand : goal.decreases-sign_operand
 decreases-sign_operand l = 64 * l.levels + 0
 
