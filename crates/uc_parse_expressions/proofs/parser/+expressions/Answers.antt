@@ -99,13 +99,13 @@ comparison-returns-in_err-right t c =
     let p = err_from_is_err_and c.from_residual-in_err-right.result c.from_residual-in_err-right.ensures.1 in
     let e = c.in_err-right.field-0.0 in
     let at : is_at words order_codes c.chain.new.reader.rest.now ≡ true = search rules in
-    rw (p.1, p.2) (compared_fails e c.args.levels (c.in_ok-place.place, c.in_ok-place.left) (state c.args.reader.now) (state c.chain.new.reader) c.in_ok-sign.sign (state c.take_comparison.new.reader) (state c.chain-right.new.reader) c.in_ok-place.ensures at c.in_ok-sign.ensures c.in_err-right.ensures)
+    rw (p.1, p.2) (compared_fails e c.args.levels (c.in_ok-place.place, c.in_ok-place.left) (state c.args.reader.now) (state c.chain.new.reader) c.in_ok-sign.sign (state c.take_comparison.new.reader) (state c.chain-2.new.reader) c.in_ok-place.ensures at c.in_ok-sign.ensures c.in_err-right.ensures)
 
 pub comparison-returns : goal.comparison-returns
 comparison-returns t c =
     let at : is_at words order_codes c.chain.new.reader.rest.now ≡ true = search rules in
-    let all = compared_pair c.args.levels (c.in_ok-place.place, c.in_ok-place.left) (state c.args.reader.now) (state c.chain.new.reader) c.in_ok-sign.sign (state c.take_comparison.new.reader) (c.in_ok-right.field-0-0, c.in_ok-right.right) (state c.chain-right.new.reader) c.in_ok-place.ensures at c.in_ok-sign.ensures c.in_ok-right.ensures in
-    rw (c.comparison_of.ensures, c.in_ok-left.ensures, c.in_ok-right-2.ensures) all
+    let all = compared_pair c.args.levels (c.in_ok-place.place, c.in_ok-place.left) (state c.args.reader.now) (state c.chain.new.reader) c.in_ok-sign.sign (state c.take_comparison.new.reader) (c.in_ok-right.field-0-0, c.in_ok-right.right) (state c.chain-2.new.reader) c.in_ok-place.ensures at c.in_ok-sign.ensures c.in_ok-right.ensures in
+    rw (c.comparison_of-operator.ensures, c.in_ok-left.ensures, c.in_ok-right-2.ensures) all
 
 pub if_expression-returns-then-levels-eq0 : goal.if_expression-returns-then-levels-eq0
 if_expression-returns-then-levels-eq0 t c = rw c.no_level.ensures (none_left c.args.levels syntax.if_expression (state c.args.reader.now) c.if-levels-eq0.true)
