@@ -2,3 +2,4 @@ mod Chains
 mod Ranks
 mod Branches
 mod Compared
+mod InBrackets

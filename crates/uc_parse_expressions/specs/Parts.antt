@@ -28,9 +28,13 @@ more_expressions = many (after Comma expr)
 abbrev pub more_branches : F (List Branch)
 more_branches = many branch
 
+-- the value that is put at an index
+unfoldable pub new_value : F Expr
+new_value = after Arrow (before expr RightBracket)
+
 -- an index in brackets, and maybe a value that is put there
 unfoldable pub element : F (Expr × (Word ⊎ Expr))
-element = both expr (either (word RightBracket) (after Arrow (before expr RightBracket)))
+element = both expr (either (word RightBracket) new_value)
 
 abbrev pub element_of : Place → Expr × (Word ⊎ Expr) → Selection Expr
 element_of place y = elim y.1 [ inl w ↦ selection_kinds.Element place y.0 | inr e ↦ selection_kinds.Update place y.0 e ]

@@ -227,10 +227,20 @@ fn element(reader: &mut Reader<'_>, levels: u8, place: Place) -> Result<Selectio
         reader.take(Kind::RightBracket)?;
         return Ok(Selection::Element(place, index));
     }
+    let value = new_value(reader, levels)?;
+    Ok(Selection::Update(place, index, value))
+}
+
+/// The value that is put at an index, up to the closing bracket.
+#[cycle(expressions)]
+#[tactic(auto, unfolding(crate::specs::Parts::new_value))]
+fn new_value(reader: &mut Reader<'_>, levels: u8) -> Result<Expr, Stop>
+    ensures { Counts result (state reader.new) (form levels parts.new_value (state reader.old)) }
+{
     reader.take(Kind::Arrow)?;
     let value = expr(reader, levels)?;
     reader.take(Kind::RightBracket)?;
-    Ok(Selection::Update(place, index, value))
+    Ok(value)
 }
 
 #[cycle(expressions)]

@@ -12,10 +12,11 @@ use Rattle.uc_grammar.specs.declared.word.Kind.TheVariants.{Comma, Dot, LeftBrac
 use Rattle.uc_grammar.specs.Syntax as syntax
 use Rattle.uc_grammar.specs.Syntax.{words, rule, opens, expr, selection, branch, product, chain_of, sum_of, sum_sign}
 use Rattle.uc_parse_expressions.specs.Chains.{chain_form, operand_form, sign_of, node_of, gathered}
-use Rattle.uc_parse_expressions.specs.Parts.{selections, element}
+use Rattle.uc_parse_expressions.specs.Parts.{selections, element, new_value}
 use Rattle.uc_parse_expressions.specs.Signs.{minus, sum_codes, order_codes}
 use Rattle.uc_parse_expressions.proofs.Chains.{gathers_on, gather_fails, gather_done, chain_given, sum_given, fold_more, fold_alone, chain_folds, sum_folds, pair_is, pair_fails}
 use Rattle.uc_parse_expressions.proofs.Compared.{compared_alone, compared_pair, compared_fails}
+use Rattle.uc_parse_expressions.proofs.InBrackets.{brackets_given}
 use Rattle.uc_reader.specs.Reading.{state, form}
 use Rattle.uc_reader.proofs.Here.{takes, one_deeper, none_left}
 use Rattle.uc_syntax.specs.declared.expression.Expr.TheViews as exprs
@@ -70,24 +71,23 @@ pub brackets-returns-then-levels-eq0 : goal.brackets-returns-then-levels-eq0
 brackets-returns-then-levels-eq0 t c = rw c.no_level.ensures (none_left c.args.levels syntax.brackets (state c.args.reader.now) c.if-levels-eq0.true)
 
 pub brackets-returns-in_err-opening : goal.brackets-returns-in_err-opening
-unfolding element
+unfolding element new_value
 brackets-returns-in_err-opening t c = rw (one_deeper c.args.levels syntax.brackets (state c.args.reader.now) (omega arith)) (search rules)
 
 pub brackets-returns-in_err-low : goal.brackets-returns-in_err-low
-unfolding element
+unfolding element new_value
 brackets-returns-in_err-low t c = rw (one_deeper c.args.levels syntax.brackets (state c.args.reader.now) (omega arith)) (search rules)
 
 pub brackets-returns-in_err-take-2 : goal.brackets-returns-in_err-take-2
-unfolding element
+unfolding element new_value
 brackets-returns-in_err-take-2 t c = rw (one_deeper c.args.levels syntax.brackets (state c.args.reader.now) (omega arith)) (search rules)
 
 pub brackets-returns-then-at_bounds : goal.brackets-returns-then-at_bounds
-unfolding element
+unfolding element new_value
 brackets-returns-then-at_bounds t c = rw (one_deeper c.args.levels syntax.brackets (state c.args.reader.now) (omega arith)) (search rules)
 
 pub brackets-returns : goal.brackets-returns
-unfolding element
-brackets-returns t c = rw (one_deeper c.args.levels syntax.brackets (state c.args.reader.now) (omega arith)) (search rules)
+brackets-returns t c = rw (brackets_given c.args.levels c.in_ok-opening.opening (state c.args.reader.now) (state c.take.new.self) (omega arith) c.in_ok-opening.ensures (search rules)) c.element.ensures
 
 pub comparison-returns-then-not-at_comparison : goal.comparison-returns-then-not-at_comparison
 comparison-returns-then-not-at_comparison t c =

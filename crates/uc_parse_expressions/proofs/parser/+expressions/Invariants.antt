@@ -21,8 +21,11 @@ decreases-arguments l = 64 * l.levels + 0
 abbrev pub decreases-brackets : goal.decreases-brackets
 decreases-brackets l = 64 * l.levels + 0
 
+abbrev pub decreases-new_value : goal.decreases-new_value
+decreases-new_value l = 64 * l.levels + 37
+
 abbrev pub decreases-element : goal.decreases-element
-decreases-element l = 64 * l.levels + 37
+decreases-element l = 64 * l.levels + 38
 
 abbrev pub decreases-sign_operand : goal.decreases-sign_operand
 decreases-sign_operand l = 64 * l.levels + 0
