@@ -13,3 +13,6 @@ mod signs;
 
 pub use name_in_parens::in_name;
 pub use parser::{arguments, expr, expression, expressions};
+
+#[cfg(test)]
+mod tests;
