@@ -40,6 +40,7 @@ pub fn ty(reader: &mut Reader<'_>, levels: u8) -> Result<TypeExpr, Stop>
 
 /// An enum, a record, an array or a name.
 #[cycle(types)]
+#[tactic(auto, unfolding(crate::specs::Tails::braced))]
 fn braced(reader: &mut Reader<'_>, levels: u8) -> Result<TypeExpr, Stop>
     ensures { Counts result (state reader.new) (form levels braced (state reader.old)) }
 {
@@ -59,6 +60,7 @@ fn braced(reader: &mut Reader<'_>, levels: u8) -> Result<TypeExpr, Stop>
     named(reader, levels)
 }
 
+#[tactic(auto, unfolding(crate::specs::Tails::named))]
 fn named(reader: &mut Reader<'_>, levels: u8) -> Result<TypeExpr, Stop>
     ensures { Counts result (state reader.new) (form levels named (state reader.old)) }
 {
