@@ -9,6 +9,7 @@ use Rattle.uc_grammar.specs.declared.word.Kind.TheVariants.{Comma}
 use Rattle.uc_grammar.specs.Syntax.{words, rule, opens, record_braces, array, ty, parameter}
 use Rattle.uc_reader.specs.Reading.{state, form}
 use Rattle.uc_reader.proofs.Here.{takes, one_deeper, none_left}
+use Rattle.uc_parse_types.specs.Tails.{braced}
 use Rattle.uc_parse_types.proofs.types.+types.Goals as goal
 
 pub array-returns-then-levels-eq0 : goal.array-returns-then-levels-eq0
@@ -53,3 +54,22 @@ more_parameters-returns-in_err-next t c =
     let e = c.in_err-next.field-0.0 in
     let at : is_at words (code_of Comma ∷ []) c.turns.reader.rest.now ≡ true = search rules in
     rw (p.1, p.2) (loop_fails words e (code_of Comma ∷ []) (form c.args.levels (after Comma parameter)) c.turns.found (state c.turns.reader) (state c.parameter.new.reader) _ at (after_fails rule opens e c.args.levels Comma parameter c.in_ok-take.field-0 (state c.turns.reader) (state c.take.new.self) (state c.parameter.new.reader) c.in_ok-take.ensures c.in_err-next.ensures) c.turns.invariant)
+
+pub record_braces-returns-then-levels-eq0 : goal.record_braces-returns-then-levels-eq0
+record_braces-returns-then-levels-eq0 t c = rw c.no_level.ensures (none_left c.args.levels record_braces (state c.args.reader.now) c.if-levels-eq0.true)
+
+pub record_braces-returns-in_err-take : goal.record_braces-returns-in_err-take
+record_braces-returns-in_err-take t c = rw (one_deeper c.args.levels record_braces (state c.args.reader.now) (omega arith)) (search rules)
+
+pub record_braces-returns-in_err-fields : goal.record_braces-returns-in_err-fields
+record_braces-returns-in_err-fields t c = rw (one_deeper c.args.levels record_braces (state c.args.reader.now) (omega arith)) (search rules)
+
+pub record_braces-returns-in_err-take-2 : goal.record_braces-returns-in_err-take-2
+record_braces-returns-in_err-take-2 t c = rw (one_deeper c.args.levels record_braces (state c.args.reader.now) (omega arith)) (search rules)
+
+pub record_braces-returns : goal.record_braces-returns
+record_braces-returns t c = rw (one_deeper c.args.levels record_braces (state c.args.reader.now) (omega arith)) (search rules)
+
+pub ty-returns : goal.ty-returns
+unfolding ty braced
+ty-returns t c = search rules
