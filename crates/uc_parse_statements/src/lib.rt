@@ -4,9 +4,9 @@
 //! it gives what that form gives. `levels` is the count of nested forms that may still be opened.
 #![tactic(auto)]
 
+mod blocks;
 mod bounds;
 mod simple;
-mod statement;
 mod targets;
 
-pub use statement::{block, statement, statements};
+pub use blocks::{block, statement, statements};

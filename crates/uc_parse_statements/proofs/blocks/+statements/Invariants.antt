@@ -6,7 +6,7 @@ use Rattle.uc_grammar.specs.declared.word.Kind.TheVariants.{RightBrace, KwElse, 
 use Rattle.uc_grammar.specs.Syntax.{words, statement}
 use Rattle.uc_reader.specs.Reading.{state, form}
 use Rattle.uc_parse_statements.specs.Parts.{else_branch, case_arm, case_end}
-use Rattle.uc_parse_statements.proofs.statement.+statements.Given as goal
+use Rattle.uc_parse_statements.proofs.blocks.+statements.Given as goal
 
 -- With one level the functions call each other from the highest rank down.
 abbrev pub decreases-up_to_brace : goal.decreases-up_to_brace

@@ -119,6 +119,7 @@ fn branching(reader: &mut Reader<'_>, levels: u8) -> Result<Stmt, Stop>
 }
 
 #[cycle(statements)]
+#[tactic(auto, unfolding(uc_grammar::specs::Syntax::if_statement))]
 fn if_statement(reader: &mut Reader<'_>, levels: u8) -> Result<Stmt, Stop>
     ensures { Counts result (state reader.new) (form levels if_statement (state reader.old)) }
 {
@@ -163,6 +164,7 @@ fn else_branches(
 }
 
 #[cycle(statements)]
+#[tactic(auto, unfolding(uc_grammar::specs::Syntax::case_statement))]
 fn case_statement(reader: &mut Reader<'_>, levels: u8) -> Result<Stmt, Stop>
     ensures { Counts result (state reader.new) (form levels case_statement (state reader.old)) }
 {
