@@ -41,11 +41,7 @@ fn bound(reader: &mut Reader<'_>, levels: u8) -> Result<RangeBound, Stop>
     }
     if reader.is_at(NUMBER) {
         let number = reader.take(NUMBER)?;
-        return Ok(RangeBound::Number(
-            number.place,
-            false,
-            value_of(number.kind),
-        ));
+        return Ok(RangeBound::Number(number.place, false, value_of(number.kind)));
     }
     let literal = reader.take(BITS_LITERAL)?;
     Ok(RangeBound::BitsLiteral(
@@ -63,9 +59,5 @@ fn negative_bound(reader: &mut Reader<'_>, levels: u8) -> Result<RangeBound, Sto
     }
     let minus = reader.take(Kind::Minus)?;
     let number = reader.take(NUMBER)?;
-    Ok(RangeBound::Number(
-        minus.place,
-        true,
-        value_of(number.kind),
-    ))
+    Ok(RangeBound::Number(minus.place, true, value_of(number.kind)))
 }

@@ -10,3 +10,6 @@ mod simple;
 mod targets;
 
 pub use blocks::{block, statement, statements};
+
+#[cfg(test)]
+mod tests;

@@ -28,11 +28,7 @@ pub(crate) fn targets(reader: &mut Reader<'_>, levels: u8) -> Result<Items<Targe
     Ok(found)
 }
 
-fn more_targets(
-    reader: &mut Reader<'_>,
-    levels: u8,
-    found: &mut Items<Target>,
-) -> Result<(), Stop>
+fn more_targets(reader: &mut Reader<'_>, levels: u8, found: &mut Items<Target>) -> Result<(), Stop>
     ensures { Leaves found.new result (state reader.new) (with_front found.old (form levels (many (after Comma target)) (state reader.old))) }
 {
     'turns: while reader.is_at(Kind::Comma) {
