@@ -1,5 +1,5 @@
 -- What reading gave, by what was made of its value.
-use Rattle.std.proofs.Common.{◌≡◌, List, Ok, Err, refl, ap, ◌∙◌, true, false, ◌⊎◌, inl, inr, ℕ}
+use Rattle.std.proofs.Common.{◌≡◌, Ok, Err, refl, ap, true, false, ◌⊎◌, inl, inr, ℕ}
 use Rattle.uc_forms.specs.declared.stop.Stop.{Stop}
 use Rattle.uc_forms.specs.declared.stop.Stop.TheVariants as stops
 use Rattle.uc_forms.specs.Form.{either}

@@ -1,10 +1,9 @@
 -- The parts of statements, which functions of their own read.
-use Rattle.std.specs.Prelude.{ℕ, List, ◌∷◌, [], Option, ◌⊎◌}
-use Rattle.uc_forms.specs.Form.{quiet, nothing, both, either, chain, until, made, deep, word, after, before, ◌<|>◌}
+use Rattle.std.specs.Prelude.{List, Option, ◌⊎◌}
+use Rattle.uc_forms.specs.Form.{quiet, both, either, chain, until, made, deep, word, after, before, ◌<|>◌}
 use Rattle.uc_grammar.specs.declared.word.Word.{Word}
-use Rattle.uc_grammar.specs.declared.word.Kind.TheVariants.{Prime, Semicolon, Colon, Assign, RightBrace, KwVar, KwSkip, KwAssert, KwAssume, KwHavoc, KwNext, KwIf, KwElse, KwDefault, KwEsac}
-use Rattle.uc_grammar.specs.Syntax.{F, block, arguments, call_targets, typed_name, in_name, id, new_id, listed, optional, has, ty, expr, labelled, targets, place_of, statements, statement, arm, default_block, loop_variable as variable_of, if_statement, case_statement, for_statement, call_statement}
-use Rattle.uc_syntax.specs.declared.expression.Expr.{Expr}
+use Rattle.uc_grammar.specs.declared.word.Kind.TheVariants.{Prime, Semicolon, Colon, Assign, KwVar, KwSkip, KwAssert, KwAssume, KwHavoc, KwNext, KwIf, KwElse, KwDefault, KwEsac}
+use Rattle.uc_grammar.specs.Syntax.{F, block, call_targets, typed_name, in_name, id, new_id, listed, optional, has, ty, expr, labelled, targets, place_of, statements, arm, default_block, loop_variable as variable_of, if_statement, case_statement, for_statement, call_statement}
 use Rattle.uc_syntax.specs.declared.place.Identifier.{Identifier}
 use Rattle.uc_syntax.specs.declared.statement.Arm.{Arm}
 use Rattle.uc_syntax.specs.declared.statement.Stmt.{Stmt}

@@ -1,19 +1,15 @@
-use Rattle.std.proofs.Common.{◌≡◌, arith, rules, true, false, [], ◌∷◌, ◌++◌, List, Option, None, Some, Ok, refl, sym, ap, ◌∙◌, ◌⊎◌}
+use Rattle.std.proofs.Common.{◌≡◌, arith, rules, true, false, [], ◌∷◌, ◌++◌, refl}
 use Rattle.std.proofs.lemmas.Result.{err_from_is_err_and}
 use Rattle.uc_forms.specs.Reading.{is_at}
-use Rattle.uc_counted.specs.Counted.{Outcome, turned, with_head, count_word}
+use Rattle.uc_counted.specs.Counted.{count_word}
 use Rattle.uc_counted.proofs.Endings.{endings_go_on, ending_fails, endings_done, end_stops}
 use Rattle.uc_counted.proofs.Links.{links_go_on, links_ended, links_done, link_fails}
 use Rattle.uc_grammar.specs.Code.{code_of}
-use Rattle.uc_grammar.specs.declared.word.Word.{Word}
 use Rattle.uc_grammar.specs.declared.word.Kind.TheVariants.{LeftBrace, RightBrace, KwVar, KwSkip, KwAssert, KwAssume, KwHavoc, KwIf, KwElse, KwCase, KwDefault, KwEsac, KwFor}
-use Rattle.uc_grammar.specs.Syntax.{words, rule, opens, block, statement, default_block}
+use Rattle.uc_grammar.specs.Syntax.{words, block, statement, default_block}
 use Rattle.uc_reader.specs.Reading.{state, form}
 use Rattle.uc_reader.proofs.Here.{one_deeper, none_left}
-use Rattle.uc_syntax.specs.declared.statement.Arm.{Arm}
-use Rattle.uc_syntax.specs.declared.statement.Stmt.{Stmt}
-use Rattle.uc_syntax.specs.declared.statement.Stmt.TheViews as stmt_views
-use Rattle.uc_parse_statements.specs.Parts.{else_branch, else_branches, case_arm, case_end, case_arms}
+use Rattle.uc_parse_statements.specs.Parts.{else_branch, case_arm, case_end}
 use Rattle.uc_parse_statements.proofs.Turned.{turned_back, turned_stopped, turned_stops}
 use Rattle.uc_parse_statements.proofs.Takes.{statement_takes, branch_takes, case_arm_takes}
 use Rattle.uc_parse_statements.proofs.Choice.{Starts, StartsNot, is_local, is_skip, is_block, is_condition, is_assertion, is_assumption, is_havoc, is_branching, is_if, is_case, is_for, is_change}

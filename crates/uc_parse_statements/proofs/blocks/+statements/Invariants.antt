@@ -1,5 +1,4 @@
 use Rattle.std.proofs.Common.{◌≡◌, ◌∷◌, [], ◌+◌, ◌*◌, length}
-use Rattle.uc_forms.specs.Form.{word}
 use Rattle.uc_counted.specs.Counted.{endings, links, with_head, count_word}
 use Rattle.uc_grammar.specs.Code.{code_of}
 use Rattle.uc_grammar.specs.declared.word.Kind.TheVariants.{RightBrace, KwElse, KwDefault, KwEsac}
