@@ -8,7 +8,7 @@ use Rattle.uc_forms.specs.Reading.{is_at}
 use Rattle.uc_grammar.specs.Code.{code_of}
 use Rattle.uc_grammar.specs.declared.word.Word.{Word}
 use Rattle.uc_grammar.specs.declared.word.Kind.TheVariants.{RightBrace}
-use Rattle.uc_grammar.specs.Syntax.{words, rule, opens, command}
+use Rattle.uc_grammar.specs.Syntax.{words, rule, opens, run, counterexample, command}
 use Rattle.uc_reader.specs.Reading.{state, form}
 use Rattle.uc_reader.proofs.Here.{takes}
 use Rattle.uc_syntax.specs.declared.declaration.Command.{Command}
