@@ -1,0 +1,101 @@
+-- The words that mention a name.
+use Rattle.std.proofs.Common.{◌≡◌, nat_lt, [], ◌∷◌, if◌then◌else◌, refl}
+use Rattle.uc_syntax.specs.Mentions.{OfName}
+use Rattle.uc_grammar.specs.declared.word.Kind.{Kind}
+use Rattle.uc_grammar.specs.declared.word.Kind.TheVariants.{Name, OnBits, Range, Unroll, Induction, Verify, Check, PrintResults, PrintCex, Number, BvType, BvLit, LeftParen, RightParen, LeftBrace, RightBrace, LeftBracket, RightBracket, Comma, Semicolon, Colon, Dot, Prime, Assign, Equal, NotEqual, Iff, Implies, And, Or, Not, Less, LessEqual, Greater, GreaterEqual, LessUnsigned, LessEqualUnsigned, GreaterUnsigned, GreaterEqualUnsigned, Plus, Minus, Star, Concat, Ampersand, Bar, Caret, Tilde, Arrow, KwModule, KwType, KwVar, KwInput, KwOutput, KwConst, KwFunction, KwDefine, KwProcedure, KwReturns, KwRequires, KwEnsures, KwModifies, KwInstance, KwInit, KwNext, KwInvariant, KwAxiom, KwHyperinvariant, KwHyperaxiom, KwControl, KwBoolean, KwInteger, KwEnum, KwRecord, KwIf, KwElse, KwThen, KwCase, KwDefault, KwEsac, KwFor, KwIn, KwCall, KwSkip, KwAssert, KwAssume, KwHavoc, KwOld, KwTrue, KwFalse, KwForall, KwExists, KwWhile}
+use Rattle.uc_grammar.specs.Code.{code_of, name_in}
+use Rattle.uc_words.specs.Mentions.{kind_mentions}
+
+pub names_are_mentioned : (kind : Kind) → kind_mentions kind ≡ (if nat_lt (code_of kind) 9 then OfName (name_in kind) ∷ [] else [])
+names_are_mentioned (Name n) = refl
+names_are_mentioned (OnBits f n) = refl
+names_are_mentioned (Range n) = refl
+names_are_mentioned (Unroll n) = refl
+names_are_mentioned (Induction n) = refl
+names_are_mentioned (Verify n) = refl
+names_are_mentioned (Check n) = refl
+names_are_mentioned (PrintResults n) = refl
+names_are_mentioned (PrintCex n) = refl
+names_are_mentioned (Number n) = refl
+names_are_mentioned (BvType n) = refl
+names_are_mentioned (BvLit n w) = refl
+names_are_mentioned LeftParen = refl
+names_are_mentioned RightParen = refl
+names_are_mentioned LeftBrace = refl
+names_are_mentioned RightBrace = refl
+names_are_mentioned LeftBracket = refl
+names_are_mentioned RightBracket = refl
+names_are_mentioned Comma = refl
+names_are_mentioned Semicolon = refl
+names_are_mentioned Colon = refl
+names_are_mentioned Dot = refl
+names_are_mentioned Prime = refl
+names_are_mentioned Assign = refl
+names_are_mentioned Equal = refl
+names_are_mentioned NotEqual = refl
+names_are_mentioned Iff = refl
+names_are_mentioned Implies = refl
+names_are_mentioned And = refl
+names_are_mentioned Or = refl
+names_are_mentioned Not = refl
+names_are_mentioned Less = refl
+names_are_mentioned LessEqual = refl
+names_are_mentioned Greater = refl
+names_are_mentioned GreaterEqual = refl
+names_are_mentioned LessUnsigned = refl
+names_are_mentioned LessEqualUnsigned = refl
+names_are_mentioned GreaterUnsigned = refl
+names_are_mentioned GreaterEqualUnsigned = refl
+names_are_mentioned Plus = refl
+names_are_mentioned Minus = refl
+names_are_mentioned Star = refl
+names_are_mentioned Concat = refl
+names_are_mentioned Ampersand = refl
+names_are_mentioned Bar = refl
+names_are_mentioned Caret = refl
+names_are_mentioned Tilde = refl
+names_are_mentioned Arrow = refl
+names_are_mentioned KwModule = refl
+names_are_mentioned KwType = refl
+names_are_mentioned KwVar = refl
+names_are_mentioned KwInput = refl
+names_are_mentioned KwOutput = refl
+names_are_mentioned KwConst = refl
+names_are_mentioned KwFunction = refl
+names_are_mentioned KwDefine = refl
+names_are_mentioned KwProcedure = refl
+names_are_mentioned KwReturns = refl
+names_are_mentioned KwRequires = refl
+names_are_mentioned KwEnsures = refl
+names_are_mentioned KwModifies = refl
+names_are_mentioned KwInstance = refl
+names_are_mentioned KwInit = refl
+names_are_mentioned KwNext = refl
+names_are_mentioned KwInvariant = refl
+names_are_mentioned KwAxiom = refl
+names_are_mentioned KwHyperinvariant = refl
+names_are_mentioned KwHyperaxiom = refl
+names_are_mentioned KwControl = refl
+names_are_mentioned KwBoolean = refl
+names_are_mentioned KwInteger = refl
+names_are_mentioned KwEnum = refl
+names_are_mentioned KwRecord = refl
+names_are_mentioned KwIf = refl
+names_are_mentioned KwElse = refl
+names_are_mentioned KwThen = refl
+names_are_mentioned KwCase = refl
+names_are_mentioned KwDefault = refl
+names_are_mentioned KwEsac = refl
+names_are_mentioned KwFor = refl
+names_are_mentioned KwIn = refl
+names_are_mentioned KwCall = refl
+names_are_mentioned KwSkip = refl
+names_are_mentioned KwAssert = refl
+names_are_mentioned KwAssume = refl
+names_are_mentioned KwHavoc = refl
+names_are_mentioned KwOld = refl
+names_are_mentioned KwTrue = refl
+names_are_mentioned KwFalse = refl
+names_are_mentioned KwForall = refl
+names_are_mentioned KwExists = refl
+names_are_mentioned KwWhile = refl

@@ -1,0 +1,5 @@
+pub mod Fixed
+pub mod Known
+pub mod Words
+pub mod Mentions
+pub mod Laws

@@ -1,0 +1,14 @@
+//! The words of a text: its tokens, where each name has a number.
+#![tactic(auto)]
+
+mod fixed;
+mod known;
+mod law;
+mod pass;
+#[cfg(test)]
+mod tests;
+
+pub use law::{
+    names_are_mentioned, text_has_one_list, tokens_are_within, tokens_have_one_list, words_stay,
+};
+pub use pass::{words, words_of_text};
