@@ -1,6 +1,6 @@
 //! Reads a whole text.
 
-ghost use Rattle.std.specs.Prelude.{◌≡◌, ◌≤◌, length};
+ghost use Rattle.std.specs.Prelude.{◌≡◌, ◌<◌, ◌≤◌, length};
 ghost use Rattle.uc_lexer.specs.Places.{place_behind};
 ghost use Rattle.uc_lexer.specs.Text.{Tokens};
 ghost use Rattle.uc_parser.specs.Verdict.{AreNamesAfter, IsParsed, IsParsedText, end_of, place_at};
