@@ -10,7 +10,14 @@ use Rattle.uc_syntax.specs.declared.declaration.Module.{Module}
 use Rattle.uc_words.specs.Words.{AreWords, HasFrontOf, with_tokens}
 use Rattle.uc_parser.specs.declared.error.ParseError.{ParseError}
 use Rattle.uc_parser.specs.declared.error.ParseError.TheVariants.{NoMemory, Syntax, TooDeep, TooManyNames}
-use Rattle.uc_parser.specs.declared.whole.TheConstants.{MAX_LEVELS, MAX_NAMES}
+
+-- in as many nested forms a word may lie
+abbrev pub max_levels : ℕ
+max_levels = 200
+
+-- as many names a module may declare
+abbrev pub max_names : ℕ
+max_names = 65535
 
 -- the place of the first of these words, or the end
 abbrev pub place_at : Place → List Word → Place
@@ -36,7 +43,7 @@ end_of file text = place_of file text (length text)
 -- the one right answer for the words that the tokens are under these names, unless memory ran out
 abbrev pub IsParsedText : List (List ℕ) → ℕ → List ℕ → List Token → Result (List Module) ParseError → Type 0
 IsParsedText names file text tokens (Err NoMemory) = Unit {0}
-IsParsedText names file text tokens result = (ws : List Word) × AreWords names text tokens ws × IsParsed MAX_LEVELS MAX_NAMES (end_of file text) ws result
+IsParsedText names file text tokens result = (ws : List Word) × AreWords names text tokens ws × IsParsed max_levels max_names (end_of file text) ws result
 
 -- the names after the call: those of all tokens were added, or of the first ones where memory ran out
 abbrev pub AreNamesAfter : List (List ℕ) → List ℕ → List Token → Result (List Module) ParseError → List (List ℕ) → Type 0

@@ -12,6 +12,8 @@ mod law;
 mod module;
 mod procedure;
 mod property;
+#[cfg(test)]
+mod tests;
 mod type_declaration;
 mod variable;
 mod whole;

@@ -3,7 +3,7 @@
 ghost use Rattle.std.specs.Prelude.{◌≡◌, ◌<◌, ◌≤◌, length};
 ghost use Rattle.uc_lexer.specs.Places.{place_behind};
 ghost use Rattle.uc_lexer.specs.Text.{Tokens};
-ghost use Rattle.uc_parser.specs.Verdict.{AreNamesAfter, IsParsed, IsParsedText, end_of, place_at};
+ghost use Rattle.uc_parser.specs.Verdict.{AreNamesAfter, IsParsed, IsParsedText, end_of, max_levels, max_names, place_at};
 ghost use Rattle.uc_syntax.specs.Numbering.{KeepNumbers};
 
 use crate::error::ParseError;
@@ -35,7 +35,7 @@ fn place(rest: &[Word], end: Place) -> Place
 
 /// The modules that words spell, or the first fault. `end` is the place behind the last word.
 pub fn parse_words(alloc: Global, words: &[Word], end: Place) -> Result<Items<Module>, ParseError>
-    ensures { IsParsed MAX_LEVELS MAX_NAMES end words.now result }
+    ensures { IsParsed max_levels max_names end words.now result }
 {
     let mut reader = Reader::new(alloc, words, MAX_NAMES);
     match modules(&mut reader, MAX_LEVELS) {
