@@ -1,0 +1,11 @@
+//! Reads the commands of a control block.
+#![tactic(auto)]
+
+mod bounds;
+mod command;
+mod paths;
+mod run;
+#[cfg(test)]
+mod tests;
+
+pub use command::control_braces;

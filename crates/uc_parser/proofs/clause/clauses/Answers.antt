@@ -1,0 +1,34 @@
+use Rattle.std.proofs.Common.{◌≡◌, rules, true, false, refl, [], ◌∷◌, ◌++◌}
+use Rattle.std.proofs.lemmas.Result.{err_from_is_err_and}
+use Rattle.uc_counted.proofs.Turns.{goes_on, is_done, loop_fails}
+use Rattle.uc_forms.specs.Reading.{is_at}
+use Rattle.uc_parser.specs.Parts.{clause_codes}
+use Rattle.uc_grammar.specs.Syntax.{words, clause}
+use Rattle.uc_reader.specs.Reading.{state, form}
+use Rattle.uc_reader.proofs.Here.{takes}
+use Rattle.uc_parser.proofs.clause.clauses.Goals as goal
+
+pub turns-preserved : goal.turns-preserved
+unfolding clause
+turns-preserved c =
+    let at : is_at words clause_codes c.turns.reader.rest.now ≡ true = search rules in
+    let pushed : c.push.new.self ≡ c.turns.found ++ c.in_ok-next.next ∷ [] = c.in_ok-push.ensures.ok in
+    rw pushed (goes_on words clause_codes (form c.args.levels clause) c.turns.found (state c.turns.reader) c.in_ok-next.next (state c.clause.new.reader) _ (takes c.args.levels clause refl) at c.in_ok-next.ensures c.turns.invariant)
+
+pub turns-smaller : goal.turns-smaller
+unfolding clause
+turns-smaller c = takes c.args.levels clause refl (state c.turns.reader) c.in_ok-next.next (state c.clause.new.reader) c.in_ok-next.ensures
+
+pub returns : goal.returns
+unfolding clause
+returns c =
+    let at : is_at words clause_codes c.turns.reader.rest.now ≡ false = search rules in
+    is_done words clause_codes (form c.args.levels clause) c.turns.found (state c.turns.reader) _ at c.turns.invariant
+
+pub returns-in_err-next : goal.returns-in_err-next
+unfolding clause
+returns-in_err-next c =
+    let p = err_from_is_err_and c.from_residual.result c.from_residual.ensures.1 in
+    let e = c.in_err-next.field-0.0 in
+    let at : is_at words clause_codes c.turns.reader.rest.now ≡ true = search rules in
+    rw (p.1, p.2) (loop_fails words e clause_codes (form c.args.levels clause) c.turns.found (state c.turns.reader) (state c.clause.new.reader) _ at c.in_err-next.ensures c.turns.invariant)

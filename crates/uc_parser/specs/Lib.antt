@@ -1,0 +1,3 @@
+pub mod Parts
+pub mod Verdict
+pub mod Law
