@@ -1,5 +1,5 @@
 -- Judged lines as the lines of a report.
-use Rattle.std.specs.Prelude.{ℕ, List, [], ◌∷◌, map, length, Option, Some, None}
+use Rattle.std.specs.Prelude.{List, [], ◌∷◌, map, length, Option, Some, None}
 use Rattle.uc_meaning.specs.declared.line.Trace.{Trace}
 use Rattle.uc_control.specs.declared.report.Verdict.{Verdict}
 use Rattle.uc_control.specs.declared.report.Verdict.TheVariants.{Passed, Failed}

@@ -4,3 +4,4 @@ pub mod TokenByToken
 pub mod Below
 pub mod Places
 pub mod Coded
+pub mod Told

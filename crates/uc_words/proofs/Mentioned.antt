@@ -5,29 +5,30 @@ use Rattle.uc_lexer.specs.declared.token.TokenKind.{TokenKind}
 use Rattle.uc_lexer.specs.declared.token.TokenKind.TheVariants.{Name, BvType, Number, BvLit, KwModule, KwType, KwVar, KwInput, KwOutput, KwConst, KwFunction, KwDefine, KwProcedure, KwReturns, KwRequires, KwEnsures, KwModifies, KwInstance, KwInit, KwNext, KwInvariant, KwAxiom, KwHyperinvariant, KwHyperaxiom, KwControl, KwBoolean, KwInteger, KwEnum, KwRecord, KwIf, KwElse, KwThen, KwCase, KwDefault, KwEsac, KwFor, KwIn, KwCall, KwSkip, KwAssert, KwAssume, KwHavoc, KwOld, KwTrue, KwFalse, KwForall, KwExists, KwWhile, LeftParen, RightParen, LeftBrace, RightBrace, LeftBracket, RightBracket, Comma, Semicolon, Colon, Dot, Prime, Assign, Equal, NotEqual, Iff, Implies, And, Or, Not, Less, LessEqual, Greater, GreaterEqual, LessUnsigned, LessEqualUnsigned, GreaterUnsigned, GreaterEqualUnsigned, Plus, Minus, Star, Concat, Ampersand, Bar, Caret, Tilde, Arrow}
 use Rattle.uc_syntax.specs.Mentions.{Mention, OfName}
 use Rattle.uc_grammar.specs.declared.word.Kind.{Kind}
+use Rattle.uc_grammar.specs.declared.word.Kind.TheVariants.{Name as Named}
 use Rattle.uc_words.specs.Fixed.{fixed_kind}
 use Rattle.uc_words.specs.Known.{Entry, known_names, kind_in}
 use Rattle.uc_words.specs.Mentions.{kind_mentions}
 
--- each entry is of a kind that mentions its number
-abbrev MentionNumbers : List Entry → Type 0
-MentionNumbers [] = Unit {0}
-MentionNumbers (e ∷ es) = ((n : ℕ) → kind_mentions (e.1 n) ≡ OfName n ∷ []) × MentionNumbers es
+-- what holds of each entry's kind holds of each name's word
+abbrev pub EachEntry : {A : Type 0} → (Kind → A) → (ℕ → A) → List Entry → Type 0
+EachEntry f g [] = Unit {0}
+EachEntry f g (e ∷ es) = ((n : ℕ) → f (e.1 n) ≡ g n) × EachEntry f g es
 
-in_table : (es : List Entry) (text : List ℕ) (n : ℕ) → MentionNumbers es → kind_mentions (kind_in es text n) ≡ OfName n ∷ []
-in_table [] text n all = refl
-in_table (e ∷ es) text n all = by (bytes_eq text e.0) (in_table es text n all.1)
+in_table : {A : Type 0} (f : Kind → A) (g : ℕ → A) (es : List Entry) (text : List ℕ) (n : ℕ) → f (Named n) ≡ g n → EachEntry f g es → f (kind_in es text n) ≡ g n
+in_table f g [] text n plain all = plain
+in_table f g (e ∷ es) text n plain all = by (bytes_eq text e.0) (in_table f g es text n plain all.1)
   where
-    by : (b : Bool) → kind_mentions (kind_in es text n) ≡ OfName n ∷ [] → kind_mentions (if b then e.1 n else kind_in es text n) ≡ OfName n ∷ []
+    by : (b : Bool) → f (kind_in es text n) ≡ g n → f (if b then e.1 n else kind_in es text n) ≡ g n
     by true rest = all.0 n
     by false rest = rest
 
-table_mentions : MentionNumbers known_names
-table_mentions = (λ n. refl, (λ n. refl, (λ n. refl, (λ n. refl, (λ n. refl, (λ n. refl, (λ n. refl, (λ n. refl, (λ n. refl, (λ n. refl, (λ n. refl, (λ n. refl, tt))))))))))))
+pub of_names : {A : Type 0} (f : Kind → A) (g : ℕ → A) (text : List ℕ) (n : ℕ) → f (Named n) ≡ g n → EachEntry f g known_names → f (kind_in known_names text n) ≡ g n
+of_names f g text n = in_table f g known_names text n
 
 -- a name's word mentions its number alone
 pub name_mentions : (text : List ℕ) (n : ℕ) → kind_mentions (kind_in known_names text n) ≡ OfName n ∷ []
-name_mentions text n = in_table known_names text n table_mentions
+name_mentions text n = of_names kind_mentions (λ m. OfName m ∷ []) text n refl (λ n. refl, (λ n. refl, (λ n. refl, (λ n. refl, (λ n. refl, (λ n. refl, (λ n. refl, (λ n. refl, (λ n. refl, (λ n. refl, (λ n. refl, (λ n. refl, tt))))))))))))
 
 abbrev if_fixed : Option Kind → List Mention
 if_fixed None = []

@@ -1,4 +1,4 @@
-ghost use Rattle.uc_words.specs.Laws.{NamesAreMentioned, StayWords, StaysText, TextHasOneList, TokensAreWithin, TokensHaveOneList};
+ghost use Rattle.uc_words.specs.Laws.{NamesAreMentioned, StayWords, StaysText, TextHasOneList, TokensAreWithin, TokensHaveOneList, WordsTellTokens};
 
 /// A law of the definitions: the tokens of a text lie in it, as `words` asks.
 pub fn tokens_are_within()
@@ -24,4 +24,9 @@ pub fn words_stay()
 /// A law of the definitions: a word mentions its name by the number that the grammar takes.
 pub fn names_are_mentioned()
     ensures { NamesAreMentioned }
+{}
+
+/// A law of the definitions: the same words under the same names are the same tokens.
+pub fn words_tell_tokens()
+    ensures { WordsTellTokens }
 {}

@@ -10,5 +10,6 @@ mod tests;
 
 pub use law::{
     names_are_mentioned, text_has_one_list, tokens_are_within, tokens_have_one_list, words_stay,
+    words_tell_tokens,
 };
 pub use pass::{words, words_of_text};
