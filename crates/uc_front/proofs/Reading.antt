@@ -1,6 +1,6 @@
 -- What the passes over a text lead to.
 use Rattle.std.specs.Prelude.{◌≡◌, ℕ, ◌≤◌, ◌<◌, nat_lt, codes, List, [], ◌∷◌, length, Option, Some, None, Result, Ok, Err, IfOk, IfErr, Vec}
-use Rattle.std.proofs.Common.{refl, sym, ap, subst, ◌∙◌, Bool, true, false}
+use Rattle.std.proofs.Common.{refl, sym, ap, subst, ◌∙◌, arith}
 use Rattle.uc_lexer.specs.declared.token.Token.{Token}
 use Rattle.uc_lexer.specs.declared.error.LexError.{LexError}
 use Rattle.uc_lexer.specs.declared.error.LexError.TheVariants as lex
@@ -15,6 +15,10 @@ use Rattle.uc_words.specs.Words.{AreWords, with_tokens}
 use Rattle.uc_parser.specs.declared.error.ParseError.{ParseError}
 use Rattle.uc_parser.specs.declared.error.ParseError.TheVariants as parse
 use Rattle.uc_parser.specs.Verdict.{IsParsedText, IsParsed, AreNamesAfter, said, end_of}
+use Rattle.uc_words.proofs.Below.{names_below, files_below}
+use Rattle.uc_words.proofs.Places.{files_are}
+use Rattle.uc_mentions.proofs.Laws.{answer_names, answer_files}
+use Rattle.uc_syntax.specs.Mentions.{NamesBelow, FilesBelow, modules_mention}
 use Rattle.uc_front.specs.declared.error.FrontError.{FrontError}
 use Rattle.uc_front.specs.Denotes.{HasAnswer, IsUnspelled, IsTextRefused, refusal_of}
 use Rattle.uc_front.specs.Errors.{IsTextError}
@@ -72,3 +76,11 @@ syntactic_refused file text tokens before after parse.NoMemory lexed first names
 syntactic_refused file text tokens before after (parse.Syntax p) lexed first names h = refused_as file text after h.2.0 (parse.Syntax p) (unspelled file text tokens before after h.0 h.2.0 lexed first names h.1 h.2.1) h.2.2
 syntactic_refused file text tokens before after (parse.TooDeep p) lexed first names h = refused_as file text after h.2.0 (parse.TooDeep p) (unspelled file text tokens before after h.0 h.2.0 lexed first names h.1 h.2.1) h.2.2
 syntactic_refused file text tokens before after (parse.TooManyNames p) lexed first names h = refused_as file text after h.2.0 (parse.TooManyNames p) (unspelled file text tokens before after h.0 h.2.0 lexed first names h.1 h.2.1) h.2.2
+
+-- ---- what a design asks of its modules
+
+pub modules_named : (tokens : List Token) (text : List ℕ) (names : List (List ℕ)) (modules : List Module) → IsParsedText names 0 text tokens (Ok modules) → NamesBelow (length names) (modules_mention modules)
+modules_named tokens text names modules h = answer_names 200 65535 (length names) h.0 modules h.2 (names_below names text tokens h.0 h.1)
+
+pub modules_placed : (tokens : List Token) (text : List ℕ) (names : List (List ℕ)) (modules : List Module) → Tokens 0 text tokens → IsParsedText names 0 text tokens (Ok modules) → FilesBelow 1 (modules_mention modules)
+modules_placed tokens text names modules lexed h = answer_files 200 65535 1 h.0 modules h.2 (files_below 1 names text tokens h.0 h.1 (files_are 1 0 text tokens (omega arith) lexed))

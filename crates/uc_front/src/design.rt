@@ -34,6 +34,9 @@ pub(crate) fn design_of(alloc: Global, file: &[u8], text: &[u8]) -> Result<Order
     let Some(main) = main_in(design.names(), design.modules().as_slice()) else {
         return Err(FrontError::Refused(Refusal::NoMain));
     };
+    let Ok(main) = u32::try_from(main) else {
+        return Err(FrontError::NoMemory);
+    };
     if !is_in_fragment(alloc, &design, main)? {
         return Err(FrontError::Refused(Refusal::NotBuilt));
     }
@@ -95,15 +98,10 @@ fn syntactic(error: ParseError) -> FrontError
 }
 
 /// The number of the first module that is called `main`.
-fn main_in(names: &Names, modules: &[Module]) -> Option<u32>
+fn main_in(names: &Names, modules: &[Module]) -> Option<usize>
     ensures { result ≡ main_in names.now modules.now }
 {
-    for (number, code) in modules.iter().enumerate() {
-        if is_main(names, code) {
-            return Some(number as u32);
-        }
-    }
-    None
+    modules.iter().position(|code| is_main(names, code))
 }
 
 fn is_main(names: &Names, code: &Module) -> bool

@@ -1,0 +1,9 @@
+//! The top call of the verifier: from the words of a command line and the bytes of a file to the bytes of a report.
+#![tactic(auto)]
+
+mod answer;
+mod lines;
+mod run;
+
+pub use answer::Session;
+pub use run::{Outcome, run};
