@@ -1,5 +1,6 @@
 -- What a run is to answer to its words and its texts.
 use Rattle.std.specs.Prelude.{◌≡◌, ℕ, Bool, true, false, not, ◌&&◌, nat_le, nat_eq, codes, decimal, IsTrue, List, [], ◌∷◌, ◌++◌, map, length, Option, Some, None}
+use Rattle.std.proofs.Common.{Bor}
 use Rattle.std.specs.List.{list_all}
 use Rattle.uc_meaning.specs.Lookup.{System}
 use Rattle.uc_control.specs.Reports.{status}
@@ -23,9 +24,13 @@ abbrev pub begins_with_dash : List ℕ → Bool
 begins_with_dash [] = false
 begins_with_dash (c ∷ cs) = nat_eq c 45
 
+-- no word begins with `-`
+abbrev pub are_names : List (List ℕ) → Bool
+are_names words = list_all (λ w. not (begins_with_dash w)) words
+
 -- 1 to 256 words, none of which begins with `-`
 abbrev pub is_form : List (List ℕ) → Bool
-is_form words = nat_le 1 (length words) && (nat_le (length words) 256 && list_all (λ w. not (begins_with_dash w)) words)
+is_form words = nat_le 1 (length words) && (nat_le (length words) 256 && are_names words)
 
 abbrev pub first_of : List (List ℕ) → List ℕ
 first_of [] = []

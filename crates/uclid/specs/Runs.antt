@@ -3,7 +3,7 @@ use Rattle.std.specs.Prelude.{◌≡◌, ◌⊎◌, ℕ, Bool, IsTrue, List, ◌
 use Rattle.uc_io.specs.Faults.{Rose}
 use Rattle.uc_io.specs.Sink.{GrewByFront}
 use Rattle.uclid.specs.declared.answer.Answer.{Answer}
-use Rattle.uclid.specs.declared.run.Outcome.{Outcome}
+use Rattle.uclid.specs.declared.top.Outcome.{Outcome}
 use Rattle.uclid.specs.Answers.{IsAnswer, status_of, session_of, text_of}
 
 -- the whole text was written

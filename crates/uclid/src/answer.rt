@@ -4,7 +4,7 @@ ghost use Rattle.std.specs.Prelude.{◌≡◌, ◌≤◌, IsTrue, IsErrOf, IfOk}
 ghost use Rattle.uc_io.specs.Faults.{Rose};
 ghost use Rattle.uc_judge.specs.Reports.{IsReport};
 ghost use Rattle.uclid.specs.declared.answer.Stop.TheVariants.{NoMemory, ReadFault};
-ghost use Rattle.uclid.specs.Answers.{words_of, is_form, IsAnswer, IsFileAnswer, begins_with_dash, status_of, session_of};
+ghost use Rattle.uclid.specs.Answers.{words_of, is_form, are_names, IsAnswer, IsFileAnswer, begins_with_dash, status_of, session_of};
 
 use std::alloc::Global;
 use uc_control::{Report, status_of};
@@ -49,7 +49,7 @@ impl From<EvalError> for Stop {
 const MOST_FILES: usize = 256;
 
 /// What the words and the texts lead to.
-pub(crate) fn answer<X: Texts>(
+pub(crate) fn decide<X: Texts>(
     alloc: Global,
     words: &[&str],
     texts: &mut X,
@@ -94,9 +94,19 @@ fn answer_file<X: Texts>(alloc: Global, file: &str, texts: &mut X) -> Result<Ans
 fn is_form(words: &[&str]) -> bool
     ensures { result ≡ is_form (words_of words.now) }
 {
-    !words.is_empty()
-        && words.len() <= MOST_FILES
-        && words.iter().all(|word| !begins_with_dash(word.as_bytes()))
+    !words.is_empty() && words.len() <= MOST_FILES && are_names(words)
+}
+
+/// Whether no word begins with `-`.
+fn are_names(words: &[&str]) -> bool
+    ensures { result ≡ are_names (words_of words.now) }
+{
+    for word in words {
+        if begins_with_dash(word.as_bytes()) {
+            return false;
+        }
+    }
+    true
 }
 
 fn begins_with_dash(word: &[u8]) -> bool

@@ -3,7 +3,7 @@
 
 mod answer;
 mod lines;
-mod run;
+mod top;
 
 pub use answer::Session;
-pub use run::{Outcome, run};
+pub use top::{Outcome, run};

@@ -4,7 +4,7 @@ ghost use Rattle.std.specs.Prelude.{◌≡◌, ◌≤◌, None};
 ghost use Rattle.uclid.specs.Answers.{words_of};
 ghost use Rattle.uclid.specs.Runs.{Ends, HasWritten};
 
-use crate::answer::{Answer, Session, Stop, answer, session_of, status_of_answer};
+use crate::answer::{Answer, Session, Stop, decide, session_of, status_of_answer};
 use crate::lines::text_of;
 use std::alloc::Global;
 use uc_io::{Sink, Texts, write_whole};
@@ -34,7 +34,7 @@ pub fn run<X: Texts, K: Sink>(
     ensures sink_telling { K.tells out.new ≡ K.tells out.old }
     ensures holding { X.held texts.new ≡ X.held texts.old }
 {
-    match answer(alloc, words, texts) {
+    match decide(alloc, words, texts) {
         Ok(answer) => written(alloc, words, answer, out),
         Err(Stop::ReadFault) => stopped(5),
         Err(Stop::NoMemory) => stopped(7),
