@@ -1,6 +1,7 @@
 //! Texts that are files by their paths.
 
-ghost use Rattle.std.specs.Prelude.{◌≡◌, [], false, None};
+ghost use Rattle.std.specs.Prelude.{◌≡◌, ◌≤◌, [], false, None};
+ghost use Rattle.uc_io.specs.Faults.{Rose};
 
 use std::fs::{self, Files};
 use std::io::{ErrorKind, Read};
@@ -17,7 +18,7 @@ pub struct FileTexts<'a, R: Files> {
 impl<'a, R: Files> FileTexts<'a, R> {
     /// No file is open.
     pub fn new(system: &'a R) -> FileTexts<'a, R>
-        ensures { ⟦<FileTexts<R> as Texts>⟧.faults result ≡ 0 }
+        ensures { ⟦<FileTexts<'a, R> as Texts>⟧.faults result ≡ 0 }
     {
         FileTexts {
             system,
@@ -26,7 +27,10 @@ impl<'a, R: Files> FileTexts<'a, R> {
         }
     }
 
-    fn fault(&mut self) -> Failed {
+    fn fault(&mut self) -> Failed
+        ensures cause { Rose self.old.faults self.new.faults }
+        ensures later { self.old.faults ≤ self.new.faults }
+    {
         self.faults = self.faults.saturating_add(1);
         Failed
     }

@@ -1,6 +1,7 @@
 //! A sink over a writer.
 
-ghost use Rattle.std.specs.Prelude.{◌≡◌, [], false};
+ghost use Rattle.std.specs.Prelude.{◌≡◌, ◌≤◌, [], false};
+ghost use Rattle.uc_io.specs.Faults.{Rose};
 
 use std::io::Write;
 use uc_io::{Failed, Sink};
@@ -19,7 +20,10 @@ impl<W: Write> WriterSink<W> {
         WriterSink { writer, faults: 0 }
     }
 
-    fn fault(&mut self) {
+    fn fault(&mut self)
+        ensures cause { Rose self.old.faults self.new.faults }
+        ensures later { self.old.faults ≤ self.new.faults }
+    {
         self.faults = self.faults.saturating_add(1);
     }
 }
