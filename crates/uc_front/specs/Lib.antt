@@ -1,2 +1,4 @@
 pub mod Refusals
 pub mod Denotes
+pub mod Errors
+pub mod Turning

@@ -1,0 +1,6 @@
+use Rattle.std.proofs.Common.{◌≡◌, drop}
+use Rattle.uclid.specs.Answers.{words_of, are_names}
+use Rattle.uclid.proofs.answer.are_names.Given as goal
+
+abbrev pub invariant-loop-word : goal.invariant-loop-word
+invariant-loop-word l = are_names (words_of (drop l.word-index l.words)) ≡ are_names (words_of l.words)

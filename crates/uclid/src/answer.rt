@@ -1,0 +1,137 @@
+//! What a run is to answer, before a byte is written.
+
+ghost use Rattle.std.specs.Prelude.{◌≡◌, ◌≤◌, IsTrue, IsErrOf, IfOk};
+ghost use Rattle.uc_io.specs.Faults.{Rose};
+ghost use Rattle.uc_judge.specs.Reports.{IsReport};
+ghost use Rattle.uclid.specs.declared.answer.Stop.TheVariants.{NoMemory, ReadFault};
+ghost use Rattle.uclid.specs.Answers.{words_of, is_form, are_names, IsAnswer, IsFileAnswer, begins_with_dash, status_of, session_of};
+
+use std::alloc::Global;
+use uc_control::{Report, status_of};
+use uc_front::{FrontError, Refusal, read_design};
+use uc_io::Texts;
+use uc_judge::run_control;
+use uc_meaning::{EvalError, Ordered};
+
+/// An accepted design and the report of its control block.
+#[derive(Drop)]
+pub struct Session {
+    pub design: Ordered,
+    pub report: Report,
+}
+
+/// What is to be written.
+#[derive(Drop)]
+pub(crate) enum Answer {
+    /// The usage line.
+    Usage,
+    /// The error line of a refusal.
+    Refused(Refusal),
+    /// The text of a report.
+    Reported(Session),
+}
+
+/// Why nothing is to be written.
+#[derive(Clone, Copy, Debug, PartialEq, Eq)]
+pub(crate) enum Stop {
+    NoMemory,
+    ReadFault,
+}
+
+impl From<EvalError> for Stop {
+    ghost from_gives = { λ _ e. e ≡ NoMemory };
+
+    fn from(_: EvalError) -> Stop {
+        Stop::NoMemory
+    }
+}
+
+const MOST_FILES: usize = 256;
+
+/// What the words and the texts lead to.
+pub(crate) fn decide<X: Texts>(
+    alloc: Global,
+    words: &[&str],
+    texts: &mut X,
+) -> Result<Answer, Stop>
+    ensures answer { IfOk result (IsAnswer (X.tells texts.old) (words_of words.now) (X.held texts.old)) }
+    ensures cause { IsErrOf result Stop.ReadFault → Rose (X.faults texts.old) (X.faults texts.new) }
+    ensures no_fault { (¬ IsErrOf result Stop.ReadFault) → X.faults texts.new ≡ X.faults texts.old }
+    ensures later { X.faults texts.old ≤ X.faults texts.new }
+    ensures telling { X.tells texts.new ≡ X.tells texts.old }
+    ensures holding { X.held texts.new ≡ X.held texts.old }
+{
+    if !is_form(words) {
+        return Ok(Answer::Usage);
+    }
+    match words {
+        [file] => answer_file(alloc, file, texts),
+        _ => Ok(Answer::Refused(Refusal::NotBuilt)),
+    }
+}
+
+/// What the text of one file leads to.
+fn answer_file<X: Texts>(alloc: Global, file: &str, texts: &mut X) -> Result<Answer, Stop>
+    ensures answer { IfOk result (IsFileAnswer (X.tells texts.old) file.now (X.held texts.old file.now)) }
+    ensures cause { IsErrOf result Stop.ReadFault → Rose (X.faults texts.old) (X.faults texts.new) }
+    ensures no_fault { (¬ IsErrOf result Stop.ReadFault) → X.faults texts.new ≡ X.faults texts.old }
+    ensures later { X.faults texts.old ≤ X.faults texts.new }
+    ensures telling { X.tells texts.new ≡ X.tells texts.old }
+    ensures holding { X.held texts.new ≡ X.held texts.old }
+{
+    match read_design(alloc, texts, file) {
+        Ok(design) => {
+            let report = run_control(alloc, &design)?;
+            Ok(Answer::Reported(Session { design, report }))
+        }
+        Err(FrontError::Refused(refusal)) => Ok(Answer::Refused(refusal)),
+        Err(FrontError::NoMemory) => Err(Stop::NoMemory),
+        Err(FrontError::ReadFault) => Err(Stop::ReadFault),
+    }
+}
+
+/// Whether there are 1 to 256 words, and none begins with `-`.
+fn is_form(words: &[&str]) -> bool
+    ensures { result ≡ is_form (words_of words.now) }
+{
+    !words.is_empty() && words.len() <= MOST_FILES && are_names(words)
+}
+
+/// Whether no word begins with `-`.
+fn are_names(words: &[&str]) -> bool
+    ensures { result ≡ are_names (words_of words.now) }
+{
+    for word in words {
+        if begins_with_dash(word.as_bytes()) {
+            return false;
+        }
+    }
+    true
+}
+
+fn begins_with_dash(word: &[u8]) -> bool
+    ensures { result ≡ begins_with_dash word.now }
+{
+    matches!(word, [b'-', ..])
+}
+
+/// The status where all is written.
+pub(crate) fn status_of_answer(answer: &Answer) -> u8
+    ensures { result ≡ status_of answer.now }
+{
+    match answer {
+        Answer::Usage => 4,
+        Answer::Refused(_) => 3,
+        Answer::Reported(session) => status_of(&session.report),
+    }
+}
+
+/// The session of an answer, if it has one.
+pub(crate) fn session_of(answer: Answer) -> Option<Session>
+    ensures { result ≡ session_of answer }
+{
+    match answer {
+        Answer::Reported(session) => Some(session),
+        _ => None,
+    }
+}

@@ -1,0 +1,9 @@
+//! The top call of the verifier: from the words of a command line and the bytes of a file to the bytes of a report.
+#![tactic(auto)]
+
+mod answer;
+mod lines;
+mod top;
+
+pub use answer::Session;
+pub use top::{Outcome, run};

@@ -1,0 +1,84 @@
+//! The bytes of an answer.
+
+ghost use Rattle.std.specs.Prelude.{◌≡◌, ◌++◌, ◌<◌, decimal, length, IfOk, OnOk};
+ghost use Rattle.uclid.specs.Answers.{words_of, error_line, text_of, first_of};
+ghost use Rattle.uc_control.specs.Text.{report_text};
+
+use crate::answer::{Answer, Session};
+use itoa::Buffer;
+use std::alloc::{AllocError, Global};
+use uc_control::{DesignView, report_text};
+use uc_front::Refusal;
+
+const USAGE: &[u8] =
+    b"usage: uclid [--main NAME] [--budget N] FILE... or uclid --ring N [--budget N]\n";
+
+/// The text of an answer for these words.
+pub(crate) fn text_of(
+    alloc: Global,
+    words: &[&str],
+    answer: &Answer,
+) -> Result<Vec<u8>, AllocError>
+    ensures { IfOk result (λ text. text.items ≡ text_of (words_of words.now) answer.now) }
+{
+    match answer {
+        Answer::Usage => Vec::from_slice(alloc, USAGE),
+        Answer::Refused(refusal) => error_line(alloc, first(words), *refusal),
+        Answer::Reported(session) => session_text(alloc, session),
+    }
+}
+
+/// The first word, none where there is none.
+fn first<'a>(words: &[&'a str]) -> &'a [u8]
+    ensures { result.now ≡ first_of (words_of words.now) }
+{
+    match words {
+        [word, ..] => word.as_bytes(),
+        [] => &[],
+    }
+}
+
+fn session_text(alloc: Global, session: &Session) -> Result<Vec<u8>, AllocError>
+    ensures { IfOk result (λ text. text.items ≡ report_text session.now.design session.now.report) }
+{
+    let design = session.design.design();
+    let view = DesignView {
+        names: design.names(),
+        files: design.files().as_slice(),
+        modules: design.modules().as_slice(),
+        main: session.design.main(),
+    };
+    report_text(alloc, &view, &session.report)
+}
+
+/// The line of a refusal.
+#[tactic(auto, unfolding(crate::specs::Answers::error_line))]
+fn error_line(alloc: Global, file: &[u8], refusal: Refusal) -> Result<Vec<u8>, AllocError>
+    ensures { IfOk result (λ text. text.items ≡ error_line file.now refusal) }
+{
+    let place = refusal.place();
+    let mut line = Vec::new(alloc);
+    put(&mut line, b"error ")?;
+    put_number(&mut line, u32::from(refusal.number()))?;
+    put(&mut line, b" in ")?;
+    put(&mut line, file)?;
+    put(&mut line, b" at line ")?;
+    put_number(&mut line, place.line)?;
+    put(&mut line, b", column ")?;
+    put_number(&mut line, place.col)?;
+    put(&mut line, b"\n")?;
+    Ok(line)
+}
+
+fn put(out: &mut Vec<u8>, bytes: &[u8]) -> Result<(), AllocError>
+    ensures { OnOk result (out.new.items ≡ out.old.items ++ bytes.now) }
+{
+    out.extend_from_slice(bytes)
+}
+
+fn put_number(out: &mut Vec<u8>, number: u32) -> Result<(), AllocError>
+    ensures { OnOk result (out.new.items ≡ out.old.items ++ decimal number) }
+{
+    let mut buffer = Buffer::new();
+    put(out, buffer.format(number).as_bytes())
+}

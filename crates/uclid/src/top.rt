@@ -1,0 +1,70 @@
+//! The top call.
+
+ghost use Rattle.std.specs.Prelude.{◌≡◌, ◌≤◌, None};
+ghost use Rattle.uclid.specs.Answers.{words_of};
+ghost use Rattle.uclid.specs.Runs.{Ends, HasWritten};
+
+use crate::answer::{Answer, Session, Stop, decide, session_of, status_of_answer};
+use crate::lines::text_of;
+use std::alloc::Global;
+use uc_io::{Sink, Texts, write_whole};
+
+/// How a run ended. The session is there where a report was to be written.
+#[derive(Drop)]
+pub struct Outcome {
+    pub status: u8,
+    pub session: Option<Session>,
+}
+
+/// Reads the file that the words name, judges its design, and writes the report.
+///
+/// Statuses: 0 where all lines passed, 1 where one failed, 3 where the text is refused (an error line is written), 4 where the
+/// words are none (the usage line is written), 5 after a fault of the texts, 6 after a fault of the sink, 7 for want of memory.
+pub fn run<X: Texts, K: Sink>(
+    alloc: Global,
+    words: &[&str],
+    texts: &mut X,
+    out: &mut K,
+) -> Outcome
+    ensures ends { Ends (X.tells texts.old) (words_of words.now) (X.held texts.old) (X.faults texts.old) (X.faults texts.new)
+        (K.tells out.old) (K.taken out.old) (K.taken out.new) (K.faults out.old) (K.faults out.new) result }
+    ensures texts_later { X.faults texts.old ≤ X.faults texts.new }
+    ensures sink_later { K.faults out.old ≤ K.faults out.new }
+    ensures texts_telling { X.tells texts.new ≡ X.tells texts.old }
+    ensures sink_telling { K.tells out.new ≡ K.tells out.old }
+    ensures holding { X.held texts.new ≡ X.held texts.old }
+{
+    match decide(alloc, words, texts) {
+        Ok(answer) => written(alloc, words, answer, out),
+        Err(Stop::ReadFault) => stopped(5),
+        Err(Stop::NoMemory) => stopped(7),
+    }
+}
+
+/// Writes the text of an answer.
+fn written<K: Sink>(alloc: Global, words: &[&str], answer: Answer, out: &mut K) -> Outcome
+    ensures ends { HasWritten (words_of words.now) answer (K.tells out.old) (K.taken out.old) (K.taken out.new) (K.faults out.old) (K.faults out.new) result }
+    ensures later { K.faults out.old ≤ K.faults out.new }
+    ensures telling { K.tells out.new ≡ K.tells out.old }
+{
+    let Ok(text) = text_of(alloc, words, &answer) else {
+        return stopped(7);
+    };
+    let status = status_of_answer(&answer);
+    let session = session_of(answer);
+    match write_whole(out, text.as_slice()) {
+        Ok(()) => Outcome { status, session },
+        Err(_) => Outcome { status: 6, session },
+    }
+}
+
+/// The outcome of a run that has written nothing.
+fn stopped(status: u8) -> Outcome
+    ensures status { result.status ≡ status }
+    ensures session { result.session ≡ None }
+{
+    Outcome {
+        status,
+        session: None,
+    }
+}

@@ -1,0 +1,42 @@
+//! The verifier as a program: it reads the file that its word names, judges the design, and writes the report.
+#![tactic(auto)]
+
+use std::alloc::{AllocError, Global};
+use std::env;
+use std::io;
+use std::process::ExitCode;
+use uc_files::{FileTexts, WriterSink};
+use uclid::run;
+
+/// The status where the words of the command line could not be had.
+const NO_WORDS: u8 = 7;
+
+fn main(rt: HostRuntime) -> ExitCode {
+    let Ok(words) = command_words(&rt) else {
+        return ExitCode::from(NO_WORDS);
+    };
+    let Ok(words) = borrowed(rt.alloc(), &words) else {
+        return ExitCode::from(NO_WORDS);
+    };
+    let mut texts = FileTexts::new(&rt);
+    let mut out = WriterSink::new(io::writer(&rt));
+    let outcome = run(rt.alloc(), &words, &mut texts, &mut out);
+    ExitCode::from(outcome.status)
+}
+
+/// The words after the program's name.
+fn command_words(rt: &HostRuntime) -> io::Result<Vec<String>> {
+    let mut words = Vec::new(rt.alloc());
+    for word in env::args(rt)?.skip(1) {
+        words.push(word)?;
+    }
+    Ok(words)
+}
+
+fn borrowed(alloc: Global, words: &[String]) -> Result<Vec<&str>, AllocError> {
+    let mut borrowed = Vec::new(alloc);
+    for word in words {
+        borrowed.push(word.as_str())?;
+    }
+    Ok(borrowed)
+}
