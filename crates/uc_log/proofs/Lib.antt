@@ -6,3 +6,4 @@ pub mod Refutation
 pub mod Checking
 pub mod Undoing
 pub mod Accepting
+pub mod Lasting

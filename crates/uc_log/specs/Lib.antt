@@ -6,3 +6,4 @@ pub mod Models
 pub mod Room
 pub mod Logs
 pub mod Meters
+pub mod Lasting

@@ -15,11 +15,13 @@ mod problem;
 mod same_type;
 mod scratch;
 mod search;
+#[cfg(test)]
+mod tests;
 
 pub use atom::Atom;
 pub use checker::check;
 pub use entry::Entry;
-pub use laws::accepted_logs_refute;
+pub use laws::{accepted_logs_refute, logs_grow};
 pub use log::Log;
 pub use meter::{CountMeter, Meter};
 pub use problem::Problem;
