@@ -10,8 +10,8 @@ use crate::{Entry, Log, Problem, Scratch};
 use uc_circuit::{Clause, ClauseState, Lit, state_of};
 use uc_terms::Terms;
 
-/// Whether every entry meets its condition and the last gives the empty clause. Takes no memory, and a time that is linear in
-/// the literals of the clauses that the hints name.
+/// Whether every entry meets its condition and the last gives the empty clause. Takes no memory. Each entry is read once, and
+/// a clause once for each hint that names it.
 pub fn check(terms: &Terms, p: &Problem, log: &Log, s: &mut Scratch) -> bool
     requires { IsRoomFor p.now log.now s.old }
     ensures exact { IsTrue result ↔ Accepts terms.now p.now log.now }
