@@ -403,7 +403,10 @@ fn comparison(reader: &mut Reader<'_>, levels: u8) -> Result<(Place, Expr), Stop
     let left = Boxed::new(reader.alloc, left)?;
     let right = Boxed::new(reader.alloc, right)?;
     let operator = comparison_of(sign.kind);
-    Ok((place, Expr::Compare(place, operator, sign.place, left, right)))
+    Ok((
+        place,
+        Expr::Compare(place, operator, sign.place, left, right),
+    ))
 }
 
 #[cycle(expressions)]
@@ -423,11 +426,7 @@ fn if_expression(reader: &mut Reader<'_>, levels: u8) -> Result<(Place, Expr), S
 }
 
 #[cycle(expressions)]
-fn more_branches(
-    reader: &mut Reader<'_>,
-    levels: u8,
-    found: &mut Items<Branch>,
-) -> Result<(), Stop>
+fn more_branches(reader: &mut Reader<'_>, levels: u8, found: &mut Items<Branch>) -> Result<(), Stop>
     ensures { Leaves found.new result (state reader.new) (with_front found.old (form levels parts.more_branches (state reader.old))) }
 {
     'turns: while reader.is_at(Kind::KwIf) {

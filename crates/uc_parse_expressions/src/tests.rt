@@ -50,12 +50,33 @@ fn answer(alloc: Global, kinds: &[Kind]) -> Result<(usize, usize), (Stop, usize)
 #[test]
 fn reads_up_to_the_first_word_that_does_not_go_on(rt: HostRuntime) {
     let alloc = rt.alloc();
-    assert_eq!(rt; answer(alloc, &[KwTrue, And, KwFalse, And, KwTrue, Comma]), Ok((3, 1)));
-    assert_eq!(rt; answer(alloc, &[KwTrue, Implies, KwFalse, Less, KwTrue, Implies, KwTrue]), Ok((3, 0)));
-    assert_eq!(rt; answer(alloc, &[KwIf, KwTrue, KwThen, KwTrue, KwElse, KwFalse]), Ok((1, 0)));
-    assert_eq!(rt; answer(alloc, &[KwTrue, And, Plus, KwTrue]), Err((Stop::At(Fault::Syntax), 2)));
-    assert_eq!(rt; answer(alloc, &[LeftParen, Not, KwTrue, RightParen]), Ok((1, 0)));
-    assert_eq!(rt; answer(alloc, &[LeftParen, LeftParen, Not, KwTrue]), Err((Stop::At(Fault::TooDeep), 2)));
+    assert_eq!(rt;
+        answer(alloc, &[KwTrue, And, KwFalse, And, KwTrue, Comma]),
+        Ok((3, 1))
+    );
+    assert_eq!(rt;
+        answer(
+            alloc,
+            &[KwTrue, Implies, KwFalse, Less, KwTrue, Implies, KwTrue]
+        ),
+        Ok((3, 0))
+    );
+    assert_eq!(rt;
+        answer(alloc, &[KwIf, KwTrue, KwThen, KwTrue, KwElse, KwFalse]),
+        Ok((1, 0))
+    );
+    assert_eq!(rt;
+        answer(alloc, &[KwTrue, And, Plus, KwTrue]),
+        Err((Stop::At(Fault::Syntax), 2))
+    );
+    assert_eq!(rt;
+        answer(alloc, &[LeftParen, Not, KwTrue, RightParen]),
+        Ok((1, 0))
+    );
+    assert_eq!(rt;
+        answer(alloc, &[LeftParen, LeftParen, Not, KwTrue]),
+        Err((Stop::At(Fault::TooDeep), 2))
+    );
 }
 
 /// Operands of a long conjunction.

@@ -1,17 +1,16 @@
-use Rattle.std.proofs.Common.{◌≡◌, ◌-◌, arith, rules, true, false, refl, [], ◌∷◌, ◌++◌, ◌∙◌, ap, sym, Ok, Err}
+use Rattle.std.proofs.Common.{◌≡◌, arith, rules, true, false, refl, [], ◌∷◌, ◌++◌, ◌∙◌, Ok}
 use Rattle.std.proofs.lemmas.Result.{err_from_is_err_and}
-use Rattle.uc_counted.specs.Counted.{turned, turns, with_front}
-use Rattle.uc_counted.specs.Gives.{StopsAt}
+use Rattle.uc_counted.specs.Counted.{turned, turns}
 use Rattle.uc_counted.proofs.Shapes.{after_is, after_fails}
-use Rattle.uc_counted.proofs.Turns.{goes_on, is_done, loop_fails, begins}
-use Rattle.uc_forms.specs.Form.{after, both, word, one_of, many, made}
+use Rattle.uc_counted.proofs.Turns.{goes_on, is_done, loop_fails}
+use Rattle.uc_forms.specs.Form.{after, both, word, one_of}
 use Rattle.uc_forms.specs.Reading.{is_at}
 use Rattle.uc_grammar.specs.Code.{code_of}
 use Rattle.uc_grammar.specs.declared.word.Word.{Word}
 use Rattle.uc_grammar.specs.declared.word.Kind.TheVariants.{Comma, Dot, LeftBracket, KwIf, Plus}
 use Rattle.uc_grammar.specs.Syntax as syntax
 use Rattle.uc_grammar.specs.Syntax.{words, rule, opens, expr, selection, branch, product, chain_of, sum_of, sum_sign}
-use Rattle.uc_parse_expressions.specs.Chains.{chain_form, operand_form, sign_of, node_of, gathered}
+use Rattle.uc_parse_expressions.specs.Chains.{operand_form, sign_of, node_of, gathered}
 use Rattle.uc_parse_expressions.specs.Parts.{selections, element, new_value}
 use Rattle.uc_parse_expressions.specs.Signs.{minus, sum_codes, order_codes}
 use Rattle.uc_parse_expressions.proofs.Chains.{gathers_on, gather_fails, gather_done, chain_given, sum_given, fold_more, fold_alone, chain_folds, sum_folds, pair_is, pair_fails}
