@@ -1,5 +1,4 @@
 -- The last alternatives of a type, which functions of their own read.
-use Rattle.std.specs.Prelude.{◌∷◌}
 use Rattle.uc_forms.specs.Form.{both, made, deep, word, after, ◌<|>◌}
 use Rattle.uc_grammar.specs.declared.word.Kind.TheVariants.{KwEnum, KwRecord, Dot}
 use Rattle.uc_grammar.specs.Syntax.{F, enum_braces, record_braces, array, a_name, id, optional, named_type}

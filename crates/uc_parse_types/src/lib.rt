@@ -8,3 +8,6 @@ mod types;
 pub use names::{ids, new_ids};
 pub use parameters::{params, typed_name};
 pub use types::{parameter, ty};
+
+#[cfg(test)]
+mod tests;

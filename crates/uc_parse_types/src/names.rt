@@ -25,11 +25,7 @@ pub fn ids(reader: &mut Reader<'_>, levels: u8) -> Result<Items<Identifier>, Sto
     Ok(found)
 }
 
-fn more_ids(
-    reader: &mut Reader<'_>,
-    levels: u8,
-    found: &mut Items<Identifier>,
-) -> Result<(), Stop>
+fn more_ids(reader: &mut Reader<'_>, levels: u8, found: &mut Items<Identifier>) -> Result<(), Stop>
     ensures { Leaves found.new result (state reader.new) (with_front found.old (form levels (many (after Comma id)) (state reader.old))) }
 {
     'turns: while reader.is_at(Kind::Comma) {

@@ -86,10 +86,7 @@ fn enum_braces(reader: &mut Reader<'_>, levels: u8) -> Result<Items<Identifier>,
 }
 
 #[cycle(types)]
-fn record_braces(
-    reader: &mut Reader<'_>,
-    levels: u8,
-) -> Result<Items<Parameter<TypeExpr>>, Stop>
+fn record_braces(reader: &mut Reader<'_>, levels: u8) -> Result<Items<Parameter<TypeExpr>>, Stop>
     ensures { Counts result (state reader.new) (nested levels record_braces (state reader.old)) }
 {
     if levels == 0 {

@@ -1,0 +1,4 @@
+pub mod Turned
+pub mod Takes
+pub mod Choice
+pub mod Branches
