@@ -1,0 +1,5 @@
+mod Chains
+mod Ranks
+mod Branches
+mod Compared
+mod InBrackets

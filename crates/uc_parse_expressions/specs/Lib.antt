@@ -1,0 +1,5 @@
+pub mod Chains
+pub mod Gives
+pub mod Heads
+pub mod Parts
+pub mod Signs
