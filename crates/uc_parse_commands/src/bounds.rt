@@ -1,16 +1,15 @@
-//! What runs have in parentheses: a number or a name.
+//! What runs have in parentheses: a number, or maybe none.
 
 ghost use Rattle.std.specs.Prelude.{◌≡◌};
 ghost use Rattle.uc_counted.specs.Counted.{turned};
 ghost use Rattle.uc_forms.specs.Form.{deep};
 ghost use Rattle.uc_counted.specs.Gives.{Counts};
-ghost use Rattle.uc_grammar.specs.Syntax.{in_number, maybe_number, in_name, optional, flat};
+ghost use Rattle.uc_grammar.specs.Syntax.{in_number, maybe_number, optional, flat};
 ghost use Rattle.uc_reader.specs.Reading.{state, form, nested};
 
 use uc_forms::Stop;
 use uc_grammar::Kind;
 use uc_reader::{Reader, value_of};
-use uc_syntax::Identifier;
 
 /// A number of any value.
 const NUMBER: Kind = Kind::Number(0);
@@ -53,17 +52,4 @@ pub(crate) fn optional_number(reader: &mut Reader<'_>, levels: u8) -> Result<Opt
         return maybe_number(reader, levels);
     }
     Ok(None)
-}
-
-/// `(` name `)`
-pub(crate) fn in_name(reader: &mut Reader<'_>, levels: u8) -> Result<Identifier, Stop>
-    ensures { Counts result (state reader.new) (nested levels in_name (state reader.old)) }
-{
-    if levels == 0 {
-        return Err(reader.no_level(Kind::LeftParen));
-    }
-    reader.take(Kind::LeftParen)?;
-    let name = reader.id()?;
-    reader.take(Kind::RightParen)?;
-    Ok(name)
 }

@@ -11,12 +11,13 @@ ghost use Rattle.uc_parse_commands.specs.Parts.{unroll_command, induction_comman
 ghost use Rattle.uc_reader.specs.Reading.{state, form, nested};
 ghost use Rattle.uc_syntax.specs.declared.declaration.Command.TheVariants as commands;
 
-use crate::bounds::{in_name, in_number, optional_number};
+use crate::bounds::{in_number, optional_number};
 use crate::paths::{PRINT_CEX, counterexample, optional_paths};
 use crate::run::{INDUCTION, UNROLL, VERIFY, run};
 use uc_forms::{Fault, Stop};
 use uc_grammar::{Kind, Word};
 use uc_items::Items;
+use uc_parse_expressions::in_name;
 use uc_reader::{Reader, name_of};
 use uc_syntax::{Command, Identifier, WrittenRun};
 

@@ -4,10 +4,11 @@ ghost use Rattle.uc_counted.specs.Gives.{Counts};
 ghost use Rattle.uc_grammar.specs.Syntax.{run};
 ghost use Rattle.uc_reader.specs.Reading.{state, form};
 
-use crate::bounds::{in_name, in_number, optional_number};
+use crate::bounds::{in_number, optional_number};
 use uc_forms::Stop;
 use uc_grammar::Kind;
 use uc_lexer::Place;
+use uc_parse_expressions::in_name;
 use uc_reader::Reader;
 use uc_syntax::WrittenRun;
 
