@@ -49,11 +49,7 @@ impl From<EvalError> for Stop {
 const MOST_FILES: usize = 256;
 
 /// What the words and the texts lead to.
-pub(crate) fn decide<X: Texts>(
-    alloc: Global,
-    words: &[&str],
-    texts: &mut X,
-) -> Result<Answer, Stop>
+pub(crate) fn decide<X: Texts>(alloc: Global, words: &[&str], texts: &mut X) -> Result<Answer, Stop>
     ensures answer { IfOk result (IsAnswer (X.tells texts.old) (words_of words.now) (X.held texts.old)) }
     ensures cause { IsErrOf result Stop.ReadFault → Rose (X.faults texts.old) (X.faults texts.new) }
     ensures no_fault { (¬ IsErrOf result Stop.ReadFault) → X.faults texts.new ≡ X.faults texts.old }

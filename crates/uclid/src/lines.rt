@@ -14,11 +14,7 @@ const USAGE: &[u8] =
     b"usage: uclid [--main NAME] [--budget N] FILE... or uclid --ring N [--budget N]\n";
 
 /// The text of an answer for these words.
-pub(crate) fn text_of(
-    alloc: Global,
-    words: &[&str],
-    answer: &Answer,
-) -> Result<Vec<u8>, AllocError>
+pub(crate) fn text_of(alloc: Global, words: &[&str], answer: &Answer) -> Result<Vec<u8>, AllocError>
     ensures { IfOk result (λ text. text.items ≡ text_of (words_of words.now) answer.now) }
 {
     match answer {

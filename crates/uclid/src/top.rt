@@ -20,12 +20,7 @@ pub struct Outcome {
 ///
 /// Statuses: 0 where all lines passed, 1 where one failed, 3 where the text is refused (an error line is written), 4 where the
 /// words are none (the usage line is written), 5 after a fault of the texts, 6 after a fault of the sink, 7 for want of memory.
-pub fn run<X: Texts, K: Sink>(
-    alloc: Global,
-    words: &[&str],
-    texts: &mut X,
-    out: &mut K,
-) -> Outcome
+pub fn run<X: Texts, K: Sink>(alloc: Global, words: &[&str], texts: &mut X, out: &mut K) -> Outcome
     ensures ends { Ends (X.tells texts.old) (words_of words.now) (X.held texts.old) (X.faults texts.old) (X.faults texts.new)
         (K.tells out.old) (K.taken out.old) (K.taken out.new) (K.faults out.old) (K.faults out.new) result }
     ensures texts_later { X.faults texts.old ≤ X.faults texts.new }

@@ -2,9 +2,8 @@
 #![tactic(auto)]
 
 use std::alloc::{AllocError, Global};
-use std::env;
-use std::io;
 use std::process::ExitCode;
+use std::{env, io};
 use uc_files::{FileTexts, WriterSink};
 use uclid::run;
 
