@@ -1,0 +1,196 @@
+use std::alloc::{AllocError, Global};
+use std::process::Abort;
+use std::test::Fail;
+use uc_io::{MemSink, MemTexts};
+use uclid::run;
+
+/// The status of a run, and what was written.
+#[derive(Drop)]
+struct Ended {
+    status: u8,
+    written: Vec<u8>,
+}
+
+/// A run on these words. The text stands under the name `m.ucl`. The calls of the texts and of the sink whose numbers are given fail.
+fn finish(
+    alloc: Global,
+    words: &[&str],
+    text: &[u8],
+    failing_reads: &[u64],
+    failing_writes: &[u64],
+) -> Result<Ended, AllocError> {
+    let mut files = Vec::new(alloc);
+    files.push((String::from_str(alloc, "m.ucl")?, text.to_vec(alloc)?))?;
+    let mut texts = MemTexts::new(files, 4096, failing_reads.to_vec(alloc)?);
+    let mut sink = MemSink::new(alloc, 10, failing_writes.to_vec(alloc)?);
+    let outcome = run(alloc, words, &mut texts, &mut sink);
+    Ok(Ended {
+        status: outcome.status,
+        written: sink.bytes().to_vec(alloc)?,
+    })
+}
+
+/// A text, the status, and what is written.
+type Row = (&'static [u8], u8, &'static [u8]);
+
+const TOGGLE: &[u8] =
+    b"module main { var x : boolean; init { x = true; } next { x' = !x; } invariant any : x || !x; control { unroll(2); check; print_results; } }";
+
+const TOGGLE_REPORT: &[u8] =
+    b"3 assertions passed.\n0 assertions failed.\n0 assertions indeterminate.\n  PASSED -> unroll [step 0] invariant any\n  PASSED -> unroll [step 1] invariant any\n  PASSED -> unroll [step 2] invariant any\n";
+
+/// Designs that are judged.
+const JUDGED: [Row; 7] = [
+    (TOGGLE, 0, TOGGLE_REPORT),
+    (
+        b"module main { var x : boolean; init { x = true; } next { x' = !x; } invariant up : x; control { unroll(2); check; print_results; } }",
+        1,
+        b"2 assertions passed.\n1 assertions failed.\n0 assertions indeterminate.\n  PASSED -> unroll [step 0] invariant up\n  FAILED -> unroll [step 1] invariant up\n  PASSED -> unroll [step 2] invariant up\n",
+    ),
+    (
+        b"module main { invariant ok : true; control { unroll(0); check; print_results; } }",
+        0,
+        b"1 assertions passed.\n0 assertions failed.\n0 assertions indeterminate.\n  PASSED -> unroll [step 0] invariant ok\n",
+    ),
+    (b"module main { }", 0, b""),
+    // What no statement writes keeps its value, and new values are read off the old state: the two change places.
+    (
+        b"module main { var a, b, c : boolean; init { a = true; b = false; c = true; } next { a' = b; b' = a; } invariant one : a || b; invariant kept : c; control { unroll(1); check; print_results; } }",
+        0,
+        b"4 assertions passed.\n0 assertions failed.\n0 assertions indeterminate.\n  PASSED -> unroll [step 0] invariant one\n  PASSED -> unroll [step 0] invariant kept\n  PASSED -> unroll [step 1] invariant one\n  PASSED -> unroll [step 1] invariant kept\n",
+    ),
+    // A truth value moves on by one variable in a step, and reaches the last one at step 3.
+    (
+        b"module main {\n  var a, b, c, d : boolean;\n  init { a = true; b = false; c = false; d = false; }\n  next { b' = a; c' = b; d' = c; } // a keeps its value\n  invariant low : !d;\n  control { unroll(4); check; print_results; }\n}\n",
+        1,
+        b"3 assertions passed.\n2 assertions failed.\n0 assertions indeterminate.\n  PASSED -> unroll [step 0] invariant low\n  PASSED -> unroll [step 1] invariant low\n  PASSED -> unroll [step 2] invariant low\n  FAILED -> unroll [step 3] invariant low\n  FAILED -> unroll [step 4] invariant low\n",
+    ),
+    // Twelve variables without initial values: 4,096 initial states. At each step one of them has led to the state in which the second formula is false.
+    (
+        b"module main { var a, b, c, d, e, f, g, h, i, j, k, l : boolean; next { a' = !a; } invariant same : a || !a; invariant some : a || b || c || d || e || f || g || h || i || j || k || l; control { unroll(3); check; print_results; } }",
+        1,
+        b"4 assertions passed.\n4 assertions failed.\n0 assertions indeterminate.\n  PASSED -> unroll [step 0] invariant same\n  FAILED -> unroll [step 0] invariant some\n  PASSED -> unroll [step 1] invariant same\n  FAILED -> unroll [step 1] invariant some\n  PASSED -> unroll [step 2] invariant same\n  FAILED -> unroll [step 2] invariant some\n  PASSED -> unroll [step 3] invariant same\n  FAILED -> unroll [step 3] invariant some\n",
+    ),
+];
+
+/// Texts that are refused, each at its place.
+const REFUSED: [Row; 9] = [
+    (b"module #", 3, b"error 3 in m.ucl at line 1, column 8\n"),
+    (
+        b"module main { var 1x : boolean; }",
+        3,
+        b"error 4 in m.ucl at line 1, column 19\n",
+    ),
+    (
+        b"module main { /* cut",
+        3,
+        b"error 5 in m.ucl at line 1, column 15\n",
+    ),
+    (
+        b"module main { var x : boolean }",
+        3,
+        b"error 6 in m.ucl at line 1, column 31\n",
+    ),
+    (
+        b"module main {\n  // cut\n",
+        3,
+        b"error 6 in m.ucl at line 3, column 1\n",
+    ),
+    (DEEP, 3, b"error 7 in m.ucl at line 1, column 228\n"),
+    (
+        b"module other { }",
+        3,
+        b"error 10 in m.ucl at line 1, column 1\n",
+    ),
+    (
+        b"module main { var x : integer; init { x = true; } next { x' = !x; } invariant any : x || !x; control { unroll(2); check; print_results; } }",
+        3,
+        b"error 33 in m.ucl at line 1, column 1\n",
+    ),
+    (
+        b"module main { var x : boolean; next { x' = x; x' = !x; } }",
+        3,
+        b"error 33 in m.ucl at line 1, column 1\n",
+    ),
+];
+
+/// An invariant behind 201 parentheses.
+const DEEP: &[u8] =
+    b"module main { invariant p : ((((((((((((((((((((((((((((((((((((((((((((((((((((((((((((((((((((((((((((((((((((((((((((((((((((((((((((((((((((((((((((((((((((((((((((((((((((((((((((((((((((((((((((((((((((((((((((((((((((((((true)))))))))))))))))))))))))))))))))))))))))))))))))))))))))))))))))))))))))))))))))))))))))))))))))))))))))))))))))))))))))))))))))))))))))))))))))))))))))))))))))))))))))))))))))))))))))))))))))))))))); }";
+
+fn check_rows(rt: &impl Abort, alloc: Global, rows: &[Row]) -> Result<(), AllocError> {
+    for (text, status, written) in rows {
+        let ended = finish(alloc, &["m.ucl"], text, &[], &[])?;
+        assert_eq!(rt; ended.status, *status);
+        assert_eq!(rt; ended.written.as_slice(), *written);
+    }
+    Ok(())
+}
+
+#[test]
+fn designs_are_judged(rt: HostRuntime) -> Result<(), Fail> {
+    check_rows(&rt, rt.alloc(), &JUDGED)?;
+    Ok(())
+}
+
+#[test]
+fn texts_are_refused_at_their_places(rt: HostRuntime) -> Result<(), Fail> {
+    check_rows(&rt, rt.alloc(), &REFUSED)?;
+    Ok(())
+}
+
+const USAGE: &[u8] =
+    b"usage: uclid [--main NAME] [--budget N] FILE... or uclid --ring N [--budget N]\n";
+
+#[test]
+fn words_are_one_file(rt: HostRuntime) -> Result<(), Fail> {
+    let alloc = rt.alloc();
+    let many = ["m.ucl"; 257];
+    let rows: [(&[&str], u8, &[u8]); 6] = [
+        (&[], 4, USAGE),
+        (&["-v"], 4, USAGE),
+        (&["m.ucl", "-v"], 4, USAGE),
+        (&many, 4, USAGE),
+        (
+            &["gone.ucl"],
+            3,
+            b"error 8 in gone.ucl at line 1, column 1\n",
+        ),
+        (
+            &["m.ucl", "gone.ucl"],
+            3,
+            b"error 33 in m.ucl at line 1, column 1\n",
+        ),
+    ];
+    for (words, status, written) in rows {
+        let ended = finish(alloc, words, TOGGLE, &[], &[])?;
+        assert_eq!(rt; ended.status, status);
+        assert_eq!(rt; ended.written.as_slice(), written);
+    }
+    Ok(())
+}
+
+#[test]
+fn a_fault_of_the_texts_ends_the_run(rt: HostRuntime) -> Result<(), Fail> {
+    let alloc = rt.alloc();
+    // The text is opened, read, and read to its end.
+    for call in 0..3 {
+        let ended = finish(alloc, &["m.ucl"], TOGGLE, &[call], &[])?;
+        assert_eq!(rt; ended.status, 5);
+        assert_eq!(rt; ended.written.len(), 0);
+    }
+    Ok(())
+}
+
+#[test]
+fn a_fault_of_the_sink_leaves_a_front(rt: HostRuntime) -> Result<(), Fail> {
+    let alloc = rt.alloc();
+    // The sink takes ten bytes a call.
+    for call in 0..20 {
+        let ended = finish(alloc, &["m.ucl"], TOGGLE, &[], &[call])?;
+        let front = (call as usize) * 10;
+        assert_eq!(rt; ended.status, 6);
+        assert_eq!(rt; Some(ended.written.as_slice()), TOGGLE_REPORT.get(..front));
+    }
+    Ok(())
+}
