@@ -1,0 +1,39 @@
+-- From lines that passed to all runs.
+use Rattle.std.proofs.Common.{◌≡◌, ℕ, true, List, length, sym, ap, subst, ◌∙◌}
+use Rattle.std.specs.List.{All}
+use Rattle.std.proofs.lemmas.List.Elements.{All-map}
+use Rattle.uc_syntax.specs.declared.declaration.WrittenRun.TheVariants.{Unroll}
+use Rattle.uc_meaning.specs.declared.line.Line.{Line}
+use Rattle.uc_meaning.specs.Lookup.{System}
+use Rattle.uc_meaning.specs.Lines.{IsValid, all_lines}
+use Rattle.uc_laws.proofs.Checked.{checked_induction_holds}
+use Rattle.uc_laws.proofs.Commands.{command_holds}
+use Rattle.uc_laws.proofs.Induction.{unroll_holds}
+use Rattle.uc_control.specs.declared.report.Verdict.{Verdict}
+use Rattle.uc_control.specs.declared.report.Verdict.TheVariants.{Passed, Failed}
+use Rattle.uc_control.specs.declared.report.LineResult.{LineResult}
+use Rattle.uc_control.specs.declared.report.Report.{Report}
+use Rattle.uc_control.specs.Reports.{is_passed}
+use Rattle.uc_judge.specs.Reports.{IsRightVerdict, IsReport}
+use Rattle.uclid_laws.specs.Laws.{AllPassed, PassedInduction, PassedUnroll}
+
+passed_is_valid : (system : System) (line : Line) (v : Verdict) → IsRightVerdict system line v → is_passed v ≡ true → IsValid system line
+passed_is_valid system line Passed h e = h
+passed_is_valid system line (Failed trace) h e = absurd cc
+
+-- the lines of a command that all passed are valid
+all_valid : (system : System) (report : Report) (command : ℕ) → IsReport system report → AllPassed command report → All (λ line. line.command ≡ command → IsValid system line) (all_lines system)
+all_valid system report command is passed = subst (All Wanted) is.lines (All-map Wanted (λ l. l.line) report.lines each)
+  where
+    Wanted : Line → Type 0
+    Wanted line = line.command ≡ command → IsValid system line
+
+    each : All (λ l. Wanted l.line) report.lines
+    each i d lt e = passed_is_valid system _ _ (is.verdicts i d lt) (passed i d lt (is.commands i d lt ∙ e))
+
+pub passed_induction : PassedInduction
+passed_induction system report place name depth before after apart deep commands checked is passed = checked_induction_holds system place name depth before after apart deep commands checked (all_valid system report (length before) is passed)
+
+pub passed_unroll : PassedUnroll
+passed_unroll system report place name depth before after apart commands checked is passed =
+    unroll_holds system (length before) depth apart (command_holds system place name (Unroll depth) before after commands checked (all_valid system report (length before) is passed))

@@ -1,0 +1,42 @@
+-- What the answers of a run mean.
+use Rattle.std.specs.Prelude.{◌≡◌, ℕ, ◌≤◌, true, List, ◌∷◌, ◌++◌, length, Option}
+use Rattle.std.specs.List.{list_any, All}
+use Rattle.uc_lexer.specs.declared.place.Place.{Place}
+use Rattle.uc_syntax.specs.declared.place.Identifier.{Identifier}
+use Rattle.uc_syntax.specs.declared.declaration.Command.{Command}
+use Rattle.uc_syntax.specs.declared.declaration.Command.TheVariants.{Run}
+use Rattle.uc_syntax.specs.declared.declaration.WrittenRun.TheVariants.{Unroll, Induction}
+use Rattle.uc_meaning.specs.Lookup.{System}
+use Rattle.uc_meaning.specs.Lines.{commands_of, is_check}
+use Rattle.uc_laws.specs.Laws.{InstancesApart, HoldsAlways, HoldsUpTo, depth_of}
+use Rattle.uc_control.specs.declared.report.Report.{Report}
+use Rattle.uc_control.specs.Reports.{is_passed}
+use Rattle.uc_judge.specs.Reports.{IsReport}
+use Rattle.uc_front.specs.declared.refusal.Refusal.{Refusal}
+use Rattle.uc_front.specs.Denotes.{Denotes, IsAccepted, IsRefused}
+
+-- the text of a file denotes at most one design
+abbrev pub OneDesign : Type 0
+OneDesign = (file text : List ℕ) (one other : System) → Denotes file text one → Denotes file text other → one ≡ other
+
+-- what is held under a file's name is not both accepted and refused
+abbrev pub NeverBoth : Type 0
+NeverBoth = (file : List ℕ) (held : Option (List ℕ)) (system : System) (refusal : Refusal) → IsAccepted file held system → IsRefused file held refusal → ⊥
+
+-- all lines of the command of a number passed
+abbrev pub AllPassed : ℕ → Report → Type 0
+AllPassed command report = All (λ l. l.command ≡ command → is_passed l.verdict ≡ true) report.lines
+
+-- Where a later `check` follows an induction, and all of its lines passed: every invariant and hyperinvariant holds in all runs, and no run lists any site.
+abbrev pub PassedInduction : Type 0
+PassedInduction =
+    (system : System) (report : Report) (place : Place) (name : Option Identifier) (depth : Option ℕ) (before after : List Command) → InstancesApart system → 1 ≤ depth_of depth →
+    commands_of system ≡ before ++ (Run place name (Induction depth) ∷ after) → list_any is_check after ≡ true →
+    IsReport system report → AllPassed (length before) report → HoldsAlways system
+
+-- The same of an unrolling, for the runs of at most so many steps.
+abbrev pub PassedUnroll : Type 0
+PassedUnroll =
+    (system : System) (report : Report) (place : Place) (name : Option Identifier) (depth : ℕ) (before after : List Command) → InstancesApart system →
+    commands_of system ≡ before ++ (Run place name (Unroll depth) ∷ after) → list_any is_check after ≡ true →
+    IsReport system report → AllPassed (length before) report → HoldsUpTo system depth

@@ -1,0 +1,42 @@
+//! What the answers of a run mean: a text denotes at most one design and is never both accepted and refused, and lines that
+//! passed say what holds in all runs.
+#![tactic(auto)]
+
+ghost use Rattle.uclid_laws.specs.Laws.{OneDesign, NeverBoth, PassedInduction, PassedUnroll};
+
+/// A text denotes at most one design.
+#[tactic(auto, using(crate::proofs::Designs::one_design))]
+pub fn one_design()
+    ensures { OneDesign }
+{}
+
+/// No text is both accepted and refused.
+#[tactic(auto, using(crate::proofs::Designs::never_both))]
+pub fn never_both()
+    ensures { NeverBoth }
+{}
+
+/// Where all lines of an induction passed, everything holds in all runs.
+#[tactic(auto, using(crate::proofs::Passed::passed_induction))]
+pub fn passed_induction()
+    ensures { PassedInduction }
+{}
+
+/// Where all lines of an unrolling passed, everything holds in all runs of at most so many steps.
+#[tactic(auto, using(crate::proofs::Passed::passed_unroll))]
+pub fn passed_unroll()
+    ensures { PassedUnroll }
+{}
+
+#[cfg(test)]
+mod tests {
+    use super::*;
+
+    #[test]
+    fn laws_can_be_called(_rt: HostRuntime) {
+        one_design();
+        never_both();
+        passed_induction();
+        passed_unroll();
+    }
+}
