@@ -33,18 +33,15 @@ answers_same file text names others one other h k =
     let right : IsAnswer grammar most_levels most_names h.words other = subst (λ ws. IsAnswer grammar most_levels most_names ws other) (sym words) k.right in
     (same, one_answer grammar most_levels most_names h.words one other h.right right)
 
-modules_in : Answer Word (List Module) → List Module
+abbrev modules_in : Answer Word (List Module) → List Module
 modules_in (spelled modules) = modules
 modules_in (wrong rest) = []
 modules_in (too_deep rest) = []
 modules_in (too_many x) = []
 
-main_of : Option ℕ → ℕ
+abbrev main_of : Option ℕ → ℕ
 main_of (Some n) = n
 main_of None = 0
-
-made_of : System → System
-made_of s = record { names = s.names; files = s.files; modules = s.modules; main = s.main }
 
 pub one_design : OneDesign
 one_design file text a b h k =
@@ -53,7 +50,7 @@ one_design file text a b h k =
     let mains : Some a.main ≡ Some b.main = sym h.main ∙ ap (λ ns. main_in ns a.modules) same.0 ∙ ap (λ ms. main_in b.names ms) modules ∙ k.main in
     let main : a.main ≡ b.main = ap (λ o. main_of o) mains in
     let files : a.files ≡ b.files = h.files ∙ sym k.files in
-    grind (same.0, modules, main, files)
+    (λ i. record { names = same.0 i; files = files i; modules = modules i; main = main i })
 
 -- a text with tokens has no first fault
 no_fault : (text : List ℕ) (tokens : List Token) (fault : LexFault) → Tokens 0 text tokens → FirstFault 0 text fault → ⊥
@@ -62,35 +59,35 @@ no_fault text tokens fault h k = let e : None ≡ Some fault = (one_reading 0 te
 -- a text that spells modules is not unspelled
 spelled_not : (file text : List ℕ) (names : List (List ℕ)) (modules : List Module) (r : Refusal) → HasAnswer file text names (spelled modules) → IsUnspelled file text r → ⊥
 spelled_not file text names modules r h u =
-    let same = answers_same file text names u.0 (spelled modules) u.1 h u.2.0 in
-    let e : None ≡ Some r = ap (λ a. refusal_of (place_of 0 text (length text)) a) same.1 ∙ u.2.1 in
+    let same = answers_same file text names u.0 (spelled modules) u.1 h u.2 in
+    let e : None ≡ Some r = ap (λ a. refusal_of (place_of 0 text (length text)) a) same.1 ∙ u.3 in
     cc e
 
 never_text : (file text : List ℕ) (system : System) (r : Refusal) → Denotes file text system → InFragment system → IsTextRefused file text r → ⊥
-never_text file text system NoFile h f no = no
-never_text file text system TooLong h f no = no
-never_text file text system (BadByte p) h f no = no_fault text h.spells.tokens _ h.spells.are_tokens no
-never_text file text system (BadNumber p) h f no = no_fault text h.spells.tokens _ h.spells.are_tokens no
-never_text file text system (OpenComment p) h f no = no_fault text h.spells.tokens _ h.spells.are_tokens no
-never_text file text system (Syntax p) h f no = spelled_not file text system.names system.modules (Syntax p) h.spells no
-never_text file text system (TooDeep p) h f no = spelled_not file text system.names system.modules (TooDeep p) h.spells no
-never_text file text system (TooManyNames p) h f no = spelled_not file text system.names system.modules (TooManyNames p) h.spells no
-never_text file text system NoMain h f no =
-    let same = answers_same file text system.names no.0 (spelled system.modules) (spelled no.1) h.spells no.2.0 in
-    let modules : system.modules ≡ no.1 = ap (λ r. modules_in r) same.1 in
-    let e : Some system.main ≡ None = sym h.main ∙ ap (λ ns. main_in ns system.modules) same.0 ∙ ap (λ ms. main_in no.0 ms) modules ∙ no.2.1 in
+never_text file text system NoFile h f refused = refused
+never_text file text system TooLong h f refused = refused
+never_text file text system (BadByte p) h f refused = no_fault text h.spells.tokens _ h.spells.are_tokens refused
+never_text file text system (BadNumber p) h f refused = no_fault text h.spells.tokens _ h.spells.are_tokens refused
+never_text file text system (OpenComment p) h f refused = no_fault text h.spells.tokens _ h.spells.are_tokens refused
+never_text file text system (Syntax p) h f refused = spelled_not file text system.names system.modules (Syntax p) h.spells refused
+never_text file text system (TooDeep p) h f refused = spelled_not file text system.names system.modules (TooDeep p) h.spells refused
+never_text file text system (TooManyNames p) h f refused = spelled_not file text system.names system.modules (TooManyNames p) h.spells refused
+never_text file text system NoMain h f refused =
+    let same = answers_same file text system.names refused.0 (spelled system.modules) (spelled refused.1) h.spells refused.2 in
+    let modules : system.modules ≡ refused.1 = ap (λ r. modules_in r) same.1 in
+    let e : Some system.main ≡ None = sym h.main ∙ ap (λ ns. main_in ns system.modules) same.0 ∙ ap (λ ms. main_in refused.0 ms) modules ∙ refused.3 in
     cc e
-never_text file text system NotBuilt h f no = no.2 (subst InFragment (one_design file text system no.0 h no.1) f)
+never_text file text system NotBuilt h f refused = refused.2 (subst InFragment (one_design file text system refused.0 h refused.1) f)
 
 pub never_both : NeverBoth
-never_both file None system r a no = a
-never_both file (Some text) system TooLong a no = let l : length text ≤ MAX_TEXT = a.0 in let m : MAX_TEXT < length text = no in omega arith
-never_both file (Some text) system NoFile a no = never_text file text system NoFile a.1 a.2 no.1
-never_both file (Some text) system (BadByte p) a no = never_text file text system (BadByte p) a.1 a.2 no.1
-never_both file (Some text) system (BadNumber p) a no = never_text file text system (BadNumber p) a.1 a.2 no.1
-never_both file (Some text) system (OpenComment p) a no = never_text file text system (OpenComment p) a.1 a.2 no.1
-never_both file (Some text) system (Syntax p) a no = never_text file text system (Syntax p) a.1 a.2 no.1
-never_both file (Some text) system (TooDeep p) a no = never_text file text system (TooDeep p) a.1 a.2 no.1
-never_both file (Some text) system (TooManyNames p) a no = never_text file text system (TooManyNames p) a.1 a.2 no.1
-never_both file (Some text) system NoMain a no = never_text file text system NoMain a.1 a.2 no.1
-never_both file (Some text) system NotBuilt a no = never_text file text system NotBuilt a.1 a.2 no.1
+never_both file None system r a refused = a
+never_both file (Some text) system TooLong a refused = let l : length text ≤ MAX_TEXT = a.0 in let m : MAX_TEXT < length text = refused in omega arith
+never_both file (Some text) system NoFile a refused = never_text file text system NoFile a.1 a.2 refused.1
+never_both file (Some text) system (BadByte p) a refused = never_text file text system (BadByte p) a.1 a.2 refused.1
+never_both file (Some text) system (BadNumber p) a refused = never_text file text system (BadNumber p) a.1 a.2 refused.1
+never_both file (Some text) system (OpenComment p) a refused = never_text file text system (OpenComment p) a.1 a.2 refused.1
+never_both file (Some text) system (Syntax p) a refused = never_text file text system (Syntax p) a.1 a.2 refused.1
+never_both file (Some text) system (TooDeep p) a refused = never_text file text system (TooDeep p) a.1 a.2 refused.1
+never_both file (Some text) system (TooManyNames p) a refused = never_text file text system (TooManyNames p) a.1 a.2 refused.1
+never_both file (Some text) system NoMain a refused = never_text file text system NoMain a.1 a.2 refused.1
+never_both file (Some text) system NotBuilt a refused = never_text file text system NotBuilt a.1 a.2 refused.1

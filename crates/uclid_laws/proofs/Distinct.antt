@@ -52,8 +52,8 @@ new_distinct [] text d none zero zero t a b = refl
 new_distinct [] text d none zero (suc j) t a b = absurd cc
 new_distinct [] text d none (suc i) j t a b = absurd cc
 new_distinct (x ∷ xs) text d none zero zero t a b = refl
-new_distinct (x ∷ xs) text d none zero (suc j) t a b = absurd (first_alone x xs text t j d none cc b)
-new_distinct (x ∷ xs) text d none (suc i) zero t a b = absurd (first_alone x xs text t i d none cc a)
+new_distinct (x ∷ xs) text d none zero (suc j) t a b = let own : x ≡ t = cc in absurd (first_alone x xs text t j d none own b)
+new_distinct (x ∷ xs) text d none (suc i) zero t a b = let own : x ≡ t = cc in absurd (first_alone x xs text t i d none own a)
 new_distinct (x ∷ xs) text d none (suc i) (suc j) t a b = ap suc (new_distinct xs text (tail_distinct x xs d) (tail_none x xs text none).1 i j t a b)
 
 text_distinct : (names : List (List ℕ)) (text : List ℕ) → AreDistinct names → AreDistinct (with_text names text)

@@ -5,7 +5,6 @@
 ghost use Rattle.uclid_laws.specs.Laws.{OneDesign, NeverBoth, PassedInduction, PassedUnroll};
 
 /// A text denotes at most one design.
-#[tactic(auto, using(crate::proofs::Designs::one_design))]
 pub fn one_design()
     ensures { OneDesign }
 {}
