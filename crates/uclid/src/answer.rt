@@ -20,9 +20,9 @@ pub struct Session {
     pub report: Report,
 }
 
-/// What is to be written.
+/// What a run is to write.
 #[derive(Drop)]
-pub(crate) enum Answer {
+pub enum Answer {
     /// The usage line.
     Usage,
     /// The error line of a refusal.

@@ -5,5 +5,5 @@ mod answer;
 mod lines;
 mod top;
 
-pub use answer::Session;
+pub use answer::{Answer, Session};
 pub use top::{Outcome, run};

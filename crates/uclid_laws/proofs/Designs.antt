@@ -1,5 +1,5 @@
 -- A text denotes at most one design, and is not both accepted and refused.
-use Rattle.std.proofs.Common.{◌≡◌, ℕ, ◌<◌, ◌≤◌, List, [], ◌∷◌, length, Option, Some, None, refl, sym, ap, subst, ◌∙◌, arith}
+use Rattle.std.proofs.Common.{◌≡◌, ℕ, ◌<◌, ◌≤◌, List, [], ◌∷◌, length, Option, Some, None, sym, ap, subst, ◌∙◌, arith}
 use Rattle.uc_lexer.specs.declared.token.Token.{Token}
 use Rattle.uc_lexer.specs.declared.fault.LexFault.{LexFault}
 use Rattle.uc_lexer.specs.declared.lexer.TheConstants.{MAX_TEXT}
@@ -18,7 +18,7 @@ use Rattle.uc_meaning.specs.Lookup.{System}
 use Rattle.uc_meaning.specs.Fragment.{InFragment}
 use Rattle.uc_front.specs.declared.refusal.Refusal.{Refusal}
 use Rattle.uc_front.specs.declared.refusal.Refusal.TheVariants.{NoFile, TooLong, BadByte, BadNumber, OpenComment, Syntax, TooDeep, TooManyNames, NoMain, NotBuilt}
-use Rattle.uc_front.specs.Denotes.{most_levels, most_names, HasAnswer, main_in, Denotes, refusal_of, IsUnspelled, IsTextRefused, IsAccepted, IsRefused}
+use Rattle.uc_front.specs.Denotes.{most_levels, most_names, HasAnswer, main_in, Denotes, refusal_of, IsUnspelled, IsTextRefused}
 use Rattle.uclid_laws.specs.Laws.{OneDesign, NeverBoth}
 use Rattle.uclid_laws.proofs.Distinct.{tokens_distinct, one_distinct}
 

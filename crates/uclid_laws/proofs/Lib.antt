@@ -1,3 +1,4 @@
 pub mod Passed
 pub mod Distinct
 pub mod Designs
+pub mod Runs

@@ -1,5 +1,5 @@
 -- From lines that passed to all runs.
-use Rattle.std.proofs.Common.{◌≡◌, ℕ, true, List, length, sym, ap, subst, ◌∙◌}
+use Rattle.std.proofs.Common.{◌≡◌, ℕ, true, length, subst, ◌∙◌}
 use Rattle.std.specs.List.{All}
 use Rattle.std.proofs.lemmas.List.Elements.{All-map}
 use Rattle.uc_syntax.specs.declared.declaration.WrittenRun.TheVariants.{Unroll}
@@ -11,7 +11,6 @@ use Rattle.uc_laws.proofs.Commands.{command_holds}
 use Rattle.uc_laws.proofs.Induction.{unroll_holds}
 use Rattle.uc_control.specs.declared.report.Verdict.{Verdict}
 use Rattle.uc_control.specs.declared.report.Verdict.TheVariants.{Passed, Failed}
-use Rattle.uc_control.specs.declared.report.LineResult.{LineResult}
 use Rattle.uc_control.specs.declared.report.Report.{Report}
 use Rattle.uc_control.specs.Reports.{is_passed}
 use Rattle.uc_judge.specs.Reports.{IsRightVerdict, IsReport}

@@ -1,5 +1,5 @@
 -- What the answers of a run mean.
-use Rattle.std.specs.Prelude.{◌≡◌, ℕ, ◌≤◌, true, List, ◌∷◌, ◌++◌, length, Option}
+use Rattle.std.specs.Prelude.{◌≡◌, ◌⊎◌, ℕ, ◌≤◌, Bool, true, List, [], ◌∷◌, ◌++◌, length, Option, Some, None}
 use Rattle.std.specs.List.{list_any, All}
 use Rattle.uc_lexer.specs.declared.place.Place.{Place}
 use Rattle.uc_syntax.specs.declared.place.Identifier.{Identifier}
@@ -14,6 +14,11 @@ use Rattle.uc_control.specs.Reports.{is_passed}
 use Rattle.uc_judge.specs.Reports.{IsReport}
 use Rattle.uc_front.specs.declared.refusal.Refusal.{Refusal}
 use Rattle.uc_front.specs.Denotes.{Denotes, IsAccepted, IsRefused}
+use Rattle.uc_io.specs.Faults.{Rose}
+use Rattle.uclid.specs.declared.answer.Session.{Session}
+use Rattle.uclid.specs.declared.top.Outcome.{Outcome}
+use Rattle.uclid.specs.Answers.{is_form}
+use Rattle.uclid.specs.Runs.{Ends}
 
 -- the text of a file denotes at most one design
 abbrev pub OneDesign : Type 0
@@ -22,6 +27,30 @@ OneDesign = (file text : List ℕ) (one other : System) → Denotes file text on
 -- what is held under a file's name is not both accepted and refused
 abbrev pub NeverBoth : Type 0
 NeverBoth = (file : List ℕ) (held : Option (List ℕ)) (system : System) (refusal : Refusal) → IsAccepted file held system → IsRefused file held refusal → ⊥
+
+-- A run ended by a fault: status 5 where the texts counted one, 6 where the sink did.
+abbrev pub EndedByFault : ℕ → ℕ → ℕ → ℕ → Outcome → Type 0
+EndedByFault texts_faults texts_faults_now faults faults_now o = ((o.status ≡ 5) × Rose texts_faults texts_faults_now) ⊎ ((o.status ≡ 6) × Rose faults faults_now)
+
+-- the session of an outcome is of this design
+abbrev pub HasSession : System → Outcome → Type 0
+HasSession system o = (s : Session) × (o.session ≡ Some s) × (s.design ≡ system)
+
+-- Where the bytes of one file are accepted as a design, a run on it ends with the status of its report and a session of just that design, but for a fault, which was counted, and want of memory.
+abbrev pub AcceptedRuns : Type 0
+AcceptedRuns =
+    (file : List ℕ) (held : List ℕ → Option (List ℕ)) (system : System) (texts_faults texts_faults_now : ℕ) (sink_tells : Bool) (taken taken_now : List ℕ) (faults faults_now : ℕ) (o : Outcome) →
+    is_form (file ∷ []) ≡ true → IsAccepted file (held file) system →
+    Ends true (file ∷ []) held texts_faults texts_faults_now sink_tells taken taken_now faults faults_now o →
+    (HasSession system o × ((o.status ≡ 0) ⊎ (o.status ≡ 1))) ⊎ EndedByFault texts_faults texts_faults_now faults faults_now o ⊎ (o.status ≡ 7)
+
+-- Where they are refused, a run on it ends with status 3 and without a session, but for the same.
+abbrev pub RefusedRuns : Type 0
+RefusedRuns =
+    (file : List ℕ) (held : List ℕ → Option (List ℕ)) (refusal : Refusal) (texts_faults texts_faults_now : ℕ) (sink_tells : Bool) (taken taken_now : List ℕ) (faults faults_now : ℕ) (o : Outcome) →
+    is_form (file ∷ []) ≡ true → IsRefused file (held file) refusal →
+    Ends true (file ∷ []) held texts_faults texts_faults_now sink_tells taken taken_now faults faults_now o →
+    (o.session ≡ None) × ((o.status ≡ 3) ⊎ EndedByFault texts_faults texts_faults_now faults faults_now o ⊎ (o.status ≡ 7))
 
 -- all lines of the command of a number passed
 abbrev pub AllPassed : ℕ → Report → Type 0

@@ -2,7 +2,7 @@
 //! passed say what holds in all runs.
 #![tactic(auto)]
 
-ghost use Rattle.uclid_laws.specs.Laws.{OneDesign, NeverBoth, PassedInduction, PassedUnroll};
+ghost use Rattle.uclid_laws.specs.Laws.{OneDesign, NeverBoth, AcceptedRuns, RefusedRuns, PassedInduction, PassedUnroll};
 
 /// A text denotes at most one design.
 pub fn one_design()
@@ -10,9 +10,18 @@ pub fn one_design()
 {}
 
 /// No text is both accepted and refused.
-#[tactic(auto, using(crate::proofs::Designs::never_both))]
 pub fn never_both()
     ensures { NeverBoth }
+{}
+
+/// Where a text is accepted, a run on it reports its one design.
+pub fn accepted_runs()
+    ensures { AcceptedRuns }
+{}
+
+/// Where a text is refused, a run on it answers a refusal.
+pub fn refused_runs()
+    ensures { RefusedRuns }
 {}
 
 /// Where all lines of an induction passed, everything holds in all runs.
@@ -35,6 +44,8 @@ mod tests {
     fn laws_can_be_called(_rt: HostRuntime) {
         one_design();
         never_both();
+        accepted_runs();
+        refused_runs();
         passed_induction();
         passed_unroll();
     }
