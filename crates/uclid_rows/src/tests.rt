@@ -142,31 +142,42 @@ fn texts_are_refused_at_their_places(rt: HostRuntime) -> Result<(), Fail> {
 const USAGE: &[u8] =
     b"usage: uclid [--main NAME] [--budget N] FILE... or uclid --ring N [--budget N]\n";
 
+/// A run on these words ends so. The text of a toggle stands under the name `m.ucl`.
+fn check_words(
+    rt: &impl Abort,
+    alloc: Global,
+    words: &[&str],
+    status: u8,
+    written: &[u8],
+) -> Result<(), AllocError> {
+    let ended = finish(alloc, words, TOGGLE, &[], &[])?;
+    assert_eq!(rt; ended.status, status);
+    assert_eq!(rt; ended.written.as_slice(), written);
+    Ok(())
+}
+
 #[test]
 fn words_are_one_file(rt: HostRuntime) -> Result<(), Fail> {
     let alloc = rt.alloc();
     let many = ["m.ucl"; 257];
-    let rows: [(&[&str], u8, &[u8]); 6] = [
-        (&[], 4, USAGE),
-        (&["-v"], 4, USAGE),
-        (&["m.ucl", "-v"], 4, USAGE),
-        (&many, 4, USAGE),
-        (
-            &["gone.ucl"],
-            3,
-            b"error 8 in gone.ucl at line 1, column 1\n",
-        ),
-        (
-            &["m.ucl", "gone.ucl"],
-            3,
-            b"error 33 in m.ucl at line 1, column 1\n",
-        ),
-    ];
-    for (words, status, written) in rows {
-        let ended = finish(alloc, words, TOGGLE, &[], &[])?;
-        assert_eq!(rt; ended.status, status);
-        assert_eq!(rt; ended.written.as_slice(), written);
-    }
+    check_words(&rt, alloc, &[], 4, USAGE)?;
+    check_words(&rt, alloc, &["-v"], 4, USAGE)?;
+    check_words(&rt, alloc, &["m.ucl", "-v"], 4, USAGE)?;
+    check_words(&rt, alloc, &many, 4, USAGE)?;
+    check_words(
+        &rt,
+        alloc,
+        &["gone.ucl"],
+        3,
+        b"error 8 in gone.ucl at line 1, column 1\n",
+    )?;
+    check_words(
+        &rt,
+        alloc,
+        &["m.ucl", "gone.ucl"],
+        3,
+        b"error 33 in m.ucl at line 1, column 1\n",
+    )?;
     Ok(())
 }
 
