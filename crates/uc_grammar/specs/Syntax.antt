@@ -19,6 +19,7 @@ use Rattle.uc_syntax.specs.declared.expression.Comparison.{Comparison}
 use Rattle.uc_syntax.specs.declared.expression.Comparison.TheVariants as comparisons
 use Rattle.uc_syntax.specs.declared.expression.SumSign.{SumSign}
 use Rattle.uc_syntax.specs.declared.expression.BitFunction.TheVariants as bit_functions
+use Rattle.uc_syntax.specs.declared.expression.Branch.{Branch}
 use Rattle.uc_syntax.specs.declared.expression.Selection.{Selection}
 use Rattle.uc_syntax.specs.declared.expression.Selection.TheVariants as selections_
 use Rattle.uc_syntax.specs.declared.expression.Primary.{Primary}
@@ -85,6 +86,7 @@ pub data Nested : Type 0 where
   paths : Nested
   control_braces : Nested
   params : Nested
+  results : Nested
   binds : Nested
   bind_value : Nested
   hyper_number : Nested
@@ -111,6 +113,7 @@ Value maybe_number = Option ℕ
 Value paths = List (List Identifier)
 Value control_braces = List Command
 Value params = List (Parameter TypeExpr)
+Value results = List (Parameter TypeExpr)
 Value binds = List Binding
 Value bind_value = Expr
 Value hyper_number = ℕ
@@ -287,15 +290,8 @@ abbrev pub expr : F Expr
 expr = bare expression
 
 -- "if" Expr "then" Expr "else"
-abbrev pub Branch : Type 0
-Branch = Place × (Expr × Expr)
-
-unfoldable pub branch : F Branch
-branch = made (λ x. (x.0.place, x.1)) (both (word KwIf) (both (before expr KwThen) (before expr KwElse)))
-
-abbrev pub branches : List Branch → Expr → Expr
-branches [] e = e
-branches (b ∷ bs) e = exprs_.If b.0 b.1.0 b.1.1 (branches bs e)
+unfoldable pub branch : F (Branch Expr)
+branch = made (λ x. record { place = x.0.place; condition = x.1.0; value = x.1.1 }) (both (word KwIf) (both (before expr KwThen) (before expr KwElse)))
 
 abbrev pub unary_operator : Kind → UnaryOperator
 unary_operator Minus = unary_operators.Negate
@@ -444,7 +440,7 @@ abbrev pub procedure_of : Identifier × (List (Parameter TypeExpr) × (Option (L
 procedure_of x = record { identifier = x.0; parameters = x.1.0; results = results_of x.1.1.0; clauses = x.1.1.1.0; body = x.1.1.1.1 }
 
 unfoldable pub procedure : F Procedure
-procedure = made procedure_of (both new_id (both (deep params) (both (optional (after KwReturns (deep params))) (both (many clause) statements))))
+procedure = made procedure_of (both new_id (both (deep params) (both (optional (after KwReturns (deep results))) (both (many clause) statements))))
 
 abbrev pub hyper_of : Word × (ℕ × (Identifier × Expr)) → Decl
 hyper_of x = elim x.0.kind [ KwHyperaxiom ↦ decls_.Hyperaxiom x.0.place x.1.0 x.1.1.0 x.1.1.1 | _ ↦ decls_.Hyperinvariant x.0.place x.1.0 x.1.1.0 x.1.1.1 ]
@@ -488,7 +484,7 @@ rule brackets = made (λ x. elim x.1 [
   | inr y ↦ elim y.1 [ inl w ↦ selections_.Element x.0.place y.0 | inr e ↦ selections_.Update x.0.place y.0 e ]
 ]) (both (word LeftBracket) (ahead quiet (Number 0) [] Colon (before (word (Number 0)) RightBracket) (both expr (either (word RightBracket) (after Arrow (before expr RightBracket))))))
 rule sign_operand = made (λ x. (x.0.place, exprs_.Unary x.0.place (unary_operator x.0.kind) x.1.1)) (both (one_of Not (Minus ∷ Tilde ∷ [])) unary)
-rule if_expression = made (λ x. (x.0.0, branches (x.0 ∷ x.1.0) x.1.1.1)) (both branch (both (many branch) equivalence))
+rule if_expression = made (λ x. (x.0.place, exprs_.If x.0.place (x.0 ∷ x.1.0) x.1.1.1)) (both branch (both (many branch) equivalence))
 rule target_index = made (λ x. target_parts.Element x.0.place x.1) (both (word LeftBracket) (before expr RightBracket))
 rule block = made (λ x. (x.0.place, x.1.0)) (both (word LeftBrace) (until statement (word RightBrace)))
 rule typed_name = after LeftParen (before parameter RightParen)
@@ -500,6 +496,7 @@ rule maybe_number = after LeftParen (made (elim [ inl w ↦ None | inr w ↦ Som
 rule paths = enclosed (listed (joined_by Dot id))
 rule control_braces = made (λ x. x.1.0) (both (word LeftBrace) (until command (word RightBrace)))
 rule params = enclosed (listed parameter)
+rule results = after LeftParen (before (listed parameter) RightParen)
 rule binds = enclosed (listed (made (λ x. record { identifier = x.0; expression = x.1 }) (both id (after Colon (deep bind_value)))))
 rule bind_value = after LeftParen (before expr RightParen)
 rule hyper_number = made (λ w. value_in w.kind) (after LeftBracket (before (word (Number 0)) RightBracket))
@@ -530,6 +527,7 @@ opens maybe_number = one LeftParen
 opens paths = one LeftParen
 opens control_braces = one LeftBrace
 opens params = one LeftParen
+opens results = one LeftParen
 opens binds = one LeftParen
 opens bind_value = one LeftParen
 opens hyper_number = one LeftBracket

@@ -1,29 +1,23 @@
 -- What each form of expression says, in terms of its parts.
 use Rattle.std.proofs.Common.{◌≡◌, map, List, [], ◌∷◌, ℕ, Bool, not, refl, ap, ◌∙◌}
-use Rattle.std.specs.Prelude.{if◌then◌else◌}
 use Rattle.uc_lexer.specs.declared.place.Place.{Place}
 use Rattle.uc_syntax.specs.declared.expression.UnaryOperator.{UnaryOperator}
 use Rattle.uc_syntax.specs.declared.expression.UnaryOperator.TheVariants.{Not}
 use Rattle.uc_syntax.specs.declared.expression.Primary.TheVariants.{Truth, Name}
 use Rattle.uc_syntax.specs.declared.expression.Expr.{Expr}
-use Rattle.uc_syntax.specs.declared.expression.Expr.TheOpen.Expr-F.{If as IfForm, Or as OrForm, And as AndForm, Unary as UnaryForm, Selected as SelectedForm}
-use Rattle.uc_syntax.specs.declared.expression.Expr.TheViews.{roll-Expr, If, Or, And, Unary, Selected}
+use Rattle.uc_syntax.specs.declared.expression.Expr.TheOpen.Expr-F.{Or as OrForm, And as AndForm, Unary as UnaryForm, Selected as SelectedForm}
+use Rattle.uc_syntax.specs.declared.expression.Expr.TheViews.{roll-Expr, Or, And, Unary, Selected}
 use Rattle.uc_syntax.specs.declared.expression.Expr.TheFolds.{fold-roll-Expr}
 use Rattle.uc_values.specs.declared.value.Value.{Value}
 use Rattle.uc_values.specs.declared.value.Value.TheVariants.{Bool as truth}
 use Rattle.uc_meaning.specs.declared.scope.Scope.{Scope}
 use Rattle.uc_meaning.specs.Lookup.{System}
-use Rattle.uc_meaning.specs.Operators.{holds, any_holds, all_hold, unary}
+use Rattle.uc_meaning.specs.Operators.{any_holds, all_hold, unary}
 use Rattle.uc_meaning.specs.Expressions.{Part, elsewhere, reading_form, reading_by, value, name, reached, select_all}
 
 pub map-map : {A B C : Type 0} (g : B → C) (f : A → B) (xs : List A) → map g (map f xs) ≡ map (λ x. g (f x)) xs
 map-map g f [] = refl
 map-map g f (x ∷ xs) = ap (λ ys. g (f x) ∷ ys) (map-map g f xs)
-
-pub value_if : (system : System) (s : Scope) (place : Place) (c x y : Expr) →
-    value system s (If place c x y) ≡ (if holds (value system s c) then value system s x else value system s y)
-unfolding reading_by roll-Expr denote.Hole.Carrier.roll
-value_if system s place c x y = ap (λ f. (f s).value) (fold-roll-Expr Part (reading_form system (elsewhere system)) (IfForm place c x y))
 
 pub value_or : (system : System) (s : Scope) (place : Place) (operands : List Expr) (marks : List Place) →
     value system s (Or place operands marks) ≡ truth (any_holds (map (value system s) operands))

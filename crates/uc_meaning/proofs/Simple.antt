@@ -55,7 +55,7 @@ unfolding is_simple
 simple_layer names (OrForm place operands marks) h = tt
 simple_layer names (UnaryForm place operator e) h = tt
 simple_layer names (SelectedForm place primary selections) h = tt
-simple_layer names (If place c x y) h = let e = fold-roll-Expr Bool (is_simple_form names) (If place c x y) in cc
+simple_layer names (If place branches y) h = let e = fold-roll-Expr Bool (is_simple_form names) (If place branches y) in cc
 simple_layer names (Iff place parts marks) h = let e = fold-roll-Expr Bool (is_simple_form names) (Iff place parts marks) in cc
 simple_layer names (Implies place parts marks) h = let e = fold-roll-Expr Bool (is_simple_form names) (Implies place parts marks) in cc
 simple_layer names (And place parts marks) h = let e = fold-roll-Expr Bool (is_simple_form names) (And place parts marks) in cc

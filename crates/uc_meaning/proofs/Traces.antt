@@ -4,6 +4,7 @@ use Rattle.uc_lexer.specs.declared.place.Place.{Place}
 use Rattle.uc_syntax.specs.declared.expression.Expr.{Expr}
 use Rattle.uc_syntax.specs.declared.expression.Expr.TheOpen.{Expr-F}
 use Rattle.uc_syntax.specs.declared.expression.Expr.TheOpen.Expr-F.{If, Iff, Implies, Or, And, Compare, BitOr, BitXor, BitAnd, Concat, Sum, Product, Unary, Selected}
+use Rattle.uc_syntax.specs.declared.expression.Branch.{Branch}
 use Rattle.uc_syntax.specs.declared.expression.Primary.{Primary}
 use Rattle.uc_syntax.specs.declared.expression.Primary.TheVariants.{Truth, Number, BitsLiteral, Name, Apply, OnBits, Old, Grouped}
 use Rattle.uc_syntax.specs.declared.expression.Selection.{Selection}
@@ -16,6 +17,10 @@ use Rattle.uc_meaning.specs.Overflow.{Traced, MetElsewhere, traced_form}
 abbrev selections_of : {X : Type 0} → Expr-F X → List (Selection X)
 selections_of (Selected p primary selections) = selections
 selections_of other = []
+
+abbrev branches_of : {X : Type 0} → Expr-F X → List (Branch X)
+branches_of (If p branches otherwise) = branches
+branches_of other = []
 
 abbrev primary_of : {X : Type 0} → Expr-F X → Primary X
 primary_of (Selected p primary selections) = primary
@@ -44,6 +49,13 @@ module _ {A B C D : Type 0} (f : A → B) (g : B → C) (h : A → C) (d : D →
       ∙ ap (λ xs. Update q (h (d e)) (h (d v)) ∷ xs) (selections_same p primary ss)
   selections_same p primary (Extract q a b ∷ ss) = ap (λ xs. Extract q a b ∷ xs) (selections_same p primary ss)
 
+  branches_same : (p : Place) (bs : List (Branch D)) (z : D) → branches_of (left (If p bs z)) ≡ branches_of (right (If p bs z))
+  branches_same p [] z = refl
+  branches_same p (b ∷ bs) z =
+      ap (λ k. record { place = b.place; condition = k; value = g (f (d b.value)) } ∷ branches_of (left (If p bs z))) (same b.condition)
+      ∙ ap (λ k. record { place = b.place; condition = h (d b.condition); value = k } ∷ branches_of (left (If p bs z))) (same b.value)
+      ∙ ap (λ k. record { place = b.place; condition = h (d b.condition); value = h (d b.value) } ∷ k) (branches_same p bs z)
+
   primary_same : (p : Place) (primary : Primary D) (ss : List (Selection D)) → primary_of (left (Selected p primary ss)) ≡ primary_of (right (Selected p primary ss))
   primary_same p (Truth b) ss = refl
   primary_same p (Number n) ss = refl
@@ -55,7 +67,9 @@ module _ {A B C D : Type 0} (f : A → B) (g : B → C) (h : A → C) (d : D →
   primary_same p (Grouped e) ss = ap (λ x. Grouped x) (same e)
 
   layer_same : (y : Expr-F D) → map-Expr B C g (map-Expr A B f (map-Expr D A d y)) ≡ map-Expr A C h (map-Expr D A d y)
-  layer_same (If p c x z) = ap (λ k. If p k (g (f (d x))) (g (f (d z)))) (same c) ∙ ap (λ k. If p (h (d c)) k (g (f (d z)))) (same x) ∙ ap (λ k. If p (h (d c)) (h (d x)) k) (same z)
+  layer_same (If p bs z) =
+      ap (λ k. If p k (g (f (d z)))) (branches_same p bs z)
+      ∙ ap (λ k. If p (branches_of (right (If p bs z))) k) (same z)
   layer_same (Iff p es ms) = ap (λ xs. Iff p xs ms) (list_same es)
   layer_same (Implies p es ms) = ap (λ xs. Implies p xs ms) (list_same es)
   layer_same (Or p es ms) = ap (λ xs. Or p xs ms) (list_same es)

@@ -10,6 +10,7 @@ use Rattle.uc_syntax.specs.declared.expression.Expr.TheOpen.Expr-F.{If, Iff, Imp
 use Rattle.uc_syntax.specs.declared.expression.Expr.TheFolds.{fold-Expr}
 use Rattle.uc_syntax.specs.declared.expression.Primary.{Primary}
 use Rattle.uc_syntax.specs.declared.expression.Primary.TheVariants.{Truth, Number, BitsLiteral, Name, Apply, OnBits, Old, Grouped}
+use Rattle.uc_syntax.specs.declared.expression.Branch.{Branch}
 use Rattle.uc_syntax.specs.declared.expression.Selection.{Selection}
 use Rattle.uc_syntax.specs.declared.expression.Selection.TheVariants.{Field, Copy, Element, Update, Extract}
 use Rattle.uc_syntax.specs.declared.expression.BitFunction.{BitFunction}
@@ -308,9 +309,14 @@ selected system elsewhere (OnBits function arguments) selections s = select_all 
 selected system elsewhere (Old x) selections s = select_all s (name system elsewhere (at_entry s) x.name false) selections
 selected system elsewhere (Grouped e) selections s = select_all s (e s) selections
 
+-- a conditional: the value of the first arm whose condition holds, else what stands behind the last `else`
+abbrev pub chosen : List (Branch Part) → Part → Part
+chosen [] otherwise s = otherwise s
+chosen (b ∷ bs) otherwise s = reads (b.value s).type (if holds (b.condition s).value then (b.value s).value else (chosen bs otherwise s).value)
+
 -- an expression, by what its parts say
 abbrev pub reading_form : System → Elsewhere → Expr-F Part → Part
-reading_form system elsewhere (If place c x y) s = reads (x s).type (if holds (c s).value then (x s).value else (y s).value)
+reading_form system elsewhere (If place branches otherwise) s = chosen branches otherwise s
 reading_form system elsewhere (Iff place parts marks) s = reads_truth (equivalent (values parts s))
 reading_form system elsewhere (Implies place parts marks) s = reads_truth (implied (values parts s))
 reading_form system elsewhere (Or place parts marks) s = reads_truth (any_holds (values parts s))

@@ -7,6 +7,7 @@ use Rattle.uc_syntax.specs.declared.expression.Expr.TheOpen.Expr-F.{If, Iff, Imp
 use Rattle.uc_syntax.specs.declared.expression.Expr.TheFolds.{fold-Expr, map-Expr}
 use Rattle.uc_syntax.specs.declared.expression.Primary.{Primary}
 use Rattle.uc_syntax.specs.declared.expression.Primary.TheVariants.{Name, Apply, OnBits, Old, Grouped}
+use Rattle.uc_syntax.specs.declared.expression.Branch.{Branch}
 use Rattle.uc_syntax.specs.declared.expression.Selection.{Selection}
 use Rattle.uc_syntax.specs.declared.expression.Selection.TheVariants.{Element, Update}
 use Rattle.uc_syntax.specs.declared.expression.SumSign.{SumSign}
@@ -109,9 +110,14 @@ selected_met system others (Old x) selections s = name_met system others (at_ent
 selected_met system others (Grouped e) selections s = e.met s ++ selections_met s selections
 selected_met system others literal selections s = selections_met s selections
 
--- what is met in an expression: of a conditional, the condition and the part that is taken
+-- what is met in a conditional: the conditions up to the first that holds, and the value that is taken
+abbrev pub chosen_met : List (Branch Traced) → Traced → Met
+chosen_met [] otherwise s = otherwise.met s
+chosen_met (b ∷ bs) otherwise s = b.condition.met s ++ (if holds (traced_value b.condition s) then b.value.met s else chosen_met bs otherwise s)
+
+-- what is met in an expression
 abbrev pub met_form : System → MetElsewhere → Expr-F Traced → Met
-met_form system others (If place c x y) s = c.met s ++ (if holds (traced_value c s) then x.met s else y.met s)
+met_form system others (If place branches otherwise) s = chosen_met branches otherwise s
 met_form system others (Iff place parts marks) s = all_met parts s
 met_form system others (Implies place parts marks) s = all_met parts s
 met_form system others (Or place parts marks) s = all_met parts s

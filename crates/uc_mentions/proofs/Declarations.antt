@@ -14,7 +14,7 @@ use Rattle.uc_syntax.specs.Mentions.{Mention, module_mentions}
 use Rattle.uc_grammar.specs.declared.word.Word.{Word}
 use Rattle.uc_grammar.specs.declared.word.Kind.{Kind}
 use Rattle.uc_grammar.specs.declared.word.Kind.TheVariants.{Name, OnBits, Range, Unroll, Induction, Verify, Check, PrintResults, PrintCex, KwHyperaxiom}
-use Rattle.uc_grammar.specs.Syntax.{words, Nested, Value, F, in_name, in_number, maybe_number, paths, control_braces, params, binds, hyper_number, module_braces, run, counterexample, Ending, command_of, led, named_command, command, clause, type_of, type_declaration, results_of, procedure, hyper_of, declaration, module_form, text}
+use Rattle.uc_grammar.specs.Syntax.{words, Nested, Value, F, in_name, in_number, maybe_number, paths, control_braces, params, results, binds, hyper_number, module_braces, run, counterexample, Ending, command_of, led, named_command, command, clause, type_of, type_declaration, results_of, procedure, hyper_of, declaration, module_form, text}
 use Rattle.uc_mentions.proofs.Yields.{Each, no_more, OnEither, OnSome, FilePasses, NamePasses, IdPasses, Yields, a_word, and_then, one_way, makes, any_number, joined, behind, in_front, once_or_not, ◌<or>◌, a_name_of, a_named_word, an_id, a_new_id, maybe_labelled}
 use Rattle.uc_mentions.proofs.Passing.{PlacePasses, TypePasses, ParameterPasses, ExprPasses, ClausePasses, ProcedurePasses, RunPasses, PathsPasses, CommandPasses, DeclPasses, ModulePasses, NestedPasses, no_mention, one_then, one_alone, id_then, id_alone, append, ids, maybe_id, maybe_paths, parameters, stmts, clauses, bindings, commands, decls}
 use Rattle.uc_mentions.proofs.Types.{type_passes}
@@ -92,7 +92,7 @@ module _ (test : Mention → Bool) (L : Language words Nested Value) (nested : (
 
   procedure_passes : Yields test L procedure (ProcedurePasses test)
   unfolding procedure
-  procedure_passes = makes (and_then a_new_id (and_then (nested params) (and_then (once_or_not (behind (nested params))) (and_then (any_number clause_passes) (statements_passes test L nested)))))
+  procedure_passes = makes (and_then a_new_id (and_then (nested params) (and_then (once_or_not (behind (nested results))) (and_then (any_number clause_passes) (statements_passes test L nested)))))
       (λ x h. id_then h.0 (append (parameters h.1.0) (append (parameters (results_passes test x.1.1.0 h.1.1.0)) (append (clauses h.1.1.1.0) (stmts h.1.1.1.1)))))
 
   pub declaration_passes : Yields test L declaration (DeclPasses test)

@@ -1,31 +1,32 @@
 -- An expression mentions only what its words mention.
-use Rattle.std.proofs.Common.{◌≡◌, Bool, List, [], ◌∷◌, map, Option, Some, None, ◌⊎◌, inl, inr}
+use Rattle.std.proofs.Common.{◌≡◌, Bool, List, [], ◌∷◌, ◌++◌, map, Option, Some, None, ◌⊎◌, inl, inr}
 use Rattle.uc_forms.specs.Form.{deep}
 use Rattle.uc_forms.specs.Spelling.{Language}
 use Rattle.uc_lexer.specs.declared.place.Place.{Place}
 use Rattle.uc_syntax.specs.declared.place.Identifier.{Identifier}
 use Rattle.uc_syntax.specs.declared.expression.Primary.{Primary}
 use Rattle.uc_syntax.specs.declared.expression.Primary.TheVariants.{Grouped}
+use Rattle.uc_syntax.specs.declared.expression.Branch.{Branch}
 use Rattle.uc_syntax.specs.declared.expression.Selection.{Selection}
 use Rattle.uc_syntax.specs.declared.expression.Selection.TheVariants.{Field, Copy}
 use Rattle.uc_syntax.specs.declared.expression.Expr.{Expr}
 use Rattle.uc_syntax.specs.declared.expression.Expr.TheViews as exprs_
-use Rattle.uc_syntax.specs.Mentions.{Mention, OfName, chain_by, primary_by, expr_mentions}
-use Rattle.uc_syntax.proofs.Mentions.{mentions_if, mentions_iff, mentions_implies, mentions_or, mentions_and, mentions_bit_or, mentions_bit_xor, mentions_bit_and, mentions_concat, mentions_product, mentions_sum, mentions_compare, mentions_selected}
+use Rattle.uc_syntax.specs.Mentions.{Mention, OfName, at_place, branches_by, chain_by, primary_by, expr_mentions}
+use Rattle.uc_syntax.proofs.Mentions.{mentions_iff, mentions_implies, mentions_or, mentions_and, mentions_bit_or, mentions_bit_xor, mentions_bit_and, mentions_concat, mentions_product, mentions_sum, mentions_compare, mentions_selected}
 use Rattle.uc_grammar.specs.declared.word.Word.{Word}
 use Rattle.uc_grammar.specs.declared.word.Kind.{Kind}
 use Rattle.uc_grammar.specs.declared.word.Kind.TheVariants.{OnBits}
 use Rattle.uc_grammar.specs.Code.{name_in, value_in}
-use Rattle.uc_grammar.specs.Syntax.{words, Nested, Value, F, Placed, arguments, in_name, parens, brackets, sign_operand, if_expression, Head, applied, named, primary, selection, selected_of, unary, chain_of, level, sum_sign, sum_of, comparison, compared_of, product, summed, concatenated, bit_and, bit_xor, bit_or, compared, conjunction, disjunction, implication, equivalence, expression, expr, Branch, branch, branches}
+use Rattle.uc_grammar.specs.Syntax.{words, Nested, Value, F, Placed, arguments, in_name, parens, brackets, sign_operand, if_expression, Head, applied, named, primary, selection, selected_of, unary, chain_of, level, sum_sign, sum_of, comparison, compared_of, product, summed, concatenated, bit_and, bit_xor, bit_or, compared, conjunction, disjunction, implication, equivalence, expression, expr, branch}
 use Rattle.uc_mentions.proofs.Yields.{Each, no_more, one_more, each_map, OnEither, OnSome, Passes, FilePasses, NamePasses, IdPasses, Yields, a_word, and_then, no_word, one_way, makes, any_number, in_front, once_or_not, ◌<or>◌, a_named_word, an_id}
-use Rattle.uc_mentions.proofs.Passing.{PlacePasses, ExprPasses, PlacedPasses, SelectionPasses, NestedPasses, PassAll, no_mention, one_then, one_alone, id_alone, append, same, places, exprs, selections}
+use Rattle.uc_mentions.proofs.Passing.{PlacePasses, ExprPasses, PlacedPasses, SelectionPasses, NestedPasses, PassAll, no_mention, one_then, one_alone, id_alone, append, same, of_each, places, exprs, selections}
 
 module _ (test : Mention → Bool) where
   abbrev pub HeadPasses : Head → Type 0
   HeadPasses x = PlacePasses test x.0 × OnEither (λ q. PassAll test (primary_by expr_mentions q)) (ExprPasses test) x.1
 
-  abbrev pub BranchPasses : Branch → Type 0
-  BranchPasses b = PlacePasses test b.0 × (ExprPasses test b.1.0 × ExprPasses test b.1.1)
+  abbrev pub BranchPasses : Branch Expr → Type 0
+  BranchPasses b = PlacePasses test b.place × (ExprPasses test b.condition × ExprPasses test b.value)
 
   applied_passes : (k : Kind) (es : List Expr) → Passes test (OfName (name_in k)) → Each (ExprPasses test) es → PassAll test (primary_by expr_mentions (applied k es))
   applied_passes (OnBits f n) es u h = exprs h
@@ -73,9 +74,8 @@ module _ (test : Mention → Bool) where
   comparison_passes p None h k = h
   comparison_passes p (Some y) h k = (h.0, same (mentions_compare p.0 (comparison y.0.kind) y.0.place p.1 y.1.1) (one_then h.0 (one_then k.0 (append h.1 k.1.1))))
 
-  pub branches_passes : (bs : List Branch) (e : Expr) → Each BranchPasses bs → ExprPasses test e → ExprPasses test (branches bs e)
-  branches_passes [] e no_more h = h
-  branches_passes (b ∷ bs) e (one_more q more) h = same (mentions_if b.0 b.1.0 b.1.1 (branches bs e)) (one_then q.0 (append q.1.0 (append q.1.1 (branches_passes bs e more h))))
+  pub branches_passes : {bs : List (Branch Expr)} → Each BranchPasses bs → PassAll test (branches_by expr_mentions bs)
+  branches_passes each = of_each (λ (b : Branch Expr). at_place b.place ++ (expr_mentions b.condition ++ expr_mentions b.value)) (λ b h. one_then h.0 (append h.1.0 h.1.1)) each
 
   level_passes : {L : Language words Nested Value} (node : Place → List Expr → List Place → Expr) → ((place : Place) (operands : List Expr) (marks : List Place) → expr_mentions (node place operands marks) ≡ chain_by expr_mentions place operands marks)
       → {sign : Kind} {f : F Placed} → Yields test L f (PlacedPasses test) → Yields test L (level node sign f) (PlacedPasses test)

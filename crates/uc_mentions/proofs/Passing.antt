@@ -22,7 +22,7 @@ use Rattle.uc_syntax.specs.declared.declaration.Decl.{Decl}
 use Rattle.uc_syntax.specs.declared.declaration.Module.{Module}
 use Rattle.uc_syntax.specs.Mentions.{Mention, OfFile, at_places, identifier_mentions, identifiers_mention, if_written, parameters_mention, type_mentions, selection_by, expr_mentions, part_mentions, target_mentions, bound_mentions, choice_by, stmt_mentions, clause_mentions, procedure_mentions, binding_mentions, run_mentions, command_mentions, decl_mentions, module_mentions, modules_mention}
 use Rattle.uc_syntax.proofs.Mentions.{all_append}
-use Rattle.uc_grammar.specs.Syntax.{Nested, Value, enum_braces, record_braces, array, arguments, in_name, parens, brackets, sign_operand, if_expression, target_index, block, typed_name, range_bounds, negative_bound, call_targets, in_number, maybe_number, paths, control_braces, params, binds, bind_value, hyper_number, module_braces}
+use Rattle.uc_grammar.specs.Syntax.{Nested, Value, enum_braces, record_braces, array, arguments, in_name, parens, brackets, sign_operand, if_expression, target_index, block, typed_name, range_bounds, negative_bound, call_targets, in_number, maybe_number, paths, control_braces, params, results, binds, bind_value, hyper_number, module_braces}
 use Rattle.uc_mentions.proofs.Yields.{Each, no_more, one_more, OnSome, Passes, IdPasses}
 
 -- all mentions pass the test
@@ -111,6 +111,7 @@ module _ (test : Mention → Bool) where
   NestedPasses paths = Each (Each (IdPasses test))
   NestedPasses control_braces = Each CommandPasses
   NestedPasses params = Each ParameterPasses
+  NestedPasses results = Each ParameterPasses
   NestedPasses binds = Each BindingPasses
   NestedPasses bind_value = ExprPasses
   NestedPasses hyper_number = λ n. Unit {0}

@@ -7,10 +7,10 @@ use Rattle.uc_forms.specs.Spelling.{Language, SpellAt}
 use Rattle.uc_syntax.specs.declared.expression.Selection.TheVariants.{Element, Update, Extract}
 use Rattle.uc_syntax.specs.declared.expression.Expr.{Expr}
 use Rattle.uc_syntax.specs.Mentions.{Mention}
-use Rattle.uc_syntax.proofs.Mentions.{mentions_array, mentions_unary}
+use Rattle.uc_syntax.proofs.Mentions.{mentions_array, mentions_if, mentions_unary}
 use Rattle.uc_grammar.specs.declared.word.Word.{Word}
 use Rattle.uc_grammar.specs.Code.{value_in}
-use Rattle.uc_grammar.specs.Syntax.{words, Nested, Value, rule, unary_operator, enum_braces, record_braces, array, arguments, in_name, parens, brackets, sign_operand, if_expression, target_index, block, typed_name, range_bounds, negative_bound, call_targets, in_number, maybe_number, paths, control_braces, params, binds, bind_value, hyper_number, module_braces}
+use Rattle.uc_grammar.specs.Syntax.{words, Nested, Value, rule, unary_operator, enum_braces, record_braces, array, arguments, in_name, parens, brackets, sign_operand, if_expression, target_index, block, typed_name, range_bounds, negative_bound, call_targets, in_number, maybe_number, paths, control_braces, params, results, binds, bind_value, hyper_number, module_braces}
 use Rattle.uc_words.specs.Mentions.{word_mentions, words_mention}
 use Rattle.uc_mentions.specs.Law.{MentionsAreOfWords}
 use Rattle.uc_mentions.proofs.Yields.{word_passes, one_more, OnEither, FilePasses, Yields, a_word, and_then, one_way, makes, looks_ahead, up_to, any_number, joined, behind, in_front, in_parens, an_id, a_new_id}
@@ -40,7 +40,7 @@ module _ (test : Mention → Bool) (L : Language words Nested Value) (nested : (
   rule_passes parens = makes (and_then a_word (in_front (expr_passes test L nested))) (λ x h. h)
   rule_passes brackets = makes (and_then a_word (looks_ahead a_word (in_front a_word) (and_then (expr_passes test L nested) (one_way a_word (behind (in_front (expr_passes test L nested))))))) (λ x h. bracket_passes test x.0 x.1 h.0 h.1)
   rule_passes sign_operand = makes (and_then a_word (unary_passes test L nested)) (λ x h. (h.0, same (mentions_unary x.0.place (unary_operator x.0.kind) x.1.1) (one_then h.0 h.1.1)))
-  rule_passes if_expression = makes (and_then (branch_passes test L nested) (and_then (any_number (branch_passes test L nested)) (equivalence_passes test L nested))) (λ x h. (h.0.0, branches_passes test (x.0 ∷ x.1.0) x.1.1.1 (one_more h.0 h.1.0) h.1.1.1))
+  rule_passes if_expression = makes (and_then (branch_passes test L nested) (and_then (any_number (branch_passes test L nested)) (equivalence_passes test L nested))) (λ x h. (h.0.0, same (mentions_if x.0.place (x.0 ∷ x.1.0) x.1.1.1) (one_then h.0.0 (append (branches_passes test (one_more h.0 h.1.0)) h.1.1.1))))
   rule_passes target_index = makes (and_then a_word (in_front (expr_passes test L nested))) (λ x h. one_then h.0 h.1)
   rule_passes block = makes (and_then a_word (up_to (statement_passes test L nested) a_word)) (λ x h. (h.0, h.1.0))
   rule_passes typed_name = behind (in_front (parameter_passes test L nested))
@@ -52,6 +52,7 @@ module _ (test : Mention → Bool) (L : Language words Nested Value) (nested : (
   rule_passes paths = in_parens (joined (joined an_id))
   rule_passes control_braces = makes (and_then a_word (up_to (command_passes test L nested) a_word)) (λ x h. h.1.0)
   rule_passes params = in_parens (joined (parameter_passes test L nested))
+  rule_passes results = behind (in_front (joined (parameter_passes test L nested)))
   rule_passes binds = in_parens (joined (makes {R = BindingPasses test} (and_then an_id (behind (nested bind_value))) (λ x h. id_then h.0 h.1)))
   rule_passes bind_value = behind (in_front (expr_passes test L nested))
   rule_passes hyper_number = makes (behind (in_front a_word)) (λ w h. tt)

@@ -5,7 +5,4 @@ mod bounds;
 mod command;
 mod paths;
 mod run;
-#[cfg(test)]
-mod tests;
-
 pub use command::control_braces;

@@ -1,5 +1,4 @@
 mod Chains
 mod Ranks
-mod Branches
 mod Compared
 mod InBrackets

@@ -5,8 +5,9 @@ use Rattle.uc_forms.specs.Form.{both, nothing, either, made, deep, word, many, a
 use Rattle.uc_grammar.specs.declared.word.Kind.TheVariants.{Arrow, Comma, Prime, RightBracket}
 use Rattle.uc_lexer.specs.declared.place.Place.{Place}
 use Rattle.uc_grammar.specs.declared.word.Word.{Word}
-use Rattle.uc_grammar.specs.Syntax.{F, Head, a_name, arguments, named, selection, expr, Branch, branch, Placed, primary, selected_of}
+use Rattle.uc_grammar.specs.Syntax.{F, Head, a_name, arguments, named, selection, expr, branch, Placed, primary, selected_of}
 use Rattle.uc_syntax.specs.declared.expression.Expr.{Expr}
+use Rattle.uc_syntax.specs.declared.expression.Branch.{Branch}
 use Rattle.uc_syntax.specs.declared.expression.Selection.{Selection}
 use Rattle.uc_syntax.specs.declared.expression.Selection.TheVariants as selection_kinds
 
@@ -25,7 +26,7 @@ selections = many selection
 abbrev pub more_expressions : F (List Expr)
 more_expressions = many (after Comma expr)
 
-abbrev pub more_branches : F (List Branch)
+abbrev pub more_branches : F (List (Branch Expr))
 more_branches = many branch
 
 -- the value that is put at an index

@@ -5,7 +5,6 @@
 #![tactic(auto)]
 
 mod chain;
-mod conditional;
 mod head;
 mod name_in_parens;
 mod parser;
@@ -13,6 +12,3 @@ mod signs;
 
 pub use name_in_parens::in_name;
 pub use parser::{arguments, expr, expression, expressions};
-
-#[cfg(test)]
-mod tests;

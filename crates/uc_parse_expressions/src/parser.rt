@@ -17,7 +17,6 @@ ghost use Rattle.uc_parse_expressions.specs.Signs.{minus, sum_codes};
 ghost use Rattle.uc_reader.specs.Reading.{state, form, nested};
 
 use crate::chain::Chain;
-use crate::conditional::{Branch, nested_branches};
 use crate::head::Head;
 use crate::name_in_parens::in_name;
 use crate::signs::{
@@ -28,7 +27,7 @@ use uc_forms::Stop;
 use uc_grammar::{Kind, Word};
 use uc_items::{Boxed, Items};
 use uc_reader::{Reader, name_of, value_of, width_of};
-use uc_syntax::{Expr, Place, Primary, Selection, SumSign};
+use uc_syntax::{Branch, Expr, Place, Primary, Selection, SumSign};
 
 const NUMBER: Kind = Kind::Number(0);
 
@@ -416,17 +415,22 @@ fn if_expression(reader: &mut Reader<'_>, levels: u8) -> Result<(Place, Expr), S
     if levels == 0 {
         return Err(reader.no_level(Kind::KwIf));
     }
-    let (place, first) = if_branch(reader, levels - 1)?;
+    let first = if_branch(reader, levels - 1)?;
+    let place = first.place;
     let mut branches = Items::new(reader.alloc);
-    branches.push((place, first))?;
+    branches.push(first)?;
     more_branches(reader, levels - 1, &mut branches)?;
     let (_, otherwise) = chain(reader, levels - 1, Chain::Iff)?;
-    let tree = nested_branches(reader.alloc, branches, otherwise)?;
-    Ok((place, tree))
+    let otherwise = Boxed::new(reader.alloc, otherwise)?;
+    Ok((place, Expr::If(place, branches, otherwise)))
 }
 
 #[cycle(expressions)]
-fn more_branches(reader: &mut Reader<'_>, levels: u8, found: &mut Items<Branch>) -> Result<(), Stop>
+fn more_branches(
+    reader: &mut Reader<'_>,
+    levels: u8,
+    found: &mut Items<Branch<Expr>>,
+) -> Result<(), Stop>
     ensures { Leaves found.new result (state reader.new) (with_front found.old (form levels parts.more_branches (state reader.old))) }
 {
     'turns: while reader.is_at(Kind::KwIf) {
@@ -438,7 +442,7 @@ fn more_branches(reader: &mut Reader<'_>, levels: u8, found: &mut Items<Branch>)
 
 #[cycle(expressions)]
 #[tactic(auto, unfolding(uc_grammar::specs::Syntax::branch))]
-fn if_branch(reader: &mut Reader<'_>, levels: u8) -> Result<Branch, Stop>
+fn if_branch(reader: &mut Reader<'_>, levels: u8) -> Result<Branch<Expr>, Stop>
     ensures { Counts result (state reader.new) (form levels syntax.branch (state reader.old)) }
 {
     let opening = reader.take(Kind::KwIf)?;
@@ -446,5 +450,9 @@ fn if_branch(reader: &mut Reader<'_>, levels: u8) -> Result<Branch, Stop>
     reader.take(Kind::KwThen)?;
     let value = expr(reader, levels)?;
     reader.take(Kind::KwElse)?;
-    Ok((opening.place, (condition, value)))
+    Ok(Branch {
+        place: opening.place,
+        condition,
+        value,
+    })
 }

@@ -10,6 +10,3 @@ mod simple;
 mod targets;
 
 pub use blocks::{block, statement, statements};
-
-#[cfg(test)]
-mod tests;

@@ -6,8 +6,5 @@ mod parameters;
 mod types;
 
 pub use names::{ids, new_ids};
-pub use parameters::{params, typed_name};
+pub use parameters::{params, results, typed_name};
 pub use types::{parameter, ty};
-
-#[cfg(test)]
-mod tests;

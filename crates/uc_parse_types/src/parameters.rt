@@ -1,7 +1,7 @@
 //! Parameters in parentheses.
 
 ghost use Rattle.uc_counted.specs.Gives.{Counts};
-ghost use Rattle.uc_grammar.specs.Syntax.{params, typed_name};
+ghost use Rattle.uc_grammar.specs.Syntax.{params, results, typed_name};
 ghost use Rattle.uc_reader.specs.Reading.{state, nested};
 
 use crate::types::{parameter, parameters};
@@ -23,6 +23,19 @@ pub fn params(reader: &mut Reader<'_>, levels: u8) -> Result<Items<Parameter<Typ
         reader.take(Kind::RightParen)?;
         return Ok(Items::new(reader.alloc));
     }
+    let found = parameters(reader, levels - 1)?;
+    reader.take(Kind::RightParen)?;
+    Ok(found)
+}
+
+/// Parentheses with one parameter or more: what a procedure gives back.
+pub fn results(reader: &mut Reader<'_>, levels: u8) -> Result<Items<Parameter<TypeExpr>>, Stop>
+    ensures { Counts result (state reader.new) (nested levels results (state reader.old)) }
+{
+    if levels == 0 {
+        return Err(reader.no_level(Kind::LeftParen));
+    }
+    reader.take(Kind::LeftParen)?;
     let found = parameters(reader, levels - 1)?;
     reader.take(Kind::RightParen)?;
     Ok(found)

@@ -6,7 +6,7 @@ use Rattle.uc_grammar.specs.Code.{code_of}
 use Rattle.uc_grammar.specs.declared.word.Kind.{Kind}
 use Rattle.uc_grammar.specs.declared.word.Word.{Word}
 use Rattle.uc_grammar.specs.declared.word.Kind.TheVariants.{Colon, Semicolon, Assign, Dot, Star, KwVar, KwInput, KwOutput, KwConst, KwFunction, KwDefine, KwProcedure, KwReturns, KwRequires, KwEnsures, KwModifies, KwInstance, KwInit, KwNext, KwInvariant, KwAxiom, KwHyperinvariant, KwHyperaxiom, KwControl}
-use Rattle.uc_grammar.specs.Syntax.{F, id, new_id, listed, optional, ty, expr, statements, labelled, params, binds, bind_value, hyper_number, control_braces, procedure, variable_kind, hyper_of}
+use Rattle.uc_grammar.specs.Syntax.{F, id, new_id, listed, optional, ty, expr, statements, labelled, params, results, binds, bind_value, hyper_number, control_braces, procedure, variable_kind, hyper_of}
 use Rattle.uc_lexer.specs.declared.place.Place.{Place}
 use Rattle.uc_syntax.specs.declared.place.Identifier.{Identifier}
 use Rattle.uc_syntax.specs.declared.type_expression.Parameter.{Parameter}
@@ -20,7 +20,7 @@ abbrev pub clause_codes : List ℕ
 clause_codes = code_of KwRequires ∷ code_of KwEnsures ∷ code_of KwModifies ∷ []
 
 abbrev pub returned : F (Option (List (Parameter TypeExpr)))
-returned = optional (after KwReturns (deep params))
+returned = optional (after KwReturns (deep results))
 
 -- a type of the module's own, behind the keyword
 abbrev pub own_type : F (Identifier × (Word ⊎ TypeExpr))

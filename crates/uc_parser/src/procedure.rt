@@ -11,17 +11,17 @@ use uc_forms::Stop;
 use uc_grammar::Kind;
 use uc_items::Items;
 use uc_parse_statements::statements;
-use uc_parse_types::params;
+use uc_parse_types::{params, results};
 use uc_reader::Reader;
 use uc_syntax::{Parameter, Procedure, TypeExpr};
 
 /// The results of a procedure, where it says that it has some.
-fn results(reader: &mut Reader<'_>, levels: u8) -> Result<Items<Parameter<TypeExpr>>, Stop>
+fn returned(reader: &mut Reader<'_>, levels: u8) -> Result<Items<Parameter<TypeExpr>>, Stop>
     ensures { Counts result (state reader.new) (turned results_of (form levels returned (state reader.old))) }
 {
     if reader.is_at(Kind::KwReturns) {
         reader.take(Kind::KwReturns)?;
-        return params(reader, levels);
+        return results(reader, levels);
     }
     Ok(Items::new(reader.alloc))
 }
@@ -33,7 +33,7 @@ pub(crate) fn procedure(reader: &mut Reader<'_>, levels: u8) -> Result<Procedure
 {
     let identifier = reader.new_id()?;
     let parameters = params(reader, levels)?;
-    let results = results(reader, levels)?;
+    let results = returned(reader, levels)?;
     let clauses = clauses(reader, levels)?;
     let body = statements(reader, levels)?;
     Ok(Procedure {

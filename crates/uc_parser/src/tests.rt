@@ -41,7 +41,7 @@ fn parsed(alloc: Global, text: &[u8]) -> Answer {
 }
 
 /// For each production a text that is read, and one that is refused.
-const ROWS: [(&[u8], Answer); 60] = [
+const ROWS: [(&[u8], Answer); 61] = [
     (b"", Read(0, 0)),
     (b"module m { } // none\n", Read(1, 0)),
     (b"module m { }\nmodule n { }", Read(2, 0)),
@@ -84,6 +84,7 @@ const ROWS: [(&[u8], Answer); 60] = [
         Syntax(1, 37),
     ),
     (b"module m { procedure p() returns { } }", Syntax(1, 34)),
+    (b"module m { procedure p() returns () { } }", Syntax(1, 35)),
     (
         b"module m { instance i : n(a : (b), c : (d + 1)); instance j : n(); }",
         Read(1, 2),
@@ -198,12 +199,19 @@ fn repeated(
 }
 
 /// A part that stands so many times between a front and a back, and the answer.
-const LONG_ROWS: [(&[u8], &[u8], u32, &[u8], Answer); 8] = [
+const LONG_ROWS: [(&[u8], &[u8], u32, &[u8], Answer); 9] = [
     (
         b"module m { axiom true",
         b" && true",
         99_999,
         b"; }",
+        Read(1, 1),
+    ),
+    (
+        b"module m { axiom ",
+        b"if a then b else ",
+        100_000,
+        b"c; }",
         Read(1, 1),
     ),
     (b"module m { axiom ", b"(", 198, b"a", Syntax(1, 217)),

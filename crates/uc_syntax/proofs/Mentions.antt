@@ -17,6 +17,7 @@ use Rattle.uc_syntax.specs.declared.expression.UnaryOperator.{UnaryOperator}
 use Rattle.uc_syntax.specs.declared.expression.SumSign.{SumSign}
 use Rattle.uc_syntax.specs.declared.expression.Primary.{Primary}
 use Rattle.uc_syntax.specs.declared.expression.Primary.TheVariants.{Truth, Number, BitsLiteral, Name, Apply, OnBits, Old, Grouped}
+use Rattle.uc_syntax.specs.declared.expression.Branch.{Branch}
 use Rattle.uc_syntax.specs.declared.expression.Selection.{Selection}
 use Rattle.uc_syntax.specs.declared.expression.Selection.TheVariants.{Field, Copy, Element, Update, Extract}
 use Rattle.uc_syntax.specs.declared.expression.Expr.{Expr}
@@ -32,7 +33,7 @@ use Rattle.uc_syntax.specs.declared.statement.Stmt.TheOpen.Stmt-F.{Local as Loca
 use Rattle.uc_syntax.specs.declared.statement.Stmt.TheViews.{roll-Stmt, Block, If as Choice, Case as Cases, For}
 use Rattle.uc_syntax.specs.declared.statement.Stmt.TheVariants.{Local, Skip, Assert, Assume, Havoc, Assign, Call, Next}
 use Rattle.uc_syntax.specs.declared.statement.Stmt.TheFolds.{fold-roll-Stmt}
-use Rattle.uc_syntax.specs.Mentions.{Mention, OfName, OfFile, at_place, at_places, identifier_mentions, identifiers_mention, if_written, parameters_by, parameters_mention, type_form, type_mentions, primary_by, selection_by, chain_by, expr_form, expr_mentions, target_mentions, bound_mentions, arms_by, choice_by, stmt_form, stmt_mentions, name_below, file_below, NamesBelow, FilesBelow}
+use Rattle.uc_syntax.specs.Mentions.{Mention, OfName, OfFile, at_place, at_places, identifier_mentions, identifiers_mention, if_written, parameters_by, parameters_mention, type_form, type_mentions, primary_by, selection_by, chain_by, branches_by, expr_form, expr_mentions, target_mentions, bound_mentions, arms_by, choice_by, stmt_form, stmt_mentions, name_below, file_below, NamesBelow, FilesBelow}
 use Rattle.uc_syntax.proofs.Labels.{flat_map_map}
 
 -- Types.
@@ -75,9 +76,17 @@ chain_same : (place : Place) (operands : List Expr) (marks : List Place) →
     chain_by (λ ms. ms) place (map expr_mentions operands) marks ≡ chain_by expr_mentions place operands marks
 chain_same place operands marks = ap (λ ms. at_place place ++ (ms ++ at_places marks)) (flat_map_map (λ ms. ms) expr_mentions operands)
 
-pub mentions_if : (place : Place) (c : Expr) (x : Expr) (y : Expr) → expr_mentions (If place c x y) ≡ at_place place ++ (expr_mentions c ++ (expr_mentions x ++ expr_mentions y))
-unfolding expr_mentions roll-Expr denote.Hole.Carrier.roll
-mentions_if place c x y = fold-roll-Expr (List Mention) expr_form (IfForm place c x y)
+through_branch : Branch Expr → Branch (List Mention)
+through_branch b = record { place = b.place; condition = expr_mentions b.condition; value = expr_mentions b.value }
+
+branches_same : (bs : List (Branch Expr)) → branches_by (λ ms. ms) (map through_branch bs) ≡ branches_by expr_mentions bs
+unfolding through_branch
+branches_same [] = refl
+branches_same (b ∷ more) = ap (λ ms. (at_place b.place ++ (expr_mentions b.condition ++ expr_mentions b.value)) ++ ms) (branches_same more)
+
+pub mentions_if : (place : Place) (bs : List (Branch Expr)) (y : Expr) → expr_mentions (If place bs y) ≡ at_place place ++ (branches_by expr_mentions bs ++ expr_mentions y)
+unfolding expr_mentions roll-Expr denote.Hole.Carrier.roll through_branch
+mentions_if place bs y = fold-roll-Expr (List Mention) expr_form (IfForm place bs y) ∙ ap (λ ms. at_place place ++ (ms ++ expr_mentions y)) (branches_same bs)
 
 pub mentions_iff : (place : Place) (operands : List Expr) (marks : List Place) → expr_mentions (Iff place operands marks) ≡ chain_by expr_mentions place operands marks
 unfolding expr_mentions roll-Expr denote.Hole.Carrier.roll

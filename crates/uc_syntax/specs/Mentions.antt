@@ -9,6 +9,7 @@ use Rattle.uc_syntax.specs.declared.type_expression.TypeExpr.TheOpen.{TypeExpr-F
 use Rattle.uc_syntax.specs.declared.type_expression.TypeExpr.TheOpen.TypeExpr-F.{Boolean, Integer, Bits, Enumeration, Record, Array, Named, OfModule}
 use Rattle.uc_syntax.specs.declared.type_expression.TypeExpr.TheFolds.{fold-TypeExpr}
 use Rattle.uc_syntax.specs.declared.expression.SumSign.{SumSign}
+use Rattle.uc_syntax.specs.declared.expression.Branch.{Branch}
 use Rattle.uc_syntax.specs.declared.expression.Selection.{Selection}
 use Rattle.uc_syntax.specs.declared.expression.Selection.TheVariants.{Field, Copy, Element, Update, Extract}
 use Rattle.uc_syntax.specs.declared.expression.Primary.{Primary}
@@ -103,8 +104,11 @@ selection_by f (Extract place high low) = at_place place
 abbrev pub chain_by : {E : Type 0} → (E → List Mention) → Place → List E → List Place → List Mention
 chain_by f place operands marks = at_place place ++ (flat_map f operands ++ at_places marks)
 
+abbrev pub branches_by : {E : Type 0} → (E → List Mention) → List (Branch E) → List Mention
+branches_by f bs = flat_map (λ b. at_place b.place ++ (f b.condition ++ f b.value)) bs
+
 abbrev pub expr_form : Expr-F (List Mention) → List Mention
-expr_form (If place c x y) = at_place place ++ (c ++ (x ++ y))
+expr_form (If place bs y) = at_place place ++ (branches_by (λ ms. ms) bs ++ y)
 expr_form (Iff place operands marks) = chain_by (λ ms. ms) place operands marks
 expr_form (Implies place operands marks) = chain_by (λ ms. ms) place operands marks
 expr_form (Or place operands marks) = chain_by (λ ms. ms) place operands marks

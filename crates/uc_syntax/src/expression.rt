@@ -85,10 +85,19 @@ pub enum Primary<E> {
     Grouped(Boxed<E>),
 }
 
+/// An arm of a conditional: the place of its `if`, its condition and its value. `E` is the type of an expression.
+#[derive(Drop)]
+pub struct Branch<E> {
+    pub place: Place,
+    pub condition: E,
+    pub value: E,
+}
+
 /// A chain of one level is one node. It has its operands, and the places of the operators between them.
 #[derive(Drop)]
 pub enum Expr {
-    If(Place, Boxed<Expr>, Boxed<Expr>, Boxed<Expr>),
+    /// The arms of a chain of `else if`, and what stands behind the last `else`.
+    If(Place, Items<Branch<Expr>>, Boxed<Expr>),
     Iff(Place, Items<Expr>, Items<Place>),
     Implies(Place, Items<Expr>, Items<Place>),
     Or(Place, Items<Expr>, Items<Place>),
@@ -112,11 +121,10 @@ impl Expr {
         ensures { IfOk result (λ e. e ≡ self.now) }
     {
         match self {
-            Expr::If(place, condition, yes, no) => {
-                let condition = copy_boxed(alloc, condition)?;
-                let yes = copy_boxed(alloc, yes)?;
-                let no = copy_boxed(alloc, no)?;
-                Ok(Expr::If(*place, condition, yes, no))
+            Expr::If(place, branches, otherwise) => {
+                let branches = copy_branches(alloc, branches.as_slice())?;
+                let otherwise = copy_boxed(alloc, otherwise)?;
+                Ok(Expr::If(*place, branches, otherwise))
             }
             Expr::Iff(place, operands, marks) => {
                 let operands = copy_expressions(alloc, operands.as_slice())?;
@@ -213,6 +221,26 @@ pub fn copy_expressions(alloc: Global, expressions: &[Expr]) -> Result<Items<Exp
     for expression in expressions {
         let expression = expression.copy(alloc)?;
         copies.push(expression)?;
+    }
+    Ok(copies)
+}
+
+#[cycle(copy_expressions)]
+fn copy_branches(
+    alloc: Global,
+    branches: &[Branch<Expr>],
+) -> Result<Items<Branch<Expr>>, AllocError>
+    ensures { IfOk result (λ bs. bs ≡ branches.now) }
+{
+    let mut copies = Items::new(alloc);
+    for branch in branches {
+        let condition = branch.condition.copy(alloc)?;
+        let value = branch.value.copy(alloc)?;
+        copies.push(Branch {
+            place: branch.place,
+            condition,
+            value,
+        })?;
     }
     Ok(copies)
 }

@@ -18,7 +18,8 @@ pub use declaration::{
 };
 pub use design::Design;
 pub use expression::{
-    BitFunction, Comparison, Expr, Primary, Selection, SumSign, UnaryOperator, copy_expressions,
+    BitFunction, Branch, Comparison, Expr, Primary, Selection, SumSign, UnaryOperator,
+    copy_expressions,
 };
 pub use names::Names;
 pub use place::{Identifier, Place};

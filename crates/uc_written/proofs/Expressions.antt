@@ -7,9 +7,9 @@ use Rattle.uc_syntax.specs.declared.expression.Primary.TheVariants as primaries
 use Rattle.uc_syntax.specs.declared.expression.Expr.TheViews as expressions
 use Rattle.uc_grammar.specs.declared.word.Kind.TheVariants.{Number, RightBracket}
 use Rattle.uc_grammar.specs.Code.{name_in}
-use Rattle.uc_grammar.specs.Syntax.{words, Nested, Value, head, has, primary, selection, brackets, if_expression, rule, branch, branches, equivalence}
+use Rattle.uc_grammar.specs.Syntax.{words, Nested, Value, head, has, primary, selection, brackets, if_expression, rule, branch, equivalence}
 use Rattle.uc_written.specs.Same.{counted, SpellTheSame}
-use Rattle.uc_written.specs.Written.{written_primary, written_selection, written_brackets, written_if}
+use Rattle.uc_written.specs.Written.{written_primary, written_selection, written_brackets, Arms, arms, written_arms, node_of, written_if}
 use Rattle.uc_written.proofs.Regroup.{Into, moved, moved_words, many_more}
 use Rattle.uc_written.proofs.Spelled.{Like, both_ways, both_like, code_is, is_code}
 
@@ -67,27 +67,35 @@ module _ (L : Language words Nested Value) (inner : Standing words Nested Value 
   of_brackets ws a ((l, inr (x, inl r)), e, (front, back, i, k, s)) = ((inl a, refl, ((l, x), e, (front, back, i, k, ((x, r), refl, s)))), (refl, refl))
   of_brackets ws a ((l, inr (x, inr y)), e, s) = ((inr a, refl, (inl a, refl, ((l, (x, y)), e, s))), (refl, refl))
 
-  to_if : Into L inner (written_if (rule if_expression)) (rule if_expression)
-  unfolding written_if
-  to_if ws a ((b, p), e, (front, back, i, sb, (inl y, q, (x, d, (f1, b1, i1, s1, (f2, b2, i2, sm, se)))))) =
+  to_arms : Into L inner (written_arms arms) arms
+  unfolding written_arms arms
+  to_arms ws a ((b, p), e, (front, back, i, sb, (inl y, q, (x, d, (f1, b1, i1, s1, (f2, b2, i2, sm, se)))))) =
       let t = many_more L inner branch (f1 ++ f2) f1 f2 x.0 x.1.0 refl s1 sm in (
-        ((b, (x.0 ∷ x.1.0, x.1.1)), e ∙ ap (λ z. (b.0, expressions.If b.0 b.1.0 b.1.1 z.1)) (q ∙ d), (front, back, i, sb, (f1 ++ f2, b2, i1 ∙ (ap (λ us. f1 ++ us) i2 ∙ sym (append_assoc f1 f2 b2)), t.0, se))),
+        ((b, (x.0 ∷ x.1.0, x.1.1)), e ∙ ap (λ z. (b ∷ z.0, z.1)) (q ∙ d), (front, back, i, sb, (f1 ++ f2, b2, i1 ∙ (ap (λ us. f1 ++ us) i2 ∙ sym (append_assoc f1 f2 b2)), t.0, se))),
         ap (λ zs. stands_with L inner branch front b sb ++ zs) (sym (append_assoc (stands_with L inner branch f1 x.0 s1) (stands_with L inner (many branch) f2 x.1.0 sm) (stands_with L inner equivalence b2 x.1.1 se)) ∙ ap (λ zs. zs ++ stands_with L inner equivalence b2 x.1.1 se) t.1),
       )
-  to_if ws a ((b, p), e, (front, back, i, sb, (inr y, q, s))) = (((b, ([], y)), e ∙ ap (λ z. (b.0, expressions.If b.0 b.1.0 b.1.1 z.1)) q, (front, back, i, sb, ([], back, refl, (([], None), refl, refl), s))), refl)
+  to_arms ws a ((b, p), e, (front, back, i, sb, (inr y, q, (x, d, s)))) = (((b, ([], x)), e ∙ ap (λ z. (b ∷ z.0, z.1)) (q ∙ d), (front, back, i, sb, ([], back, refl, (([], None), refl, refl), s))), refl)
 
-  of_if : Into L inner (rule if_expression) (written_if (rule if_expression))
-  unfolding written_if
-  of_if ws a ((b, (bs, y)), e, (front, back, i, sb, (f1, b1, i1, (([], None), ez, c), se))) =
+  of_arms : Into L inner arms (written_arms arms)
+  unfolding written_arms arms
+  of_arms ws a ((b, (bs, y)), e, (front, back, i, sb, (f1, b1, i1, (([], None), ez, c), se))) =
       let t = moved_words L inner equivalence b1 back y (sym (i1 ∙ ap (λ us. us ++ b1) c)) se in
-      (((b, y), e ∙ ap (λ zs. (b.0, branches (b ∷ zs) y.1)) ez, (front, back, i, sb, (inr y, refl, t.0))), ap (λ zs. stands_with L inner branch front b sb ++ zs) t.1)
-  of_if ws a ((b, (bs, y)), e, (front, back, i, sb, (f1, b1, i1, (([], Some z), ez, c), se))) = absurd z
-  of_if ws a ((b, (bs, y)), e, (front, back, i, sb, (f1, b1, i1, ((b' ∷ bs', o), ez, (f2, b2, i2, (b'', eb, s2), c)), se))) =
+      (((b, ([], y)), e ∙ ap (λ zs. (b ∷ zs, y)) ez, (front, back, i, sb, (inr ([], y), refl, (y, refl, t.0)))), ap (λ zs. stands_with L inner branch front b sb ++ zs) t.1)
+  of_arms ws a ((b, (bs, y)), e, (front, back, i, sb, (f1, b1, i1, (([], Some z), ez, c), se))) = absurd z
+  of_arms ws a ((b, (bs, y)), e, (front, back, i, sb, (f1, b1, i1, ((b' ∷ bs', o), ez, (f2, b2, i2, (b'', eb, s2), c)), se))) =
       let t = moved L inner branch f2 b'' b' (ap (elim [ inl z ↦ z | inr z ↦ absurd z ]) (sym eb)) s2 in
       let r : SpellWith L (many branch) b2 bs' = ((bs', o), refl, c) in (
-        ((b, (b'.0, branches (b' ∷ bs') y.1)), e ∙ ap (λ zs. (b.0, branches (b ∷ zs) y.1)) ez, (front, back, i, sb, (inl (b'.0, branches (b' ∷ bs') y.1), refl, ((b', (bs', y)), refl, (f2, b2 ++ b1, i1 ∙ (ap (λ us. us ++ b1) i2 ∙ append_assoc f2 b2 b1), t.0, (b2, b1, refl, r, se)))))),
+        ((b, (b' ∷ bs', y)), e ∙ ap (λ zs. (b ∷ zs, y)) ez, (front, back, i, sb, (inl (b' ∷ bs', y), refl, ((b', (bs', y)), refl, (f2, b2 ++ b1, i1 ∙ (ap (λ us. us ++ b1) i2 ∙ append_assoc f2 b2 b1), t.0, (b2, b1, refl, r, se)))))),
         ap (λ zs. stands_with L inner branch front b sb ++ zs) (append_assoc (stands_with L inner branch f2 b'' s2) (stands_with L inner (many branch) b2 bs' r) (stands_with L inner equivalence b1 y se) ∙ ap (λ zs. zs ++ (stands_with L inner (many branch) b2 bs' r ++ stands_with L inner equivalence b1 y se)) t.1),
       )
+
+  to_if : Into L inner written_if (rule if_expression)
+  unfolding written_if arms
+  to_if ws a (x, e, ((b, (bs, y)), d, s)) = (((b, (bs, y)), e ∙ ap node_of d, s), refl)
+
+  of_if : Into L inner (rule if_expression) written_if
+  unfolding written_if arms
+  of_if ws a ((b, (bs, y)), e, s) = (((b ∷ bs, y), e, ((b, (bs, y)), refl, s)), refl)
 
 pub same_primary : SpellTheSame written_primary primary
 same_primary = both_ways written_primary primary to_primary of_primary
@@ -98,5 +106,8 @@ same_selection = both_ways written_selection selection to_selection of_selection
 pub same_brackets : SpellTheSame written_brackets (rule brackets)
 same_brackets = both_like written_brackets (rule brackets) to_brackets of_brackets
 
-pub same_if : SpellTheSame (written_if (rule if_expression)) (rule if_expression)
-same_if = both_ways (written_if (rule if_expression)) (rule if_expression) to_if of_if
+pub same_arms : SpellTheSame (written_arms arms) arms
+same_arms = both_ways (written_arms arms) arms to_arms of_arms
+
+pub same_if : SpellTheSame written_if (rule if_expression)
+same_if = both_ways written_if (rule if_expression) to_if of_if

@@ -9,6 +9,7 @@ use Rattle.uc_syntax.specs.declared.type_expression.Parameter.{Parameter}
 use Rattle.uc_syntax.specs.declared.type_expression.TypeExpr.{TypeExpr}
 use Rattle.uc_syntax.specs.declared.type_expression.TypeExpr.TheVariants as types
 use Rattle.uc_syntax.specs.declared.type_expression.TypeExpr.TheViews as type_views
+use Rattle.uc_syntax.specs.declared.expression.Branch.{Branch}
 use Rattle.uc_syntax.specs.declared.expression.Selection.{Selection}
 use Rattle.uc_syntax.specs.declared.expression.Selection.TheVariants as selections
 use Rattle.uc_syntax.specs.declared.expression.Primary.TheVariants as primaries
@@ -62,9 +63,26 @@ written_brackets = made (λ x. selections.Element x.0.place x.1) (both (word Lef
     <|> made (λ x. selections.Update x.0.place x.1.0 x.1.1) (both (word LeftBracket) (both expr (after Arrow (before expr RightBracket))))
     <|> made (λ x. selections.Extract x.0.place (value_in x.1.0.kind) (value_in x.1.1.kind)) (both (word LeftBracket) (both (word (Number 0)) (after Colon (before (word (Number 0)) RightBracket))))
 
--- "if" Expr "then" Expr "else" Expr, where an `if` that stands behind `else` lies no deeper than the first: ifs is what spells it
-unfoldable pub written_if : F Placed → F Placed
-written_if ifs = made (λ x. (x.0.0, expressions.If x.0.0 x.0.1.0 x.0.1.1 x.1.1)) (both branch (ifs <|> equivalence))
+-- the arms of a chain of `if`, and what stands behind the last `else`
+abbrev pub Arms : Type 0
+Arms = List (Branch Expr) × Placed
+
+-- the arms of an `if` expression as the grammar spells them
+unfoldable pub arms : F Arms
+arms = made (λ x. (x.0 ∷ x.1.0, x.1.1)) (both branch (both (many branch) equivalence))
+
+-- "if" Expr "then" Expr "else" Expr, where an `if` that stands behind `else` goes on with the arms of the first, no deeper than it: ifs
+-- is what spells it
+unfoldable pub written_arms : F Arms → F Arms
+written_arms ifs = made (λ x. (x.0 ∷ x.1.0, x.1.1)) (both branch (ifs <|> made (λ e. ([], e)) equivalence))
+
+-- an `if` expression, with all its arms in one node
+abbrev pub node_of : Arms → Placed
+node_of ([], e) = e
+node_of (b ∷ bs, e) = (b.place, expressions.If b.place (b ∷ bs) e.1)
+
+unfoldable pub written_if : F Placed
+written_if = made node_of arms
 
 -- none where it is not there
 abbrev pub or_none : {A : Type 0} → Option (List A) → List A

@@ -28,7 +28,7 @@
 #![tactic(auto)]
 
 ghost use Rattle.uc_written.specs.Same.{SpellTheSame};
-ghost use Rattle.uc_written.specs.Written.{written_arguments, written_binds, written_block, written_brackets, written_call_targets, written_case_statement, written_command, written_control_braces, written_declaration, written_if, written_if_statement, written_maybe_number, written_module_braces, written_params, written_paths, written_primary, written_selection, written_statement, written_ty, written_type_declaration};
+ghost use Rattle.uc_written.specs.Written.{arms, written_arguments, written_arms, written_binds, written_block, written_brackets, written_call_targets, written_case_statement, written_command, written_control_braces, written_declaration, written_if, written_if_statement, written_maybe_number, written_module_braces, written_params, written_paths, written_primary, written_selection, written_statement, written_ty, written_type_declaration};
 ghost use Rattle.uc_grammar.specs.Syntax.{arguments, binds, block, brackets, call_targets, case_statement, command, control_braces, declaration, if_expression, if_statement, maybe_number, module_braces, params, paths, primary, rule, selection, statement, ty, type_declaration};
 
 /// Types.
@@ -56,10 +56,12 @@ pub fn selections_are_as_written()
     ensures brackets { SpellTheSame written_brackets (rule brackets) }
 {}
 
-/// `if` expressions: behind `else` stands an `if` of the same depth, or what is no `if`.
-#[tactic(auto, using(crate::proofs::Expressions::same_if))]
+/// `if` expressions: behind `else` stands an `if` of the same depth, whose arms go on with those before it, or what is no `if`. All
+/// arms are of one node.
+#[tactic(auto, using(crate::proofs::Expressions::same_arms, crate::proofs::Expressions::same_if))]
 pub fn if_expressions_are_as_written()
-    ensures { SpellTheSame (written_if (rule if_expression)) (rule if_expression) }
+    ensures arms { SpellTheSame (written_arms arms) arms }
+    ensures node { SpellTheSame written_if (rule if_expression) }
 {}
 
 /// Lists in parentheses, where maybe nothing stands between these.
