@@ -6,3 +6,6 @@ invariant-copy_expressions-loop-expression l = l.copies ≡ take l.expression-in
 
 abbrev pub invariant-copy_selections-loop-selection : goal.invariant-copy_selections-loop-selection
 invariant-copy_selections-loop-selection l = l.copies ≡ take l.selection-index l.selections
+
+abbrev pub invariant-copy_branches-loop-branch : goal.invariant-copy_branches-loop-branch
+invariant-copy_branches-loop-branch l = l.copies ≡ take l.branch-index l.branches
