@@ -40,7 +40,7 @@ module _ (test : Mention → Bool) (L : Language words Nested Value) (nested : (
   rule_passes parens = makes (and_then a_word (in_front (expr_passes test L nested))) (λ x h. h)
   rule_passes brackets = makes (and_then a_word (looks_ahead a_word (in_front a_word) (and_then (expr_passes test L nested) (one_way a_word (behind (in_front (expr_passes test L nested))))))) (λ x h. bracket_passes test x.0 x.1 h.0 h.1)
   rule_passes sign_operand = makes (and_then a_word (unary_passes test L nested)) (λ x h. (h.0, same (mentions_unary x.0.place (unary_operator x.0.kind) x.1.1) (one_then h.0 h.1.1)))
-  rule_passes if_expression = makes (and_then (branch_passes test L nested) (and_then (any_number (branch_passes test L nested)) (equivalence_passes test L nested))) (λ x h. (h.0.0, same (mentions_if x.0.place (x.0 ∷ x.1.0) x.1.1.1) (one_then h.0.0 (append (branches_passes test (one_more h.0 h.1.0)) h.1.1.1))))
+  rule_passes if_expression = makes (and_then (branch_passes test L nested) (and_then (any_number (branch_passes test L nested)) (equivalence_passes test L nested))) (λ x h. (h.0.0, same (mentions_if x.0.place (x.0 ∷ x.1.0) x.1.1.1) (one_then h.0.0 (append (branches_passes test (one_more {x = x.0} h.0 h.1.0)) h.1.1.1))))
   rule_passes target_index = makes (and_then a_word (in_front (expr_passes test L nested))) (λ x h. one_then h.0 h.1)
   rule_passes block = makes (and_then a_word (up_to (statement_passes test L nested) a_word)) (λ x h. (h.0, h.1.0))
   rule_passes typed_name = behind (in_front (parameter_passes test L nested))

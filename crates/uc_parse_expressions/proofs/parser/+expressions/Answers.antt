@@ -109,8 +109,8 @@ comparison-returns t c =
 pub if_expression-returns-then-levels-eq0 : goal.if_expression-returns-then-levels-eq0
 if_expression-returns-then-levels-eq0 t c = rw c.no_level.ensures (none_left c.args.levels syntax.if_expression (state c.args.reader.now) c.if-levels-eq0.true)
 
-pub if_expression-returns-in_err-place : goal.if_expression-returns-in_err-place
-if_expression-returns-in_err-place t c = rw (one_deeper c.args.levels syntax.if_expression (state c.args.reader.now) (omega arith)) (search rules)
+pub if_expression-returns-in_err-first : goal.if_expression-returns-in_err-first
+if_expression-returns-in_err-first t c = rw (one_deeper c.args.levels syntax.if_expression (state c.args.reader.now) (omega arith)) (search rules)
 
 pub if_expression-returns-in_err-more_branches : goal.if_expression-returns-in_err-more_branches
 if_expression-returns-in_err-more_branches t c = rw (one_deeper c.args.levels syntax.if_expression (state c.args.reader.now) (omega arith)) (search rules)
