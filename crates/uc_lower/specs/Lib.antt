@@ -1,0 +1,6 @@
+pub mod Fields
+pub mod Ranges
+pub mod Made
+pub mod Steps
+pub mod Symbols
+pub mod Lowering
