@@ -9,3 +9,6 @@ pub mod Standing
 pub mod Models
 pub mod Walking
 pub mod Symboling
+pub mod Marking
+pub mod Stepping
+pub mod Ending

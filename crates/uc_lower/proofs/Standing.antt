@@ -218,3 +218,11 @@ width_valid k w h g = Bv-valid w (omega (arith, h, (label_bits-least k).some)) (
 
 pub leaves_all_valid : (ty : Ty) → HasBits ty → Valid ty → AllValid (leaves ty)
 leaves_all_valid ty h v = subst AllValid (append-nil (leaves ty)) (leaves_valid (ty ∷ []) (one_finite ty h) (All-cons Valid ty [] v (All-nil Valid)))
+
+pub symbols_step : (old now one new : List Node) (first next following : ℕ) (leaves : List Ty) (i : ℕ) (leaf : Ty) (us all before mid after : List ℕ) (u : ℕ) → WellTyped old → IsBitsType leaf
+    → AreSymbols old now first next (take i leaves) us before mid → IsMade now one u (Symbol next (low_type leaf)) [] → HasRange one new leaf u mid after → following ≡ next + 1
+    → leaf ≡ get_or leaves i leaf → i < length leaves → all ≡ us ++ u ∷ [] → AreSymbols old new first following (take (i + 1) leaves) all before after
+symbols_step old now one new first next following leaves i leaf us all before mid after u wt y a m r e h l g =
+    subst (λ x. AreSymbols old new first following (take (i + 1) leaves) x before after) (sym g)
+    (subst (λ x. AreSymbols old new first following x (us ++ u ∷ []) before after) (sym (take_more leaves i leaf l ∙ ap (λ x. take i leaves ++ x ∷ []) (sym h)))
+    (symbols_more old now one new first next following (take i leaves) leaf us before mid after u wt y a m r e))

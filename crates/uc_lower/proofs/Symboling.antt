@@ -24,13 +24,10 @@ use Rattle.uc_lower.specs.Made.{Grows, Within, IsLowType, IsLowNode, IsLowered}
 use Rattle.uc_lower.specs.Steps.{lows, IsLow, Means}
 use Rattle.uc_lower.specs.Symbols.{Hold, AreTruths, InRanges}
 use Rattle.uc_lower.specs.Lowering.{Pair, stand_ins, seconds, IsSymbol}
+use Rattle.uc_lower.specs.Walk.{paired}
 use Rattle.uc_lower.proofs.Growing.{grows_not, grows_on, longer, kept_within, kept_type, kept_types, kept_value, kept_values, kept_op, had_op, all_kept_lowered, one_op}
 use Rattle.uc_lower.proofs.Inner.{node_facts}
 use Rattle.uc_lower.proofs.Walking.{AgreeTo, FitsAt, Found, IsPair, AreBounded, Walked, lows_before, lows_here, next_place, symbol_on, symbol_back, low_on, means_on, means_back, ranges_on, ranges_back, pair_on, of_seconds, seconds_within}
-
--- the pairs of a symbol
-abbrev pub paired : ℕ → List ℕ → List Pair
-paired t us = map (λ u. (t, u)) us
 
 seconds_more : (pairs : List Pair) (t : ℕ) (us : List ℕ) → seconds (pairs ++ paired t us) ≡ seconds pairs ++ us
 seconds_more [] t [] = refl
@@ -92,7 +89,7 @@ pub record SecondAt (next : ℕ) (now : List Node) (u : ℕ) : Type 0 where
   pub symbol : IsSymbol now u
   pub below : (number : ℕ) (ty : Ty) → HasOp now u (Symbol number ty) → number < next
 
-seconds_at : (marks : List Flag) (next : ℕ) (now : List Node) (place : ℕ) (pairs : List Pair) → All (IsPair marks next now place) pairs → (u : ℕ) → Contains (seconds pairs) u → SecondAt next now u
+pub seconds_at : (marks : List Flag) (next : ℕ) (now : List Node) (place : ℕ) (pairs : List Pair) → All (IsPair marks next now place) pairs → (u : ℕ) → Contains (seconds pairs) u → SecondAt next now u
 seconds_at marks next now place pairs h = of_seconds (SecondAt next now) pairs (All-weaker (IsPair marks next now place) (λ (p : Pair). SecondAt next now p.1) (λ p q. record { there = q.there; symbol = q.second; below = q.below }) pairs h)
 
 -- what a symbol step gives: the terms that stand for it, and how models go on
@@ -115,6 +112,12 @@ pub record GoesOn (m n more : Model) (fresh first : ℕ) (new : List Node) (plac
   pub means : Means m more new place us
   pub fit : (u number : ℕ) (ty : Ty) → Contains us u → HasOp new u (Symbol number ty) → FitsAt more number ty
 
+-- the numbers of the terms of a symbol step have one type, there and among the earlier ones
+pub record EvenStep (nodes : List Node) (t fresh : ℕ) (now new : List Node) (pairs : List Pair) (us : List ℕ) : Type 0 where
+  pub own : (u v number : ℕ) (r s : Ty) → Contains us u → Contains us v → HasOp new u (Symbol number r) → HasOp new v (Symbol number s) → r ≡ s
+  pub cross : (u v number : ℕ) (r s : Ty) → Contains us u → Contains (seconds pairs) v → HasOp new u (Symbol number r) → HasOp now v (Symbol number s) → r ≡ s
+  pub kept : (u number : ℕ) (ty : Ty) → Contains us u → HasOp new u (Symbol number ty) → number < fresh → IsSubterm nodes t u
+
 all_listed : (us all : List ℕ) → ((x : ℕ) → Contains us x → Contains all x) → All (Contains all) us
 all_listed us all h k d l = h (get_or us k d) (k, l, get_or_default us k (get_or us k d) d l)
 
@@ -127,10 +130,10 @@ pairs_of marks next new place t (u ∷ us) l mk i s b y below =
     (pairs_of marks next new place t us l mk i s (All-tail (λ x. x < length new) u us b) (All-tail (IsSymbol new) u us y) (λ v number ty c has. below v number ty (Contains-append_right (u ∷ []) us v c) has))
 
 pub walked_symbol : (nodes : List Node) (t : ℕ) (marks : List Flag) (fresh : ℕ) (now new : List Node) (lowered : List (List ℕ)) (pairs : List Pair) (before after us : List ℕ) (first next place : ℕ)
-    → Walked nodes t marks fresh now lowered pairs before first place → place < length nodes → Marked marks place → IsSymbol now place → SymbolStep fresh now new place us first next before after
+    → Walked nodes t marks fresh now lowered pairs before first place → place < length nodes → Marked marks place → IsSymbol now place → SymbolStep fresh now new place us first next before after → EvenStep nodes t fresh now new pairs us
     → ((m n : Model) → FitsTerm m nodes t → Found m n fresh now marks lowered pairs place → (more : Model) × GoesOn m n more fresh first new place us)
     → Walked nodes t marks fresh new (lowered ++ us ∷ []) (pairs ++ paired place us) after next (place + 1)
-walked_symbol nodes t marks fresh now new lowered pairs before after us first next place w inside mark symbol q go =
+walked_symbol nodes t marks fresh now new lowered pairs before after us first next place w inside mark symbol q ev go =
     let g = q.grown in
     let here = lows_here lowered us place w.count in
     let earlier : (j : ℕ) → j < place → lows (lowered ++ us ∷ []) j ≡ lows lowered j = λ j l. lows_before lowered us place j w.count l in
@@ -207,4 +210,20 @@ walked_symbol nodes t marks fresh now new lowered pairs before after us first ne
               | inr x ↦ o.1.fit u number ty x has
             ];
           });
+      even = λ u v number r s cu cv hu hv.
+          let inside_old : (x : ℕ) → Contains (seconds pairs) x → x < length now = λ x c. seconds_within marks first now place pairs w.mapped x c in
+          elim (Contains-append_cases (seconds pairs) us u (subst (λ xs. Contains xs u) is cu)) [
+            | inl x ↦ elim (Contains-append_cases (seconds pairs) us v (subst (λ xs. Contains xs v) is cv)) [
+                | inl y ↦ w.even u v number r s x y (had_op now new u (Symbol number r) g (inside_old u x) hu) (had_op now new v (Symbol number s) g (inside_old v y) hv)
+                | inr y ↦ sym (ev.cross v u number s r y x hv (had_op now new u (Symbol number r) g (inside_old u x) hu))
+              ]
+            | inr x ↦ elim (Contains-append_cases (seconds pairs) us v (subst (λ xs. Contains xs v) is cv)) [
+                | inl y ↦ ev.cross u v number r s x y hu (had_op now new v (Symbol number s) g (inside_old v y) hv)
+                | inr y ↦ ev.own u v number r s x y hu hv
+              ]
+          ];
+      kept = λ u number ty c has. elim (Contains-append_cases (seconds pairs) us u (subst (λ xs. Contains xs u) is c)) [
+        | inl x ↦ w.kept u number ty x (had_op now new u (Symbol number ty) g (seconds_within marks first now place pairs w.mapped u x) has)
+        | inr x ↦ ev.kept u number ty x has
+      ];
     }

@@ -19,7 +19,7 @@ use Rattle.uc_ops.specs.Meaning.{fitting}
 use Rattle.uc_ops.proofs.Lists.{same_map}
 use Rattle.uc_terms.specs.Tables.{HasOp, WellTyped, parts_at}
 use Rattle.uc_terms.specs.Values.{value, values_at}
-use Rattle.uc_terms.specs.Subterms.{Marked, FitsTerm}
+use Rattle.uc_terms.specs.Subterms.{Marked, FitsTerm, IsSubterm}
 use Rattle.uc_lower.specs.Fields.{leaves, low_types, coded}
 use Rattle.uc_lower.specs.Ranges.{InRange}
 use Rattle.uc_lower.specs.Made.{Grows, Within, IsLowNode, IsLowered}
@@ -76,6 +76,8 @@ pub record Walked (nodes : List Node) (t : ℕ) (marks : List Flag) (fresh : ℕ
   pub bounded : (n : Model) → Hold n now conditions → AreBounded n now marks lowered place
   pub met : (n : Model) → AreBounded n now marks lowered place → Hold n now conditions
   pub there : (m : Model) → FitsTerm m nodes t → (n : Model) × Found m n fresh now marks lowered pairs place
+  pub even : (u v number : ℕ) (r s : Ty) → Contains (seconds pairs) u → Contains (seconds pairs) v → HasOp now u (Symbol number r) → HasOp now v (Symbol number s) → r ≡ s
+  pub kept : (u number : ℕ) (ty : Ty) → Contains (seconds pairs) u → HasOp now u (Symbol number ty) → number < fresh → IsSubterm nodes t u
 
 pub lows_before : (lowered : List (List ℕ)) (us : List ℕ) (place j : ℕ) → length lowered ≡ place → j < place → lows (lowered ++ us ∷ []) j ≡ lows lowered j
 lows_before lowered us place j e l = get_or-append lowered (us ∷ []) [] j (omega (arith, e, l))
@@ -99,7 +101,7 @@ symbol_back now new j g l s = record { number = s.number; ty = s.ty; has = had_o
 pub low_on : (now new : List Node) (j : ℕ) (us : List ℕ) → Grows now new → j < length now → IsLow now j us → IsLow new j us
 low_on now new j us g l h = record { within = kept_within now new us g h.within; types = kept_types now new us g h.within ∙ h.types ∙ ap low_types (sym (kept_type now new j g l)) }
 
-coded_kept : (m : Model) (now new : List Node) (j : ℕ) → Grows now new → j < length now → coded (type_at new j) (value m new j) ≡ coded (type_at now j) (value m now j)
+pub coded_kept : (m : Model) (now new : List Node) (j : ℕ) → Grows now new → j < length now → coded (type_at new j) (value m new j) ≡ coded (type_at now j) (value m now j)
 coded_kept m now new j g l = ap (λ ty. coded ty (value m new j)) (kept_type now new j g l) ∙ ap (coded (type_at now j)) (kept_value m now new j g l)
 
 pub means_on : (m n : Model) (now new : List Node) (j : ℕ) (us : List ℕ) → Grows now new → j < length now → Within now us → Means m n now j us → Means m n new j us
@@ -181,4 +183,6 @@ walked_on nodes t marks fresh now new lowered pairs conditions us next place w g
                 (λ mk s. absurd (no_symbol mk (symbol_back now new place g place_in s)));
             fit = λ u number ty c has. r.1.fit u number ty c (had_op now new u (Symbol number ty) g (seconds_within marks next now place pairs w.mapped u c) has);
           });
+      even = λ u v number r s cu cv hu hv. w.even u v number r s cu cv (had_op now new u (Symbol number r) g (seconds_within marks next now place pairs w.mapped u cu) hu) (had_op now new v (Symbol number s) g (seconds_within marks next now place pairs w.mapped v cv) hv);
+      kept = λ u number ty c has. w.kept u number ty c (had_op now new u (Symbol number ty) g (seconds_within marks next now place pairs w.mapped u c) has);
     }

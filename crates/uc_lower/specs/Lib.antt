@@ -4,3 +4,4 @@ pub mod Made
 pub mod Steps
 pub mod Symbols
 pub mod Lowering
+pub mod Walk

@@ -1,16 +1,17 @@
 -- What lowering gives: a term with the models of the given one, by a map.
-use Rattle.std.specs.Prelude.{◌≡◌, ℕ, nat_eq, if◌then◌else◌, List, [], ◌∷◌, map, length, All, Contains}
+use Rattle.std.specs.Prelude.{◌≡◌, ℕ, ◌<◌, nat_eq, if◌then◌else◌, List, [], ◌∷◌, map, length, All, Contains}
 use Rattle.uc_values.specs.declared.ty.Ty.{Ty}
+use Rattle.uc_values.specs.declared.ty.Ty.TheVariants.{Bool}
 use Rattle.uc_ops.specs.declared.model.Model.{Model}
 use Rattle.uc_ops.specs.declared.op.Op.TheVariants.{Symbol, App}
 use Rattle.uc_ops.specs.declared.node.Node.{Node}
 use Rattle.uc_ops.specs.Typing.{type_at, types_at}
 use Rattle.uc_terms.specs.Tables.{HasOp}
 use Rattle.uc_terms.specs.Values.{value, values_at}
-use Rattle.uc_terms.specs.Subterms.{IsSubterm, FitsTerm}
+use Rattle.uc_terms.specs.Subterms.{IsSubterm}
 use Rattle.uc_terms.specs.Laws.{IsModelOf}
 use Rattle.uc_lower.specs.Fields.{low_types, coded}
-use Rattle.uc_lower.specs.Made.{HasBits}
+use Rattle.uc_lower.specs.Made.{HasBits, IsLowType}
 
 -- a symbol of a term and a term that stands for one of its innermost fields
 abbrev pub Pair : Type 0
@@ -51,7 +52,7 @@ pub record Partner (m n : Model) (old : List Node) (t : ℕ) (new : List Node) (
 pub record CorrespondBy (old : List Node) (t : ℕ) (new : List Node) (u : ℕ) (pairs : List Pair) : Type 0 where
   pub there : (m : Model) → IsModelOf m old t → (n : Model) × Partner m n old t new u pairs
   pub back : (n : Model) → IsModelOf n new u → (m : Model) × Partner m n old t new u pairs
-  pub same : (m n : Model) → FitsTerm m old t → Agree m n old t new pairs → value n new u ≡ value m old t
+  pub same : (m n : Model) → Agree m n old t new pairs → value n new u ≡ value m old t
 
 -- the map speaks of the symbols of t and of symbols that stand for them
 pub record IsPairOf (old : List Node) (t : ℕ) (new : List Node) (p : Pair) : Type 0 where
@@ -64,3 +65,10 @@ pub record IsMapOf (old : List Node) (t : ℕ) (new : List Node) (u : ℕ) (pair
   pub complete : (k : ℕ) → IsSubterm old t k → IsSymbol old k → types_at new (stand_ins pairs k) ≡ low_types (type_at old k)
   pub only : All (IsPairOf old t new) pairs
   pub listed : (k : ℕ) → IsSubterm new u k → IsSymbol new k → Contains (seconds pairs) k
+
+-- the term is boolean, every subterm is a boolean or a bit-vector, and no function is applied
+pub record IsLoweredTerm (nodes : List Node) (u : ℕ) : Type 0 where
+  pub there : u < length nodes
+  pub boolean : type_at nodes u ≡ Bool
+  pub types : (k : ℕ) → IsSubterm nodes u k → IsLowType (type_at nodes k)
+  pub no_function : (k number : ℕ) (ty : Ty) → IsSubterm nodes u k → ¬ HasOp nodes k (App number ty)

@@ -15,5 +15,5 @@ bound-requires-clause-some c = label_some c.in-Enum.field-0 c.in-Enum.labels (su
 pub returns-in_ok-push-in-Enum-clause-range : goal.returns-in_ok-push-in-Enum-clause-range
 returns-in_ok-push-in-Enum-clause-range c =
     subst (λ leaf. HasRange c.args.terms.now c.bound.new.terms leaf c.args.symbol c.args.conditions.now.items c.push.new.self.items) (sym c.in-Enum.is)
-    (range_some c.args.terms.now c.bound.new.terms c.in-Enum.field-0 c.in-Enum.labels c.args.symbol c.in_ok-bound.bound c.args.conditions.now.items c.push.new.self.items c.requires.well c.requires.conditions c.requires.truths
-    (label_some c.in-Enum.field-0 c.in-Enum.labels (subst Valid c.in-Enum.is c.requires.valid)) c.in_ok-bound.ensures.bound c.in_ok-push.ensures.items)
+    (range_some c.args.terms.now c.bound.new.terms c.in-Enum.field-0 c.in-Enum.labels c.args.symbol c.in_ok-bound-in-Enum.bound c.args.conditions.now.items c.push.new.self.items c.requires.well c.requires.conditions c.requires.truths
+    (label_some c.in-Enum.field-0 c.in-Enum.labels (subst Valid c.in-Enum.is c.requires.valid)) c.in_ok-bound-in-Enum.ensures.bound c.in_ok-push-in-Enum.ensures.items)
