@@ -8,6 +8,7 @@ use Rattle.std.proofs.lemmas.Bool.{false≢true}
 use Rattle.std.proofs.lemmas.Bool.Decides.{eqb_tells, leb_tells}
 use Rattle.std.proofs.lemmas.List.Elements.{All-append, All-cons, All-nil, All-head, All-tail, All-weaker, All-contains, All-push}
 use Rattle.std.proofs.lemmas.List.Folds.{list_all-append}
+use Rattle.std.specs.Prelude.{nat_eq}
 use Rattle.std.proofs.Math.Bool.{and-true}
 use Rattle.uc_values.specs.Values.{fits, truth_of, zero_of}
 use Rattle.uc_values.proofs.Shapes.{and_true}
@@ -41,7 +42,7 @@ use Rattle.uc_lower.specs.Walk.{IsGoal}
 use Rattle.uc_lower.proofs.Leaves.{one_finite, low-Bool, coded-Bool}
 use Rattle.uc_lower.proofs.Codes.{are_codes, Decoded, decoded}
 use Rattle.uc_lower.proofs.Growing.{grows_not, grows_on, longer, kept_within, kept_type, kept_types, kept_value, kept_values, kept_op, had_op, one_op, boolean_value}
-use Rattle.uc_lower.proofs.Building.{no_types, All-front, All-back}
+use Rattle.uc_lower.proofs.Building.{no_types, no_items, All-front, All-back}
 use Rattle.uc_lower.proofs.Inner.{node_facts}
 use Rattle.uc_lower.proofs.Marking.{below_of, marked_of}
 use Rattle.uc_lower.proofs.Models.{put, put_here, put_other}
@@ -401,3 +402,20 @@ pub goal_of : (now new : List Node) (conditions tests : List ℕ) (g u : ℕ) �
 goal_of now new conditions tests g u grown e c =
     let k = subst (λ ts. IsConjunction now new ts u) e c in
     record { grown = grown; there = k.there; ty = k.ty; value = k.value; lowered = k.lowered }
+
+pub ended : (nodes : List Node) (t : ℕ) (marks : List Flag) (fresh : ℕ) (now : List Node) (lowered : List (List ℕ)) (pairs : List Pair) (conditions : List ℕ) (next place : ℕ)
+    → Walked nodes t marks fresh now lowered pairs conditions next place → place ≡ length marks → WellTyped nodes → NoTwoEqual nodes → t < length nodes → type_at nodes t ≡ Bool → EvenlyTyped nodes t → IsFiniteTerm nodes t → AreSubterms nodes (t ∷ []) marks
+    → Ended nodes t marks fresh now lowered pairs conditions next
+ended nodes t marks fresh now lowered pairs conditions next place w e well two there boolean even finite below = record {
+  walked = subst (Walked nodes t marks fresh now lowered pairs conditions next) e w;
+  well = well;
+  two = two;
+  there = there;
+  boolean = boolean;
+  even = even;
+  finite = finite;
+  below = below;
+}
+
+pub no_vec_items : (xs : List ℕ) (b : Flag) (n : ℕ) → n ≡ length xs → b ≡ nat_eq n 0 → b ≡ true → xs ≡ []
+no_vec_items xs b n e h g = no_items xs b (h ∙ ap (λ k. nat_eq k 0) e) g

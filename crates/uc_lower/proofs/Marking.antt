@@ -6,8 +6,11 @@ use Rattle.std.proofs.lemmas.Bool.Decides.{leb_tells}
 use Rattle.uc_values.specs.declared.ty.Ty.{Ty}
 use Rattle.uc_ops.specs.declared.op.Op.TheVariants.{Symbol}
 use Rattle.uc_terms.specs.Tables.{HasOp}
-use Rattle.uc_lower.specs.Lowering.{Pair}
-use Rattle.uc_lower.specs.Walk.{IsFresh, paired}
+use Rattle.uc_lower.specs.Lowering.{Pair, IsSymbol}
+use Rattle.uc_lower.specs.Symbols.{StandsFor}
+use Rattle.uc_ops.specs.declared.op.Op.{Op}
+use Rattle.std.proofs.lemmas.Bool.{false≢true}
+use Rattle.uc_lower.specs.Walk.{IsFresh, paired, is_symbol, IsStep, symbol}
 use Rattle.uc_ops.specs.declared.node.Node.{Node}
 use Rattle.uc_terms.specs.Subterms.{IsSubterm, Marked, AreSubterms}
 
@@ -48,3 +51,17 @@ fresh_step nodes marks place above next marked e h l n k number ty b mk has =
           let here : k ≡ place = omega (arith, b, x.1) in
           n (e ∙ subst (Marked marks) here mk) number ty (subst (λ i. HasOp nodes i (Symbol number ty)) here has)
     ]
+
+pub fresh_end : (nodes : List Node) (marks : List Flag) (place above : ℕ) → length marks ≤ place → IsFresh nodes marks place above → IsFresh nodes marks (length marks) above
+fresh_end nodes marks place above l h k number ty b mk has = h k number ty (omega (arith, b, l)) mk has
+
+-- a term whose operation is a symbol
+pub symbol_at : (nodes : List Node) (t : ℕ) (op : Op) → HasOp nodes t op → is_symbol op ≡ true → IsSymbol nodes t
+symbol_at nodes t (Symbol number ty) h e = record { number = number; ty = ty; has = h }
+symbol_at nodes t other h e = absurd (false≢true e)
+
+pub symbol_step : (old new : List Node) (lowered : List (List ℕ)) (marked : Flag) (place : ℕ) (us ss : List ℕ) (t first next : ℕ) (pairs more : List Pair) (before after : List ℕ) → marked ≡ true → t ≡ place → IsSymbol old t
+    → StandsFor old new t first next ss before after → us ≡ ss → more ≡ pairs ++ paired t ss → IsStep old new lowered marked place us first next pairs more before after
+symbol_step old new lowered marked place us ss t first next pairs more before after m e s h u p =
+    subst (λ xs. IsStep old new lowered marked place xs first next pairs more before after) (sym u)
+    (symbol m (subst (IsSymbol old) e s) (subst (λ x. StandsFor old new x first next ss before after) e h) (p ∙ ap (λ x. pairs ++ paired x ss) e))

@@ -362,3 +362,12 @@ walked_step nodes t marks fresh now new lowered pairs more before after us first
     let b : HasBits (type_at now place) = subst HasBits (sym (kept_type nodes now place w.grown inside)) (f.bits place (below_of nodes t marks a place mk)) in
     subst (λ x. Walked nodes t marks fresh new (lowered ++ us ∷ []) x after next (place + 1)) (sym ep)
     (walked_symbol nodes t marks fresh now new lowered pairs before after us first next place w inside mk s (new_step fresh now new place us first next before after in_now q) (new_even nodes t marks fresh now new lowered pairs us before after first next place w q) (λ m n fit r. new_goes fresh now new place us first next before after w.grown.well in_now b q m n))
+
+pub place_in : (nodes : List Node) (t : ℕ) (marks : List Flag) (fresh : ℕ) (now : List Node) (lowered : List (List ℕ)) (pairs : List Pair) (conditions : List ℕ) (next place : ℕ)
+    → Walked nodes t marks fresh now lowered pairs conditions next place → AreSubterms nodes (t ∷ []) marks → place < length marks → place < length now
+place_in nodes t marks fresh now lowered pairs conditions next place w a l = omega (arith, l, a.within, longer nodes now w.grown)
+
+pub place_bits : (nodes : List Node) (t : ℕ) (marks : List Flag) (fresh : ℕ) (now : List Node) (lowered : List (List ℕ)) (pairs : List Pair) (conditions : List ℕ) (next place : ℕ)
+    → Walked nodes t marks fresh now lowered pairs conditions next place → AreSubterms nodes (t ∷ []) marks → IsFiniteTerm nodes t → place < length marks → Marked marks place → HasBits (type_at now place)
+place_bits nodes t marks fresh now lowered pairs conditions next place w a f l mk =
+    subst HasBits (sym (kept_type nodes now place w.grown (omega (arith, l, a.within)))) (f.bits place (below_of nodes t marks a place mk))

@@ -43,6 +43,21 @@ pub fn lower(alloc: Global, terms: &mut Terms, t: TermId) -> Result<Lowered, All
     ensures grown { Grows terms.old terms.new }
     ensures kept { KeepsValues terms.old terms.new }
 {
+    walk(alloc, terms, t)
+}
+
+/// The walk over the subterms, by their numbers.
+fn walk(alloc: Global, terms: &mut Terms, t: TermId) -> Result<Lowered, AllocError>
+    requires there { t < length terms.old }
+    requires boolean { type_at terms.old t ≡ Bool }
+    requires even { EvenlyTyped terms.old t }
+    requires finite { IsFiniteTerm terms.old t }
+    ensures corresponds { IfOk result (λ l. CorrespondBy terms.old t terms.new l.goal l.map.pairs) }
+    ensures map { IfOk result (λ l. IsMapOf terms.old t terms.new l.goal l.map.pairs) }
+    ensures even { IfOk result (λ l. EvenlyTyped terms.new l.goal) }
+    ensures lowered { IfOk result (λ l. IsLoweredTerm terms.new l.goal) }
+    ensures grown { Grows terms.old terms.new }
+{
     let _well_typed = terms.nodes();
     let marks = subterms(alloc, terms, &[t])?;
     let mut next = fresh(terms, marks.as_slice())?;
@@ -62,7 +77,8 @@ pub fn lower(alloc: Global, terms: &mut Terms, t: TermId) -> Result<Lowered, All
         )?;
         lowered.push(low)?;
     }
-    let root = low_of(lowered.as_slice(), t)[0];
+    let done = lowered.as_slice();
+    let root = low_of(done, t)[0];
     let goal = goal(alloc, terms, conditions, root)?;
     Ok(Lowered {
         goal,
