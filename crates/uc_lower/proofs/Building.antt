@@ -153,17 +153,17 @@ one_test_more old now new left right i l r t tests w a h m wl wr b low =
       values = λ n.
           let front = ap (list_all truth_of) (kept_values n now new tests m.grown a.within) ∙ a.values n in
           let last : truth_of (value n new t) ≡ same (type_at old l) (value n old l) (value n old r) =
-              ap truth_of (m.value n) ∙ ap (λ ty. same ty (value n now l) (value n now r)) h.left_type ∙ ap (λ v. same (type_at old l) v (value n now r)) (h.left_value n) ∙ ap (same (type_at old l) (value n old l)) (h.right_value n) in
+          ap truth_of (m.value n) ∙ ap (λ ty. same ty (value n now l) (value n now r)) h.left_type ∙ ap (λ v. same (type_at old l) v (value n now r)) (h.left_value n) ∙ ap (same (type_at old l) (value n old l)) (h.right_value n) in
           let types = types_at old (take i left) in
           let vs = values_at n old (take i left) in
           let ws = values_at n old (take i right) in
           let one : length types ≡ length vs = length-map (take i left) (type_at old) ∙ sym (length-map (take i left) (value n old)) in
           let two : length types ≡ length ws = length-map (take i left) (type_at old) ∙ h.lengths ∙ sym (length-map (take i right) (value n old)) in
           let whole : all_same (types_at old (take (i + 1) left)) (values_at n old (take (i + 1) left)) (values_at n old (take (i + 1) right)) ≡ (all_same types vs ws && (same (type_at old l) (value n old l) (value n old r) && true)) =
-              rw (h.left_is, h.right_is) (ap (λ x. all_same x (values_at n old (take i left ++ l ∷ [])) (values_at n old (take i right ++ r ∷ []))) (map-append (type_at old) (take i left) (l ∷ []))
-              ∙ ap (λ x. all_same (types ++ type_at old l ∷ []) x (values_at n old (take i right ++ r ∷ []))) (map-append (value n old) (take i left) (l ∷ []))
-              ∙ ap (λ x. all_same (types ++ type_at old l ∷ []) (vs ++ value n old l ∷ []) x) (map-append (value n old) (take i right) (r ∷ []))
-              ∙ tests_agree types vs ws (type_at old l) (value n old l) (value n old r) one two) in
+          rw (h.left_is, h.right_is) (ap (λ x. all_same x (values_at n old (take i left ++ l ∷ [])) (values_at n old (take i right ++ r ∷ []))) (map-append (type_at old) (take i left) (l ∷ []))
+          ∙ ap (λ x. all_same (types ++ type_at old l ∷ []) x (values_at n old (take i right ++ r ∷ []))) (map-append (value n old) (take i left) (l ∷ []))
+          ∙ ap (λ x. all_same (types ++ type_at old l ∷ []) (vs ++ value n old l ∷ []) x) (map-append (value n old) (take i right) (r ∷ []))
+          ∙ tests_agree types vs ws (type_at old l) (value n old l) (value n old r) one two) in
           ap (list_all truth_of) (map-append (value n new) tests (t ∷ [])) ∙ list_all-append truth_of (values_at n new tests) (value n new t ∷ [])
           ∙ ap (λ x. x && (truth_of (value n new t) && true)) front ∙ ap (λ x. all_same types vs ws && (x && true)) last ∙ sym whole;
       lowered = λ symbols q. All-push (IsLowered symbols new) tests t (all_kept_lowered symbols now new tests a.grown.well m.grown a.within (a.lowered symbols q))
@@ -185,7 +185,7 @@ equality_one old new left right tests t a e h =
       ty = boolean;
       value = λ n.
           let last : (truth_of (value n new t) && true) ≡ all_same (types_at old left) (values_at n old left) (values_at n old right) =
-              ap (λ ts. list_all truth_of (values_at n new ts)) (sym h) ∙ a.values n ∙ ap (λ x. all_same (types_at old x) (values_at n old x) (values_at n old (take (length left) right))) whole ∙ ap (λ x. all_same (types_at old left) (values_at n old left) (values_at n old x)) other in
+          ap (λ ts. list_all truth_of (values_at n new ts)) (sym h) ∙ a.values n ∙ ap (λ x. all_same (types_at old x) (values_at n old x) (values_at n old (take (length left) right))) whole ∙ ap (λ x. all_same (types_at old left) (values_at n old left) (values_at n old x)) other in
           boolean_value n new t a.grown.well there boolean ∙ ap Truth (sym (and-true (truth_of (value n new t))) ∙ last);
       lowered = λ symbols q. subst (All (IsLowered symbols new)) h (a.lowered symbols q);
     }
@@ -213,6 +213,7 @@ none_chosen old c left right w = record {
   values = λ n. nothing_chosen n old (truth_of (value n old c));
   lowered = λ symbols h. All-nil (IsLowered symbols old);
 }
+
 choice_more : (b : Flag) (xs ys : List Value) (x y : Value) → cond b (xs ++ x ∷ []) (ys ++ y ∷ []) ≡ cond b xs ys ++ cond b x y ∷ []
 choice_more true xs ys x y = refl
 choice_more false xs ys x y = refl
@@ -230,7 +231,7 @@ one_choice_more old now new c left right i l r t terms a h m cb b low =
       types = rw h.left_is (map-append (type_at new) terms (t ∷ []) ∙ ap (λ x. x ++ type_at new t ∷ []) (kept_types now new terms m.grown a.within ∙ a.types) ∙ ap (λ x. types_at old (take i left) ++ x ∷ []) (m.ty ∙ h.left_type) ∙ sym (map-append (type_at old) (take i left) (l ∷ [])));
       values = λ n.
           let one : value n new t ≡ cond (truth_of (value n old c)) (value n old l) (value n old r) =
-              m.value n ∙ ap (λ v. cond (truth_of v) (value n now l) (value n now r)) (kept_value n old now c a.grown cb) ∙ ap (λ v. cond (truth_of (value n old c)) v (value n now r)) (h.left_value n) ∙ ap (cond (truth_of (value n old c)) (value n old l)) (h.right_value n) in
+          m.value n ∙ ap (λ v. cond (truth_of v) (value n now l) (value n now r)) (kept_value n old now c a.grown cb) ∙ ap (λ v. cond (truth_of (value n old c)) v (value n now r)) (h.left_value n) ∙ ap (cond (truth_of (value n old c)) (value n old l)) (h.right_value n) in
           let flag = truth_of (value n old c) in
           let xs = values_at n old (take i left) in
           let ys = values_at n old (take i right) in

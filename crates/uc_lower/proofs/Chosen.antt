@@ -273,10 +273,10 @@ constant_kept nodes lowered t ty v w ready y =
       means = λ m n h. one_means m n nodes t t own (f.value n ∙ sym (f.value m));
       stays = λ symbols h. one_lowered symbols nodes t (λ k s. elim (split_subterm nodes t k s) [
         | inl x ↦ subst (IsLowNode symbols nodes) (sym x) (record {
-            typed = own;
-            no_function = λ number s has. let e = one_op nodes t (Const ty v) (App number s) ready.has has in cc;
-            listed = λ number s has. let e = one_op nodes t (Const ty v) (Symbol number s) ready.has has in cc;
-          })
+          typed = own;
+          no_function = λ number s has. let e = one_op nodes t (Const ty v) (App number s) ready.has has in cc;
+          listed = λ number s has. let e = one_op nodes t (Const ty v) (Symbol number s) ready.has has in cc;
+        })
         | inr x ↦ let c = subst (λ ps. Contains ps x.part) leaf x.listed in absurd (omega (arith, c.1))
       ]);
     }

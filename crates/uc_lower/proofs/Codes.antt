@@ -158,7 +158,7 @@ label_same n k v w h g =
     let b = IsLabel-fits n k w g in
     let left : same (Enum n k) (Label n a.label) (Label n b.label) ≡ (nat_eq n n && nat_eq a.label b.label) = ap (λ (s : Sameness). s.same (Label n a.label) (Label n b.label)) (sameness-Enum n k) in
     let right : same (Bv (label_bits k)) (Bits (label_bits k) a.label) (Bits (label_bits k) b.label) ≡ (nat_eq (label_bits k) (label_bits k) && nat_eq a.label b.label) =
-        ap (λ (s : Sameness). s.same (Bits (label_bits k) a.label) (Bits (label_bits k) b.label)) (sameness-Bv (label_bits k)) in
+    ap (λ (s : Sameness). s.same (Bits (label_bits k) a.label) (Bits (label_bits k) b.label)) (sameness-Bv (label_bits k)) in
     let one : nat_eq n n ≡ nat_eq (label_bits k) (label_bits k) = grind (arith, nat_tests) in
     rw (a.is, b.is) (left ∙ ap (λ t. t && nat_eq a.label b.label) one ∙ sym right)
 
@@ -186,7 +186,7 @@ coded_same tys (v ∷ vs) (w ∷ ws) (fields fs rest f r) h g =
     let vp : parts_of v ≡ p.parts = ap parts_of p.is ∙ parts-Rec p.parts in
     let wq : parts_of w ≡ q.parts = ap parts_of q.is ∙ parts-Rec q.parts in
     let here : same (Rec fs) v w ≡ all_same (all_low tys) (all_coded tys p.parts) (all_coded tys q.parts) =
-        same-Rec fs v w ∙ same_fields fs (parts_of v) (parts_of w) ∙ ap (λ x. all_same tys x (parts_of w)) vp ∙ ap (all_same tys p.parts) wq ∙ coded_same tys p.parts q.parts f p.fit q.fit in
+    same-Rec fs v w ∙ same_fields fs (parts_of v) (parts_of w) ∙ ap (λ x. all_same tys x (parts_of w)) vp ∙ ap (all_same tys p.parts) wq ∙ coded_same tys p.parts q.parts f p.fit q.fit in
     rw (low-Rec fs, coded-Rec fs v, coded-Rec fs w, vp, wq)
     (ap (λ b. b && all_same rest vs ws) here ∙ ap (λ b. all_same (all_low tys) (all_coded tys p.parts) (all_coded tys q.parts) && b) (coded_same rest vs ws r h.1 g.1)
     ∙ sym (same_append (all_low tys) (all_low rest) (all_coded tys p.parts) (all_coded tys q.parts) (all_coded rest vs) (all_coded rest ws) (code_length tys p.parts f p.fit) (code_length tys q.parts f q.fit)))

@@ -149,28 +149,36 @@ rebuilt nodes t marks fresh now lowered pairs conditions next n e h (suc p) l =
     let node = at_place nodes p inside in
     let last : (j : ℕ) → j < suc p → (j < p) ⊎ (j ≡ p) = λ j b. elim (leb_tells (suc j) p) [ inl x ↦ inl x.1 | inr x ↦ inr (omega (arith, b, x.1)) ] in
     elim (marked_or_not (slice_index_or marks p false)) [
-      | inr unmarked ↦ record { symbols = r.symbols; at = λ j number ty b mk has. elim (last j b) [
+      | inr unmarked ↦ record {
+        symbols = r.symbols;
+        at = λ j number ty b mk has. elim (last j b) [
           | inl x ↦ r.at j number ty x mk has
           | inr x ↦ absurd (false≢true (sym unmarked ∙ subst (Marked marks) x mk))
-        ] }
+        ];
+      }
       | inl marked ↦ elim (symbol_or_not node.0.op) [
-          | inr other ↦ record { symbols = r.symbols; at = λ j number ty b mk has. elim (last j b) [
-              | inl x ↦ r.at j number ty x mk has
-              | inr x ↦ absurd (other number ty (node_op nodes p node.0 (Symbol number ty) node.1 (subst (λ i. HasOp nodes i (Symbol number ty)) x has)))
-            ] }
-          | inl s ↦
-              let own : HasOp nodes p (Symbol s.0 s.1) = ap (option_map (λ x. x.op)) node.1 ∙ ap Some s.2 in
-              let below = below_of nodes t marks e.below p marked in
-              let typed : type_at nodes p ≡ s.1 = (node_facts nodes p (Symbol s.0 s.1) e.well inside own).typed in
-              let bits : HasBits s.1 = subst HasBits typed (e.finite.bits p below) in
-              let us = lows lowered p in
-              let low = w.low p (omega (arith, l)) marked in
-              let new_type : type_at now p ≡ s.1 = kept_type nodes now p w.grown inside ∙ typed in
-              let fit : Fit (low_types s.1) (values_at n now us) = subst (λ ts. Fit ts (values_at n now us)) (low.types ∙ ap low_types new_type) (all_values_fit n now us w.grown.well low.within) in
-              let symbol : IsSymbol now p = record { number = s.0; ty = s.1; has = kept_op nodes now p (Symbol s.0 s.1) w.grown inside own } in
-              let ranges : AllZip InRange (leaves s.1) (values_at n now us) = subst (λ ty. AllZip InRange (leaves ty) (values_at n now us)) new_type (w.bounded n h p (omega (arith, l)) marked symbol) in
-              let d = one_decoded s.1 (values_at n now us) bits fit ranges in
-              record { symbols = put r.symbols s.0 d.value; at = λ j number ty b mk has. elim (last j b) [
+        | inr other ↦ record {
+          symbols = r.symbols;
+          at = λ j number ty b mk has. elim (last j b) [
+            | inl x ↦ r.at j number ty x mk has
+            | inr x ↦ absurd (other number ty (node_op nodes p node.0 (Symbol number ty) node.1 (subst (λ i. HasOp nodes i (Symbol number ty)) x has)))
+          ];
+        }
+        | inl s ↦
+            let own : HasOp nodes p (Symbol s.0 s.1) = ap (option_map (λ x. x.op)) node.1 ∙ ap Some s.2 in
+            let below = below_of nodes t marks e.below p marked in
+            let typed : type_at nodes p ≡ s.1 = (node_facts nodes p (Symbol s.0 s.1) e.well inside own).typed in
+            let bits : HasBits s.1 = subst HasBits typed (e.finite.bits p below) in
+            let us = lows lowered p in
+            let low = w.low p (omega (arith, l)) marked in
+            let new_type : type_at now p ≡ s.1 = kept_type nodes now p w.grown inside ∙ typed in
+            let fit : Fit (low_types s.1) (values_at n now us) = subst (λ ts. Fit ts (values_at n now us)) (low.types ∙ ap low_types new_type) (all_values_fit n now us w.grown.well low.within) in
+            let symbol : IsSymbol now p = record { number = s.0; ty = s.1; has = kept_op nodes now p (Symbol s.0 s.1) w.grown inside own } in
+            let ranges : AllZip InRange (leaves s.1) (values_at n now us) = subst (λ ty. AllZip InRange (leaves ty) (values_at n now us)) new_type (w.bounded n h p (omega (arith, l)) marked symbol) in
+            let d = one_decoded s.1 (values_at n now us) bits fit ranges in
+            record {
+              symbols = put r.symbols s.0 d.value;
+              at = λ j number ty b mk has. elim (last j b) [
                 | inl x ↦
                     let q = r.at j number ty x mk has in
                     let differ : number ≢ s.0 = λ z. absurd (omega (arith, x, symbols_apart nodes t j p number s.0 ty s.1 e.well e.two e.even (below_of nodes t marks e.below j mk) below (omega (arith, x, inside)) inside has own z)) in
@@ -186,8 +194,9 @@ rebuilt nodes t marks fresh now lowered pairs conditions next n e h (suc p) l =
                       fit = subst (λ y. IsTrue (fits y d.value)) (sym et) d.fit;
                       codes = ap (λ y. coded y d.value) et ∙ d.codes ∙ ap (λ i. values_at n now (lows lowered i)) (sym x);
                     }
-              ] }
-        ]
+              ];
+            }
+      ]
     ]
 
 -- agreement by the map and agreement at every place of the walk are one
@@ -264,7 +273,7 @@ root_value nodes t marks fresh now lowered pairs conditions next g m n e r a =
     let mk = marked_of nodes t marks e.below t itself in
     let v = value m nodes t in
     let all : value n now g ∷ [] ≡ v ∷ [] =
-        ap (values_at n now) (sym r.is) ∙ w.means m n a t (marked_within marks t mk) mk ∙ coded_kept m nodes now t w.grown e.there ∙ ap (λ ty. coded ty v) e.boolean ∙ coded-Bool v in
+    ap (values_at n now) (sym r.is) ∙ w.means m n a t (marked_within marks t mk) mk ∙ coded_kept m nodes now t w.grown e.there ∙ ap (λ ty. coded ty v) e.boolean ∙ coded-Bool v in
     cc
 
 bounded_by : (nodes : List Node) (t : ℕ) (marks : List Flag) (fresh : ℕ) (now : List Node) (lowered : List (List ℕ)) (pairs : List Pair) (conditions : List ℕ) (next : ℕ) (m n : Model)
@@ -306,12 +315,14 @@ there_goes : (nodes : List Node) (t : ℕ) (marks : List Flag) (fresh : ℕ) (no
     → Ended nodes t marks fresh now lowered pairs conditions next → RootLow now lowered t g → IsGoal now new conditions g u → (m : Model) → IsModelOf m nodes t → (n : Model) × Partner m n nodes t new u pairs
 there_goes nodes t marks fresh now new lowered pairs conditions next g u e r k m h =
     let f = e.walked.there m h.fits in
-    let same = same_value nodes t marks fresh now new lowered pairs conditions next g u m f.0 e r k f.1.agrees in
-    (f.0, record {
-      agrees = agree_from nodes t marks fresh now new lowered pairs conditions next m f.0 e k.grown f.1.agrees;
-      old_model = h;
-      new_model = record { fits = there_fits nodes t marks fresh now new lowered pairs conditions next g u m f.0 e r k f.1; holds = ap truth_of same ∙ h.holds };
-    })
+    let same = same_value nodes t marks fresh now new lowered pairs conditions next g u m f.0 e r k f.1.agrees in (
+      f.0,
+      record {
+        agrees = agree_from nodes t marks fresh now new lowered pairs conditions next m f.0 e k.grown f.1.agrees;
+        old_model = h;
+        new_model = record { fits = there_fits nodes t marks fresh now new lowered pairs conditions next g u m f.0 e r k f.1; holds = ap truth_of same ∙ h.holds };
+      },
+    )
 
 back_goes : (nodes : List Node) (t : ℕ) (marks : List Flag) (fresh : ℕ) (now new : List Node) (lowered : List (List ℕ)) (pairs : List Pair) (conditions : List ℕ) (next g u : ℕ)
     → Ended nodes t marks fresh now lowered pairs conditions next → RootLow now lowered t g → IsGoal now new conditions g u → (n : Model) → IsModelOf n new u → (m : Model) × Partner m n nodes t new u pairs
@@ -321,12 +332,12 @@ back_goes nodes t marks fresh now new lowered pairs conditions next g u e r k n 
     let b = rebuilt nodes t marks fresh now lowered pairs conditions next n e hold (length marks) (omega arith) in
     let m : Model = record { symbols = b.symbols; tables = [] } in
     let agrees : AgreeTo m n now marks lowered (length marks) = λ j l mk s.
-        let inside = in_nodes nodes marks (t ∷ []) e.below j l in
-        let has = had_op nodes now j (Symbol s.number s.ty) w.grown inside s.has in
-        let q = b.at j s.number s.ty l mk has in
-        let own : value m nodes j ≡ q.value = symbol_value m nodes j s.number s.ty q.value e.well inside has q.is q.fit in
-        let typed : type_at nodes j ≡ s.ty = (node_facts nodes j (Symbol s.number s.ty) e.well inside has).typed in
-        sym q.codes ∙ ap (coded s.ty) (sym own) ∙ ap (λ ty. coded ty (value m nodes j)) (sym typed) ∙ sym (coded_kept m nodes now j w.grown inside) in
+    let inside = in_nodes nodes marks (t ∷ []) e.below j l in
+    let has = had_op nodes now j (Symbol s.number s.ty) w.grown inside s.has in
+    let q = b.at j s.number s.ty l mk has in
+    let own : value m nodes j ≡ q.value = symbol_value m nodes j s.number s.ty q.value e.well inside has q.is q.fit in
+    let typed : type_at nodes j ≡ s.ty = (node_facts nodes j (Symbol s.number s.ty) e.well inside has).typed in
+    sym q.codes ∙ ap (coded s.ty) (sym own) ∙ ap (λ ty. coded ty (value m nodes j)) (sym typed) ∙ sym (coded_kept m nodes now j w.grown inside) in
     let fits_all : FitsTerm m nodes t = record {
       symbols = λ j number ty s has.
           let mk = marked_of nodes t marks e.below j s in
@@ -334,12 +345,14 @@ back_goes nodes t marks fresh now new lowered pairs conditions next g u e r k n 
           (q.value, q.is, q.fit);
       functions = λ j number ty s has. absurd (e.finite.no_function j number ty s has);
     } in
-    let same = same_value nodes t marks fresh now new lowered pairs conditions next g u m n e r k agrees in
-    (m, record {
-      agrees = agree_from nodes t marks fresh now new lowered pairs conditions next m n e k.grown agrees;
-      old_model = record { fits = fits_all; holds = ap truth_of (sym same) ∙ h.holds };
-      new_model = h;
-    })
+    let same = same_value nodes t marks fresh now new lowered pairs conditions next g u m n e r k agrees in (
+      m,
+      record {
+        agrees = agree_from nodes t marks fresh now new lowered pairs conditions next m n e k.grown agrees;
+        old_model = record { fits = fits_all; holds = ap truth_of (sym same) ∙ h.holds };
+        new_model = h;
+      },
+    )
 
 pub corresponds : (nodes : List Node) (t : ℕ) (marks : List Flag) (fresh : ℕ) (now new : List Node) (lowered : List (List ℕ)) (pairs : List Pair) (conditions : List ℕ) (next g u : ℕ)
     → Ended nodes t marks fresh now lowered pairs conditions next → RootLow now lowered t g → IsGoal now new conditions g u → CorrespondBy nodes t new u pairs
@@ -361,10 +374,10 @@ mapped nodes t marks fresh now new lowered pairs conditions next g u e r k =
           let low = w.low j l mk in
           ap (types_at new) (w.listed j l mk (symbol_on nodes now j w.grown inside s)) ∙ kept_types now new (lows lowered j) k.grown low.within ∙ low.types ∙ ap low_types (kept_type nodes now j w.grown inside);
       only = All-weaker (IsPair marks next now (length marks)) (IsPairOf nodes t new) (λ p q. record {
-          below = below_of nodes t marks e.below p.0 q.marked;
-          first = symbol_back nodes now p.0 w.grown (in_nodes nodes marks (t ∷ []) e.below p.0 q.before) q.first;
-          second = symbol_on now new p.1 k.grown q.there q.second;
-        }) pairs w.mapped;
+        below = below_of nodes t marks e.below p.0 q.marked;
+        first = symbol_back nodes now p.0 w.grown (in_nodes nodes marks (t ∷ []) e.below p.0 q.before) q.first;
+        second = symbol_on now new p.1 k.grown q.there q.second;
+      }) pairs w.mapped;
       listed = λ j s y. (goal_lowered nodes t marks fresh now new lowered pairs conditions next g u e r k j s).listed y.number y.ty y.has;
     }
 

@@ -131,10 +131,10 @@ pub made_lowered : (symbols : List ℕ) (old new : List Node) (t : ℕ) (op : Op
 made_lowered symbols old new t op parts w m i y b h k s =
     elim (split_subterm new t k s) [
       | inl x ↦ subst (IsLowNode symbols new) (sym x) (record {
-          typed = y;
-          no_function = λ number ty has. no_function_op op number ty i (one_op new t op (App number ty) m.has has);
-          listed = λ number ty has. absurd (no_symbol_op op number ty i (one_op new t op (Symbol number ty) m.has has));
-        })
+        typed = y;
+        no_function = λ number ty has. no_function_op op number ty i (one_op new t op (App number ty) m.has has);
+        listed = λ number ty has. absurd (no_symbol_op op number ty i (one_op new t op (Symbol number ty) m.has has));
+      })
       | inr x ↦
           let c : Contains parts x.part = subst (λ ps. Contains ps x.part) m.on x.listed in
           let inside : x.part < length old = All-contains (λ p. p < length old) parts x.part b c in

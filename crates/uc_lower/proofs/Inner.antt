@@ -347,10 +347,10 @@ equality_low old new lowered t r w g ready made =
           let fit = subst (λ ps. Fit (types_at old ps) (values_at m old ps)) q.is (f.fit m) in
           let fit_b : IsTrue (fits ty vb) = subst (λ s. IsTrue (fits s vb)) (q.type_b ∙ sym q.type_a) fit.1.0 in
           let left : value n new r ≡ Truth (all_same (types_at old (lows lowered q.a)) (values_at n old (lows lowered q.a)) (values_at n old (lows lowered q.b))) =
-              made.value n ∙ ap (λ ps. Truth (all_same (types_at old (part_lows lowered ps 0)) (values_at n old (part_lows lowered ps 0)) (values_at n old (part_lows lowered ps 1)))) q.is in
+          made.value n ∙ ap (λ ps. Truth (all_same (types_at old (part_lows lowered ps 0)) (values_at n old (part_lows lowered ps 0)) (values_at n old (part_lows lowered ps 1)))) q.is in
           let mid : all_same (types_at old (lows lowered q.a)) (values_at n old (lows lowered q.a)) (values_at n old (lows lowered q.b)) ≡ same ty va vb =
-              ap (λ x. all_same x (values_at n old (lows lowered q.a)) (values_at n old (lows lowered q.b))) a.types ∙ ap (λ x. all_same (low_types ty) x (values_at n old (lows lowered q.b))) ma
-              ∙ ap (all_same (low_types ty) (coded ty va)) (mb ∙ ap (λ s. coded s vb) (q.type_b ∙ sym q.type_a)) ∙ same_one ty va vb fit_bits fit.0 fit_b in
+          ap (λ x. all_same x (values_at n old (lows lowered q.a)) (values_at n old (lows lowered q.b))) a.types ∙ ap (λ x. all_same (low_types ty) x (values_at n old (lows lowered q.b))) ma
+          ∙ ap (all_same (low_types ty) (coded ty va)) (mb ∙ ap (λ s. coded s vb) (q.type_b ∙ sym q.type_a)) ∙ same_one ty va vb fit_bits fit.0 fit_b in
           let right : value m old t ≡ Truth (same ty va vb) = f.value m ∙ ap (λ ps. apply m Eq (types_at old ps) (values_at m old ps)) q.is in
           one_means m n new t r y (left ∙ ap Truth mid ∙ sym right ∙ sym (kept_value m old new t g ready.there));
       stays = λ symbols h.

@@ -28,7 +28,6 @@ below_of nodes t marks a k h =
 pub marked_of : (nodes : List Node) (t : ℕ) (marks : List Flag) → AreSubterms nodes (t ∷ []) marks → (k : ℕ) → IsSubterm nodes t k → Marked marks k
 marked_of nodes t marks a k s = a.complete k (record { root = t; listed = (0, omega arith, refl); below = s })
 
-
 -- the pairs of a symbol, one more each time
 pub pair_start : (t : ℕ) (pairs : List Pair) → pairs ≡ pairs ++ paired t []
 pair_start t pairs = sym (append-nil pairs)

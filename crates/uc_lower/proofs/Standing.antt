@@ -139,10 +139,10 @@ pub symbol_lowered : (symbols : List ℕ) (nodes : List Node) (u number : ℕ) (
 symbol_lowered symbols nodes u number ty h leaf y c k s =
     elim (split_subterm nodes u k s) [
       | inl x ↦ subst (IsLowNode symbols nodes) (sym x) (record {
-          typed = y;
-          no_function = λ other r has. let e = one_op nodes u (Symbol number ty) (App other r) h has in cc;
-          listed = λ other r has. c;
-        })
+        typed = y;
+        no_function = λ other r has. let e = one_op nodes u (Symbol number ty) (App other r) h has in cc;
+        listed = λ other r has. c;
+      })
       | inr x ↦ let d = subst (λ ps. Contains ps x.part) leaf x.listed in absurd (omega (arith, d.1))
     ]
 

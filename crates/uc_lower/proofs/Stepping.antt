@@ -92,24 +92,26 @@ kept_goes nodes t marks fresh now lowered pairs before first place w inside new_
     let v = fit.symbols place s.number s.ty below own in
     let has_n = r.keeps s.number v.0 (new_number place s.number s.ty in_marks mk own) v.1 in
     let same : value n now place ≡ value m now place =
-        symbol_value n now place s.number s.ty v.0 w.grown.well in_now s.has has_n v.2 ∙ sym (symbol_value m now place s.number s.ty v.0 w.grown.well in_now s.has v.1 v.2) in
-    (n, record {
-      keeps = λ number x l e. e;
-      means = one_means m n now place place y same;
-      fit = λ u number ty c has.
-          let e = only_one place u c in
-          let z : Symbol number ty ≡ Symbol s.number s.ty = one_op now place (Symbol number ty) (Symbol s.number s.ty) (subst (λ x. HasOp now x (Symbol number ty)) e has) s.has in
-          let en : number ≡ s.number = cc in
-          let et : ty ≡ s.ty = cc in
-          record { value = v.0; is = ap (slice_get n.symbols) en ∙ has_n; fit = subst (λ x. IsTrue (fits x v.0)) (sym et) v.2 };
-    })
+    symbol_value n now place s.number s.ty v.0 w.grown.well in_now s.has has_n v.2 ∙ sym (symbol_value m now place s.number s.ty v.0 w.grown.well in_now s.has v.1 v.2) in (
+      n,
+      record {
+        keeps = λ number x l e. e;
+        means = one_means m n now place place y same;
+        fit = λ u number ty c has.
+            let e = only_one place u c in
+            let z : Symbol number ty ≡ Symbol s.number s.ty = one_op now place (Symbol number ty) (Symbol s.number s.ty) (subst (λ x. HasOp now x (Symbol number ty)) e has) s.has in
+            let en : number ≡ s.number = cc in
+            let et : ty ≡ s.ty = cc in
+            record { value = v.0; is = ap (slice_get n.symbols) en ∙ has_n; fit = subst (λ x. IsTrue (fits x v.0)) (sym et) v.2 };
+      },
+    )
 
 pub kept_even : (nodes : List Node) (t : ℕ) (marks : List Flag) (fresh : ℕ) (now : List Node) (lowered : List (List ℕ)) (pairs : List Pair) (before : List ℕ) (first place : ℕ)
     → Walked nodes t marks fresh now lowered pairs before first place → EvenlyTyped nodes t → AreSubterms nodes (t ∷ []) marks → WellTyped nodes → place < length nodes → IsFresh nodes marks (length marks) fresh → place < length marks → Marked marks place → IsSubterm nodes t place
     → EvenStep nodes t fresh now now pairs (place ∷ [])
 kept_even nodes t marks fresh now lowered pairs before first place w ev a wt inside new_number in_marks mk below =
     let own : (u number : ℕ) (r : Ty) → Contains (place ∷ []) u → HasOp now u (Symbol number r) → HasOp nodes place (Symbol number r) = λ u number r c h.
-        had_op nodes now place (Symbol number r) w.grown inside (subst (λ x. HasOp now x (Symbol number r)) (only_one place u c) h) in
+    had_op nodes now place (Symbol number r) w.grown inside (subst (λ x. HasOp now x (Symbol number r)) (only_one place u c) h) in
     record {
       own = λ u v number r s cu cv hu hv. let z : Symbol number r ≡ Symbol number s = one_op nodes place (Symbol number r) (Symbol number s) (own u number r cu hu) (own v number s cv hv) in cc;
       cross = λ u v number r s cu cv hu hv.
@@ -198,10 +200,10 @@ pub new_even : (nodes : List Node) (t : ℕ) (marks : List Flag) (fresh : ℕ) (
 new_even nodes t marks fresh now new lowered pairs us before after first next place w a =
     let tys = low_types (type_at now place) in
     let low : (u number : ℕ) (ty : Ty) → Contains us u → HasOp new u (Symbol number ty) → first ≤ number = λ u number ty c has.
-        let q = numbered_at new first tys us u c.0 a.numbered c.1 c.2 in
-        let z : Symbol number ty ≡ Symbol q.number q.ty = one_op new u (Symbol number ty) (Symbol q.number q.ty) has q.has in
-        let en : number ≡ q.number = cc in
-        omega (arith, en, q.low) in
+    let q = numbered_at new first tys us u c.0 a.numbered c.1 c.2 in
+    let z : Symbol number ty ≡ Symbol q.number q.ty = one_op new u (Symbol number ty) (Symbol q.number q.ty) has q.has in
+    let en : number ≡ q.number = cc in
+    omega (arith, en, q.low) in
     record {
       own = λ u v number r s cu cv hu hv. numbered_even new first tys us u v cu.0 cv.0 number r s a.numbered cu.1 cv.1 cu.2 cv.2 hu hv;
       cross = λ u v number r s cu cv hu hv. absurd (omega (arith, low u number r cu hu, (seconds_at marks first now place pairs w.mapped v cv).below number s hv));
@@ -237,12 +239,14 @@ new_goes fresh now new place us first next before after wt inside b a m n =
     let v = value m now place in
     let ws = coded ty v in
     let fit : Fit (low_types ty) ws = coded_fit ty v b (value-fits m now place wt inside) in
-    let more : Model = record { symbols = put_all n.symbols first ws; tables = n.tables } in
-    (more, record {
-      keeps = λ number w l e. put_all-other n.symbols first ws number w l e;
-      means = numbered_values more new n.symbols first (low_types ty) us ws a.grown.well a.within a.numbered fit refl ∙ ap (coded ty) (sym (kept_value m now new place a.grown inside)) ∙ ap (λ s. coded s (value m new place)) (sym (kept_type now new place a.grown inside));
-      fit = λ u number s c has. numbered_fits more new n.symbols first (low_types ty) us ws u c.0 number s a.numbered fit refl c.1 c.2 has;
-    })
+    let more : Model = record { symbols = put_all n.symbols first ws; tables = n.tables } in (
+      more,
+      record {
+        keeps = λ number w l e. put_all-other n.symbols first ws number w l e;
+        means = numbered_values more new n.symbols first (low_types ty) us ws a.grown.well a.within a.numbered fit refl ∙ ap (coded ty) (sym (kept_value m now new place a.grown inside)) ∙ ap (λ s. coded s (value m new place)) (sym (kept_type now new place a.grown inside));
+        fit = λ u number s c has. numbered_fits more new n.symbols first (low_types ty) us ws u c.0 number s a.numbered fit refl c.1 c.2 has;
+      },
+    )
 
 no_bits_int : HasBits Int → ⊥
 no_bits_int h = let e = sym bits-Int ∙ h.1 in cc
@@ -282,7 +286,7 @@ lowerable nodes t marks fresh now lowered pairs conditions next place w wt a f i
     let parts : parts_at now place ≡ parts_at nodes place = kept_parts nodes now place w.grown inside in
     let before = parts_before nodes place wt inside in
     let is_part : (k d : ℕ) → k < length (parts_at nodes place) → IsSubterm nodes t (get_or (parts_at nodes place) k d) = λ k d l.
-        deeper place (get_or (parts_at nodes place) k d) below (k, l, get_or_default (parts_at nodes place) k (get_or (parts_at nodes place) k d) d l) in
+    deeper place (get_or (parts_at nodes place) k d) below (k, l, get_or_default (parts_at nodes place) k (get_or (parts_at nodes place) k d) d l) in
     record {
       inner = λ op h. inner_op nodes t place op wt f below inside (had_op nodes now place op w.grown inside h) (λ s. not_here (symbol_on nodes now place w.grown inside s));
       ready = λ op h. record {
@@ -302,8 +306,8 @@ parts_hold nodes t marks now place wt a g inside mk P h =
     let before = parts_before nodes place wt inside in
     let below = below_of nodes t marks a place mk in
     subst (All P) (sym parts) (λ k d l.
-        let p = get_or (parts_at nodes place) k d in
-        h p (before k d l) (marked_of nodes t marks a p (deeper place p below (k, l, get_or_default (parts_at nodes place) k p d l))))
+    let p = get_or (parts_at nodes place) k d in
+    h p (before k d l) (marked_of nodes t marks a p (deeper place p below (k, l, get_or_default (parts_at nodes place) k p d l))))
 
 -- where the walk starts
 pub walked_start : (nodes : List Node) (t : ℕ) (marks : List Flag) (fresh : ℕ) → WellTyped nodes → Walked nodes t marks fresh nodes [] [] [] fresh 0
@@ -349,7 +353,7 @@ walked_step nodes t marks fresh now new lowered pairs more before after us first
     let mk : Marked marks place = sym em ∙ mt in
     let below = below_of nodes t marks a place mk in
     let base : Walked nodes t marks fresh now (lowered ++ (place ∷ []) ∷ []) (pairs ++ paired place (place ∷ [])) before first (place + 1) =
-        walked_symbol nodes t marks fresh now now lowered pairs before before (place ∷ []) first first place w inside mk s (kept_step nodes t marks fresh now lowered pairs before first place w inside fr l mk s y) (kept_even nodes t marks fresh now lowered pairs before first place w ev a wt inside fr l mk below) (kept_goes nodes t marks fresh now lowered pairs before first place w inside fr l mk s y below) in
+    walked_symbol nodes t marks fresh now now lowered pairs before before (place ∷ []) first first place w inside mk s (kept_step nodes t marks fresh now lowered pairs before first place w inside fr l mk s y) (kept_even nodes t marks fresh now lowered pairs before first place w ev a wt inside fr l mk below) (kept_goes nodes t marks fresh now lowered pairs before first place w inside fr l mk s y below) in
     subst (λ x. Walked nodes t marks fresh new (lowered ++ us ∷ []) more after x (place + 1)) (sym ex)
     (subst (λ x. Walked nodes t marks fresh new (lowered ++ us ∷ []) x after first (place + 1)) (sym ep)
     (subst (λ x. Walked nodes t marks fresh new (lowered ++ us ∷ []) (pairs ++ paired place us) x first (place + 1)) (sym ec)

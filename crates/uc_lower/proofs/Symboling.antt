@@ -148,9 +148,9 @@ walked_symbol nodes t marks fresh now new lowered pairs before after us first ne
     let own : All (Contains (seconds both)) us = all_listed us (seconds both) new_in in
     let new_symbol : IsSymbol new place = symbol_on now new place g place_in symbol in
     let agree_back : (m n : Model) → AgreeTo m n new marks all (place + 1) → AgreeTo m n now marks lowered place =
-        λ m n a j l mk s. means_back m n now new j (lows lowered j) g (in_now j l) (w.low j l mk).within (subst (Means m n new j) (earlier j l) (a j (omega (arith, l)) mk (symbol_on now new j g (in_now j l) s))) in
+    λ m n a j l mk s. means_back m n now new j (lows lowered j) g (in_now j l) (w.low j l mk).within (subst (Means m n new j) (earlier j l) (a j (omega (arith, l)) mk (symbol_on now new j g (in_now j l) s))) in
     let bounded_back : (n : Model) → AreBounded n new marks all (place + 1) → AreBounded n now marks lowered place =
-        λ n a j l mk s. ranges_back n now new j (lows lowered j) g (in_now j l) (w.low j l mk).within (subst (InRanges (leaves (type_at new j)) new n) (earlier j l) (a j (omega (arith, l)) mk (symbol_on now new j g (in_now j l) s))) in
+    λ n a j l mk s. ranges_back n now new j (lows lowered j) g (in_now j l) (w.low j l mk).within (subst (InRanges (leaves (type_at new j)) new n) (earlier j l) (a j (omega (arith, l)) mk (symbol_on now new j g (in_now j l) s))) in
     record {
       grown = grows_on nodes now new w.grown g;
       count = omega (arith, length-append lowered (us ∷ []), w.count);
@@ -164,7 +164,7 @@ walked_symbol nodes t marks fresh now new lowered pairs before after us first ne
           (λ mk. a place (omega arith) mk new_symbol);
       stays = next_place (λ j. Marked marks j → All (IsLowered (seconds both) new) (lows all j)) place
           (λ j l mk. subst (All (IsLowered (seconds both) new)) (sym (earlier j l))
-              (All-weaker (IsLowered (seconds pairs) new) (IsLowered (seconds both) new) (lowered_more (seconds pairs) (seconds both) new old_in) (lows lowered j) (all_kept_lowered (seconds pairs) now new (lows lowered j) w.grown.well g (w.low j l mk).within (w.stays j l mk))))
+          (All-weaker (IsLowered (seconds pairs) new) (IsLowered (seconds both) new) (lowered_more (seconds pairs) (seconds both) new old_in) (lows lowered j) (all_kept_lowered (seconds pairs) now new (lows lowered j) w.grown.well g (w.low j l mk).within (w.stays j l mk))))
           (λ mk. subst (All (IsLowered (seconds both) new)) (sym here) (q.lowered (seconds both) own));
       listed = next_place (λ j. Marked marks j → IsSymbol new j → stand_ins both j ≡ lows all j) place
           (λ j l mk s. stand_append pairs (paired place us) j ∙ ap (λ x. stand_ins pairs j ++ x) (stand_other place j us (λ e. absurd (omega (arith, e, l)))) ∙ append-nil (stand_ins pairs j) ∙ w.listed j l mk (symbol_back now new j g (in_now j l) s) ∙ sym (earlier j l))
@@ -186,41 +186,43 @@ walked_symbol nodes t marks fresh now new lowered pairs before after us first ne
           let o = go m n f r.1 in
           let more = o.0 in
           let same : (u : ℕ) → Contains (seconds pairs) u → value more now u ≡ value n now u = λ u c.
-              let p = seconds_at marks first now place pairs w.mapped u c in
-              let a = r.1.fit u p.symbol.number p.symbol.ty c p.symbol.has in
-              let b = p.below p.symbol.number p.symbol.ty p.symbol.has in
-              symbol_value more now u p.symbol.number p.symbol.ty a.value w.grown.well p.there p.symbol.has (o.1.keeps p.symbol.number a.value b a.is) a.fit
-              ∙ sym (symbol_value n now u p.symbol.number p.symbol.ty a.value w.grown.well p.there p.symbol.has a.is a.fit) in
-          (more, record {
-            keeps = λ k v l e. o.1.keeps k v (omega (arith, l, w.far)) (r.1.keeps k v l e);
-            agrees = next_place (λ j. Marked marks j → IsSymbol new j → Means m more new j (lows all j)) place
-                (λ j l mk s.
-                    let old_s = symbol_back now new j g (in_now j l) s in
-                    let ls = lows lowered j in
-                    let values : values_at more now ls ≡ values_at n now ls =
-                        same_map (value more now) (value n now) (Contains (seconds pairs)) ls same (all_listed ls (seconds pairs) (λ x c. stand_listed pairs j x (subst (λ xs. Contains xs x) (sym (w.listed j l mk old_s)) c))) in
-                    subst (Means m more new j) (sym (earlier j l)) (means_on m more now new j ls g (in_now j l) (w.low j l mk).within (values ∙ r.1.agrees j l mk old_s)))
-                (λ mk s. subst (Means m more new place) (sym here) o.1.means);
-            fit = λ u number ty c has. elim (Contains-append_cases (seconds pairs) us u (subst (λ xs. Contains xs u) is c)) [
-              | inl x ↦
-                  let p = seconds_at marks first now place pairs w.mapped u x in
-                  let had = had_op now new u (Symbol number ty) g p.there has in
-                  let a = r.1.fit u number ty x had in
-                  record { value = a.value; is = o.1.keeps number a.value (p.below number ty had) a.is; fit = a.fit }
-              | inr x ↦ o.1.fit u number ty x has
-            ];
-          });
+          let p = seconds_at marks first now place pairs w.mapped u c in
+          let a = r.1.fit u p.symbol.number p.symbol.ty c p.symbol.has in
+          let b = p.below p.symbol.number p.symbol.ty p.symbol.has in
+          symbol_value more now u p.symbol.number p.symbol.ty a.value w.grown.well p.there p.symbol.has (o.1.keeps p.symbol.number a.value b a.is) a.fit
+          ∙ sym (symbol_value n now u p.symbol.number p.symbol.ty a.value w.grown.well p.there p.symbol.has a.is a.fit) in (
+            more,
+            record {
+              keeps = λ k v l e. o.1.keeps k v (omega (arith, l, w.far)) (r.1.keeps k v l e);
+              agrees = next_place (λ j. Marked marks j → IsSymbol new j → Means m more new j (lows all j)) place
+                  (λ j l mk s.
+                  let old_s = symbol_back now new j g (in_now j l) s in
+                  let ls = lows lowered j in
+                  let values : values_at more now ls ≡ values_at n now ls =
+                  same_map (value more now) (value n now) (Contains (seconds pairs)) ls same (all_listed ls (seconds pairs) (λ x c. stand_listed pairs j x (subst (λ xs. Contains xs x) (sym (w.listed j l mk old_s)) c))) in
+                  subst (Means m more new j) (sym (earlier j l)) (means_on m more now new j ls g (in_now j l) (w.low j l mk).within (values ∙ r.1.agrees j l mk old_s)))
+                  (λ mk s. subst (Means m more new place) (sym here) o.1.means);
+              fit = λ u number ty c has. elim (Contains-append_cases (seconds pairs) us u (subst (λ xs. Contains xs u) is c)) [
+                | inl x ↦
+                    let p = seconds_at marks first now place pairs w.mapped u x in
+                    let had = had_op now new u (Symbol number ty) g p.there has in
+                    let a = r.1.fit u number ty x had in
+                    record { value = a.value; is = o.1.keeps number a.value (p.below number ty had) a.is; fit = a.fit }
+                | inr x ↦ o.1.fit u number ty x has
+              ];
+            },
+          );
       even = λ u v number r s cu cv hu hv.
           let inside_old : (x : ℕ) → Contains (seconds pairs) x → x < length now = λ x c. seconds_within marks first now place pairs w.mapped x c in
           elim (Contains-append_cases (seconds pairs) us u (subst (λ xs. Contains xs u) is cu)) [
             | inl x ↦ elim (Contains-append_cases (seconds pairs) us v (subst (λ xs. Contains xs v) is cv)) [
-                | inl y ↦ w.even u v number r s x y (had_op now new u (Symbol number r) g (inside_old u x) hu) (had_op now new v (Symbol number s) g (inside_old v y) hv)
-                | inr y ↦ sym (ev.cross v u number s r y x hv (had_op now new u (Symbol number r) g (inside_old u x) hu))
-              ]
+              | inl y ↦ w.even u v number r s x y (had_op now new u (Symbol number r) g (inside_old u x) hu) (had_op now new v (Symbol number s) g (inside_old v y) hv)
+              | inr y ↦ sym (ev.cross v u number s r y x hv (had_op now new u (Symbol number r) g (inside_old u x) hu))
+            ]
             | inr x ↦ elim (Contains-append_cases (seconds pairs) us v (subst (λ xs. Contains xs v) is cv)) [
-                | inl y ↦ ev.cross u v number r s x y hu (had_op now new v (Symbol number s) g (inside_old v y) hv)
-                | inr y ↦ ev.own u v number r s x y hu hv
-              ]
+              | inl y ↦ ev.cross u v number r s x y hu (had_op now new v (Symbol number s) g (inside_old v y) hv)
+              | inr y ↦ ev.own u v number r s x y hu hv
+            ]
           ];
       kept = λ u number ty c has. elim (Contains-append_cases (seconds pairs) us u (subst (λ xs. Contains xs u) is c)) [
         | inl x ↦ w.kept u number ty x (had_op now new u (Symbol number ty) g (seconds_within marks first now place pairs w.mapped u x) has)

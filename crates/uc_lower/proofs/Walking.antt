@@ -146,9 +146,9 @@ walked_on nodes t marks fresh now new lowered pairs conditions us next place w g
     let place_in : place < length now = omega (arith, inside, longer nodes now w.grown) in
     let all = lowered ++ us ∷ [] in
     let agree_back : (m n : Model) → AgreeTo m n new marks all (place + 1) → AgreeTo m n now marks lowered place =
-        λ m n a j l mk s. means_back m n now new j (lows lowered j) g (in_now j l) (w.low j l mk).within (subst (Means m n new j) (before j l) (a j (omega (arith, l)) mk (symbol_on now new j g (in_now j l) s))) in
+    λ m n a j l mk s. means_back m n now new j (lows lowered j) g (in_now j l) (w.low j l mk).within (subst (Means m n new j) (before j l) (a j (omega (arith, l)) mk (symbol_on now new j g (in_now j l) s))) in
     let bounded_back : (n : Model) → AreBounded n new marks all (place + 1) → AreBounded n now marks lowered place =
-        λ n a j l mk s. ranges_back n now new j (lows lowered j) g (in_now j l) (w.low j l mk).within (subst (InRanges (leaves (type_at new j)) new n) (before j l) (a j (omega (arith, l)) mk (symbol_on now new j g (in_now j l) s))) in
+    λ n a j l mk s. ranges_back n now new j (lows lowered j) g (in_now j l) (w.low j l mk).within (subst (InRanges (leaves (type_at new j)) new n) (before j l) (a j (omega (arith, l)) mk (symbol_on now new j g (in_now j l) s))) in
     record {
       grown = grows_on nodes now new w.grown g;
       count = omega (arith, length-append lowered (us ∷ []), w.count);
@@ -175,14 +175,16 @@ walked_on nodes t marks fresh now new lowered pairs conditions us next place w g
           (λ mk s. absurd (no_symbol mk (symbol_back now new place g place_in s)));
       met = λ n a. hold_kept n now new conditions g w.within (w.met n (bounded_back n a));
       there = λ m f.
-          let r = w.there m f in
-          (r.0, record {
-            keeps = r.1.keeps;
-            agrees = next_place (λ j. Marked marks j → IsSymbol new j → Means m r.0 new j (lows all j)) place
-                (λ j l mk s. subst (Means m r.0 new j) (sym (before j l)) (means_on m r.0 now new j (lows lowered j) g (in_now j l) (w.low j l mk).within (r.1.agrees j l mk (symbol_back now new j g (in_now j l) s))))
-                (λ mk s. absurd (no_symbol mk (symbol_back now new place g place_in s)));
-            fit = λ u number ty c has. r.1.fit u number ty c (had_op now new u (Symbol number ty) g (seconds_within marks next now place pairs w.mapped u c) has);
-          });
+          let r = w.there m f in (
+            r.0,
+            record {
+              keeps = r.1.keeps;
+              agrees = next_place (λ j. Marked marks j → IsSymbol new j → Means m r.0 new j (lows all j)) place
+                  (λ j l mk s. subst (Means m r.0 new j) (sym (before j l)) (means_on m r.0 now new j (lows lowered j) g (in_now j l) (w.low j l mk).within (r.1.agrees j l mk (symbol_back now new j g (in_now j l) s))))
+                  (λ mk s. absurd (no_symbol mk (symbol_back now new place g place_in s)));
+              fit = λ u number ty c has. r.1.fit u number ty c (had_op now new u (Symbol number ty) g (seconds_within marks next now place pairs w.mapped u c) has);
+            },
+          );
       even = λ u v number r s cu cv hu hv. w.even u v number r s cu cv (had_op now new u (Symbol number r) g (seconds_within marks next now place pairs w.mapped u cu) hu) (had_op now new v (Symbol number s) g (seconds_within marks next now place pairs w.mapped v cv) hv);
       kept = λ u number ty c has. w.kept u number ty c (had_op now new u (Symbol number ty) g (seconds_within marks next now place pairs w.mapped u c) has);
     }

@@ -42,12 +42,7 @@ pub(crate) fn conjunction(
     ensures grown { Grows terms.old terms.new }
 {
     if tests.is_empty() {
-        let t = made(
-            alloc,
-            terms,
-            Op::Const(Ty::Bool, Value::Bool(true)),
-            &[],
-        )?;
+        let t = made(alloc, terms, Op::Const(Ty::Bool, Value::Bool(true)), &[])?;
         return Ok(t);
     }
     let t = made(alloc, terms, Op::And, tests)?;

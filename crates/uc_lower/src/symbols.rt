@@ -87,12 +87,7 @@ pub(crate) fn following(number: u32) -> Result<u32, AllocError>
 }
 
 /// A symbol that stands for a field.
-fn symbol(
-    alloc: Global,
-    terms: &mut Terms,
-    number: u32,
-    leaf: &Ty,
-) -> Result<TermId, AllocError>
+fn symbol(alloc: Global, terms: &mut Terms, number: u32, leaf: &Ty) -> Result<TermId, AllocError>
     requires well { WellTyped terms.old }
     requires leaf { IsBitsType leaf.now }
     requires valid { Valid leaf.now }
