@@ -46,7 +46,9 @@ use Rattle.uc_lower.proofs.Building.{no_types, no_items, All-front, All-back}
 use Rattle.uc_lower.proofs.Inner.{node_facts}
 use Rattle.uc_lower.proofs.Marking.{below_of, marked_of}
 use Rattle.uc_lower.proofs.Models.{put, put_here, put_other}
-use Rattle.uc_lower.proofs.Walking.{AgreeTo, FitsAt, Found, IsPair, AreBounded, Walked, symbol_on, symbol_back, seconds_within, coded_kept}
+use Rattle.uc_lower.specs.Bits.{IsSymbolBelow, HasNoMoreBits}
+use Rattle.uc_lower.proofs.Bits.{bits_kept, fewer_bits}
+use Rattle.uc_lower.proofs.Walking.{IsPlace, AgreeTo, FitsAt, Found, IsPair, AreBounded, Walked, symbol_on, symbol_back, seconds_within, coded_kept}
 use Rattle.uc_lower.proofs.Symboling.{symbol_value}
 use Rattle.uc_lower.proofs.Chosen.{condition_length, one_condition}
 
@@ -432,3 +434,19 @@ ended nodes t marks fresh now lowered pairs conditions next place w e well two t
 
 pub no_vec_items : (xs : List ℕ) (b : Flag) (n : ℕ) → n ≡ length xs → b ≡ nat_eq n 0 → b ≡ true → xs ≡ []
 no_vec_items xs b n e h g = no_items xs b (h ∙ ap (λ k. nat_eq k 0) e) g
+
+pub no_more_bits : (nodes : List Node) (t : ℕ) (marks : List Flag) (fresh : ℕ) (now new : List Node) (lowered : List (List ℕ)) (pairs : List Pair) (conditions : List ℕ) (next g u : ℕ)
+    → Ended nodes t marks fresh now lowered pairs conditions next → RootLow now lowered t g → IsGoal now new conditions g u → HasNoMoreBits nodes t new u
+no_more_bits nodes t marks fresh now new lowered pairs conditions next g u e r k us ts a h c =
+    let w = e.walked in
+    let low = goal_lowered nodes t marks fresh now new lowered pairs conditions next g u e r k in
+    let q = w.weight in
+    let in_seconds : (x : ℕ) → Contains us x → Contains (seconds pairs) x = λ x d.
+    let y = All-contains (IsSymbolBelow new u) us x h d in
+    (low x y.below).listed y.symbol.number y.symbol.ty y.symbol.has in
+    let in_ts : (x : ℕ) → Contains q.places x → Contains ts x = λ x d.
+    let y = All-contains (IsPlace marks now (length marks)) q.places x q.each d in
+    c x (record { below = below_of nodes t marks e.below x y.marked; symbol = symbol_back nodes now x w.grown (in_nodes nodes marks (t ∷ []) e.below x y.before) y.symbol }) in
+    let places_in : Within nodes q.places = All-weaker (IsPlace marks now (length marks)) (λ j. j < length nodes) (λ j y. in_nodes nodes marks (t ∷ []) e.below j y.before) q.places q.each in
+    let seconds_in : Within now (seconds pairs) = λ i d l. seconds_within marks next now (length marks) pairs w.mapped (get_or (seconds pairs) i d) (i, l, get_or_default (seconds pairs) i (get_or (seconds pairs) i d) d l) in
+    omega (arith, fewer_bits new us (seconds pairs) a in_seconds, bits_kept now new (seconds pairs) k.grown seconds_in, q.same, bits_kept nodes now q.places w.grown places_in, fewer_bits nodes q.places ts q.apart in_ts)

@@ -12,3 +12,4 @@ pub mod Symboling
 pub mod Marking
 pub mod Stepping
 pub mod Ending
+pub mod Bits

@@ -34,7 +34,7 @@ use Rattle.uc_lower.proofs.Building.{one_lowered, no_types}
 use Rattle.uc_lower.proofs.Inner.{NodeFacts, node_facts, two_parts, three_parts, one_low, one_means}
 use Rattle.uc_lower.proofs.Standing.{symbol_lowered}
 use Rattle.uc_lower.proofs.Models.{put, put_all, put_all-other, put_all-first, put_all-rest}
-use Rattle.uc_lower.proofs.Walking.{AgreeTo, FitsAt, Found, IsPair, AreBounded, Walked, symbol_on, symbol_back, walked_on}
+use Rattle.uc_lower.proofs.Walking.{IsPlace, AgreeTo, FitsAt, Found, IsPair, AreBounded, Walked, symbol_on, symbol_back, walked_on}
 use Rattle.uc_lower.proofs.Symboling.{symbol_value, SymbolStep, EvenStep, GoesOn, seconds_at, walked_symbol}
 use Rattle.uc_terms.proofs.Walk.{marked_within}
 use Rattle.uc_lower.proofs.Marking.{only_at, below_of, marked_of}
@@ -328,8 +328,14 @@ walked_start nodes t marks fresh w = record {
   met = λ n a. All-nil (λ c. truth_of (value n nodes c) ≡ true);
   even = λ u v number r s cu cv. absurd (omega (arith, cu.1));
   kept = λ u number ty c. absurd (omega (arith, c.1));
+  weight = record { places = []; apart = tt; each = All-nil (IsPlace marks nodes 0); same = refl };
   there = λ m f. (m, record { keeps = λ k v l e. e; agrees = λ j l. absurd (omega (arith, l)); fit = λ u number ty c has. absurd (omega (arith, c.1)) });
 }
+
+place_has_bits : (nodes : List Node) (t : ℕ) (marks : List Flag) (fresh : ℕ) (now : List Node) (lowered : List (List ℕ)) (pairs : List Pair) (conditions : List ℕ) (next place : ℕ)
+    → Walked nodes t marks fresh now lowered pairs conditions next place → AreSubterms nodes (t ∷ []) marks → IsFiniteTerm nodes t → place < length marks → Marked marks place → HasBits (type_at now place)
+place_has_bits nodes t marks fresh now lowered pairs conditions next place w a f l mk =
+    subst HasBits (sym (kept_type nodes now place w.grown (omega (arith, l, a.within)))) (f.bits place (below_of nodes t marks a place mk))
 
 pub walked_step : (nodes : List Node) (t : ℕ) (marks : List Flag) (fresh : ℕ) (now new : List Node) (lowered : List (List ℕ)) (pairs more : List Pair) (before after us : List ℕ) (first next place : ℕ) (marked : Flag)
     → Walked nodes t marks fresh now lowered pairs before first place → EvenlyTyped nodes t → WellTyped nodes → AreSubterms nodes (t ∷ []) marks → IsFiniteTerm nodes t → IsFresh nodes marks (length marks) fresh → place < length marks → marked ≡ slice_index_or marks place false
@@ -353,7 +359,7 @@ walked_step nodes t marks fresh now new lowered pairs more before after us first
     let mk : Marked marks place = sym em ∙ mt in
     let below = below_of nodes t marks a place mk in
     let base : Walked nodes t marks fresh now (lowered ++ (place ∷ []) ∷ []) (pairs ++ paired place (place ∷ [])) before first (place + 1) =
-    walked_symbol nodes t marks fresh now now lowered pairs before before (place ∷ []) first first place w inside mk s (kept_step nodes t marks fresh now lowered pairs before first place w inside fr l mk s y) (kept_even nodes t marks fresh now lowered pairs before first place w ev a wt inside fr l mk below) (kept_goes nodes t marks fresh now lowered pairs before first place w inside fr l mk s y below) in
+    walked_symbol nodes t marks fresh now now lowered pairs before before (place ∷ []) first first place w inside mk s (kept_step nodes t marks fresh now lowered pairs before first place w inside fr l mk s y) (kept_even nodes t marks fresh now lowered pairs before first place w ev a wt inside fr l mk below) (place_has_bits nodes t marks fresh now lowered pairs before first place w a f l mk) (kept_goes nodes t marks fresh now lowered pairs before first place w inside fr l mk s y below) in
     subst (λ x. Walked nodes t marks fresh new (lowered ++ us ∷ []) more after x (place + 1)) (sym ex)
     (subst (λ x. Walked nodes t marks fresh new (lowered ++ us ∷ []) x after first (place + 1)) (sym ep)
     (subst (λ x. Walked nodes t marks fresh new (lowered ++ us ∷ []) (pairs ++ paired place us) x first (place + 1)) (sym ec)
@@ -365,7 +371,7 @@ walked_step nodes t marks fresh now new lowered pairs more before after us first
     let mk : Marked marks place = sym em ∙ mt in
     let b : HasBits (type_at now place) = subst HasBits (sym (kept_type nodes now place w.grown inside)) (f.bits place (below_of nodes t marks a place mk)) in
     subst (λ x. Walked nodes t marks fresh new (lowered ++ us ∷ []) x after next (place + 1)) (sym ep)
-    (walked_symbol nodes t marks fresh now new lowered pairs before after us first next place w inside mk s (new_step fresh now new place us first next before after in_now q) (new_even nodes t marks fresh now new lowered pairs us before after first next place w q) (λ m n fit r. new_goes fresh now new place us first next before after w.grown.well in_now b q m n))
+    (walked_symbol nodes t marks fresh now new lowered pairs before after us first next place w inside mk s (new_step fresh now new place us first next before after in_now q) (new_even nodes t marks fresh now new lowered pairs us before after first next place w q) (subst HasBits (sym (kept_type now new place g in_now)) b) (λ m n fit r. new_goes fresh now new place us first next before after w.grown.well in_now b q m n))
 
 pub place_in : (nodes : List Node) (t : ℕ) (marks : List Flag) (fresh : ℕ) (now : List Node) (lowered : List (List ℕ)) (pairs : List Pair) (conditions : List ℕ) (next place : ℕ)
     → Walked nodes t marks fresh now lowered pairs conditions next place → AreSubterms nodes (t ∷ []) marks → place < length marks → place < length now

@@ -20,14 +20,16 @@ use Rattle.uc_terms.specs.Values.{value, values_at}
 use Rattle.uc_terms.specs.Subterms.{Marked, FitsTerm, IsSubterm}
 use Rattle.uc_lower.specs.Fields.{leaves, low_types, low_type, coded}
 use Rattle.uc_lower.specs.Ranges.{InRange}
-use Rattle.uc_lower.specs.Made.{Grows, Within, IsLowType, IsLowNode, IsLowered}
+use Rattle.uc_lower.specs.Made.{Grows, Within, IsLowType, IsLowNode, IsLowered, HasBits}
+use Rattle.uc_lower.specs.Bits.{bits_at, type_bits}
+use Rattle.uc_lower.proofs.Bits.{low_types-bits, bits_append, bits_kept}
 use Rattle.uc_lower.specs.Steps.{lows, IsLow, Means}
 use Rattle.uc_lower.specs.Symbols.{Hold, AreTruths, InRanges}
 use Rattle.uc_lower.specs.Lowering.{Pair, stand_ins, seconds, IsSymbol}
 use Rattle.uc_lower.specs.Walk.{paired}
 use Rattle.uc_lower.proofs.Growing.{grows_not, grows_on, longer, kept_within, kept_type, kept_types, kept_value, kept_values, kept_op, had_op, all_kept_lowered, one_op}
 use Rattle.uc_lower.proofs.Inner.{node_facts}
-use Rattle.uc_lower.proofs.Walking.{AgreeTo, FitsAt, Found, IsPair, AreBounded, Walked, lows_before, lows_here, next_place, symbol_on, symbol_back, low_on, means_on, means_back, ranges_on, ranges_back, pair_on, of_seconds, seconds_within}
+use Rattle.uc_lower.proofs.Walking.{IsPlace, Weighed, all_seconds, AgreeTo, FitsAt, Found, IsPair, AreBounded, Walked, lows_before, lows_here, next_place, symbol_on, symbol_back, low_on, means_on, means_back, ranges_on, ranges_back, pair_on, of_seconds, seconds_within}
 
 seconds_more : (pairs : List Pair) (t : ℕ) (us : List ℕ) → seconds (pairs ++ paired t us) ≡ seconds pairs ++ us
 seconds_more [] t [] = refl
@@ -129,11 +131,25 @@ pairs_of marks next new place t (u ∷ us) l mk i s b y below =
     (record { before = l; marked = mk; inside = i; first = s; there = All-head (λ x. x < length new) u us b; second = All-head (IsSymbol new) u us y; below = λ number ty has. below u number ty (0, omega arith, refl) has })
     (pairs_of marks next new place t us l mk i s (All-tail (λ x. x < length new) u us b) (All-tail (IsSymbol new) u us y) (λ v number ty c has. below v number ty (Contains-append_right (u ∷ []) us v c) has))
 
+weigh_symbol : (marks : List Flag) (first : ℕ) (now new : List Node) (place : ℕ) (pairs : List Pair) (us : List ℕ) → Grows now new → place < length now → Marked marks place → IsSymbol new place → IsLow new place us → HasBits (type_at new place)
+    → All (IsPair marks first now place) pairs → Weighed marks now pairs place → Weighed marks new (pairs ++ paired place us) (place + 1)
+weigh_symbol marks first now new place pairs us g inside mk s low b h w =
+    let low_in : Within now w.places = All-weaker (IsPlace marks now place) (λ j. j < length now) (λ j q. omega (arith, q.before, inside)) w.places w.each in
+    let old : bits_at new (seconds pairs) ≡ bits_at new w.places = bits_kept now new (seconds pairs) g (all_seconds marks first now place pairs h) ∙ w.same ∙ sym (bits_kept now new w.places g low_in) in
+    let own : bits_at new us ≡ bits_at new (place ∷ []) = ap type_bits low.types ∙ low_types-bits (type_at new place) b in
+    record {
+      places = place ∷ w.places;
+      apart = ((λ c. absurd (omega (arith, (All-contains (IsPlace marks now place) w.places place w.each c).before))), w.apart);
+      each = All-cons (IsPlace marks new (place + 1)) place w.places (record { before = omega arith; marked = mk; symbol = s })
+          (All-weaker (IsPlace marks now place) (IsPlace marks new (place + 1)) (λ j q. record { before = omega (arith, q.before); marked = q.marked; symbol = symbol_on now new j g (omega (arith, q.before, inside)) q.symbol }) w.places w.each);
+      same = ap (bits_at new) (seconds_more pairs place us) ∙ omega (arith, bits_append new (seconds pairs) us, old, own);
+    }
+
 pub walked_symbol : (nodes : List Node) (t : ℕ) (marks : List Flag) (fresh : ℕ) (now new : List Node) (lowered : List (List ℕ)) (pairs : List Pair) (before after us : List ℕ) (first next place : ℕ)
-    → Walked nodes t marks fresh now lowered pairs before first place → place < length nodes → Marked marks place → IsSymbol now place → SymbolStep fresh now new place us first next before after → EvenStep nodes t fresh now new pairs us
+    → Walked nodes t marks fresh now lowered pairs before first place → place < length nodes → Marked marks place → IsSymbol now place → SymbolStep fresh now new place us first next before after → EvenStep nodes t fresh now new pairs us → HasBits (type_at new place)
     → ((m n : Model) → FitsTerm m nodes t → Found m n fresh now marks lowered pairs place → (more : Model) × GoesOn m n more fresh first new place us)
     → Walked nodes t marks fresh new (lowered ++ us ∷ []) (pairs ++ paired place us) after next (place + 1)
-walked_symbol nodes t marks fresh now new lowered pairs before after us first next place w inside mark symbol q ev go =
+walked_symbol nodes t marks fresh now new lowered pairs before after us first next place w inside mark symbol q ev hb go =
     let g = q.grown in
     let here = lows_here lowered us place w.count in
     let earlier : (j : ℕ) → j < place → lows (lowered ++ us ∷ []) j ≡ lows lowered j = λ j l. lows_before lowered us place j w.count l in
@@ -224,6 +240,7 @@ walked_symbol nodes t marks fresh now new lowered pairs before after us first ne
               | inr y ↦ ev.own u v number r s x y hu hv
             ]
           ];
+      weight = weigh_symbol marks first now new place pairs us g place_in mark new_symbol q.low hb w.mapped w.weight;
       kept = λ u number ty c has. elim (Contains-append_cases (seconds pairs) us u (subst (λ xs. Contains xs u) is c)) [
         | inl x ↦ w.kept u number ty x (had_op now new u (Symbol number ty) g (seconds_within marks first now place pairs w.mapped u x) has)
         | inr x ↦ ev.kept u number ty x has

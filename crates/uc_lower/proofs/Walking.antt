@@ -26,6 +26,8 @@ use Rattle.uc_lower.specs.Made.{Grows, Within, IsLowNode, IsLowered}
 use Rattle.uc_lower.specs.Steps.{lows, IsLow, Means}
 use Rattle.uc_lower.specs.Symbols.{Hold, AreTruths, InRanges}
 use Rattle.uc_lower.specs.Lowering.{Pair, stand_ins, seconds, IsSymbol}
+use Rattle.uc_lower.specs.Bits.{bits_at, AreApart}
+use Rattle.uc_lower.proofs.Bits.{bits_kept}
 use Rattle.uc_lower.proofs.Growing.{grows_not, grows_on, longer, kept_within, kept_type, kept_types, kept_value, kept_values, kept_op, had_op, all_kept_lowered, one_op}
 use Rattle.uc_lower.proofs.Inner.{node_facts}
 use Rattle.uc_lower.proofs.Standing.{hold_kept, hold_back, truths_kept}
@@ -59,6 +61,19 @@ pub record IsPair (marks : List Flag) (next : ℕ) (now : List Node) (place : �
 abbrev pub AreBounded : Model → List Node → List Flag → List (List ℕ) → ℕ → Type 0
 AreBounded n now marks lowered place = (j : ℕ) → j < place → Marked marks j → IsSymbol now j → InRanges (leaves (type_at now j)) now n (lows lowered j)
 
+-- a symbol before a place
+pub record IsPlace (marks : List Flag) (now : List Node) (place j : ℕ) : Type 0 where
+  pub before : j < place
+  pub marked : Marked marks j
+  pub symbol : IsSymbol now j
+
+-- what stands for the symbols has as many bits as they have
+pub record Weighed (marks : List Flag) (now : List Node) (pairs : List Pair) (place : ℕ) : Type 0 where
+  pub places : List ℕ
+  pub apart : AreApart places
+  pub each : All (IsPlace marks now place) places
+  pub same : bits_at now (seconds pairs) ≡ bits_at now places
+
 -- the subterms before a place are lowered
 pub record Walked (nodes : List Node) (t : ℕ) (marks : List Flag) (fresh : ℕ) (now : List Node) (lowered : List (List ℕ)) (pairs : List Pair) (conditions : List ℕ) (next place : ℕ) : Type 0 where
   pub grown : Grows nodes now
@@ -77,6 +92,7 @@ pub record Walked (nodes : List Node) (t : ℕ) (marks : List Flag) (fresh : ℕ
   pub met : (n : Model) → AreBounded n now marks lowered place → Hold n now conditions
   pub there : (m : Model) → FitsTerm m nodes t → (n : Model) × Found m n fresh now marks lowered pairs place
   pub even : (u v number : ℕ) (r s : Ty) → Contains (seconds pairs) u → Contains (seconds pairs) v → HasOp now u (Symbol number r) → HasOp now v (Symbol number s) → r ≡ s
+  pub weight : Weighed marks now pairs place
   pub kept : (u number : ℕ) (ty : Ty) → Contains (seconds pairs) u → HasOp now u (Symbol number ty) → number < fresh → IsSubterm nodes t u
 
 pub lows_before : (lowered : List (List ℕ)) (us : List ℕ) (place j : ℕ) → length lowered ≡ place → j < place → lows (lowered ++ us ∷ []) j ≡ lows lowered j
@@ -134,6 +150,19 @@ of_seconds P pairs h u c = All-contains P (seconds pairs) u (All-map P (λ (p : 
 pub seconds_within : (marks : List Flag) (next : ℕ) (now : List Node) (place : ℕ) (pairs : List Pair) → All (IsPair marks next now place) pairs → (u : ℕ) → Contains (seconds pairs) u → u < length now
 seconds_within marks next now place pairs h = of_seconds (λ u. u < length now) pairs (All-weaker (IsPair marks next now place) (λ (p : Pair). p.1 < length now) (λ p q. q.there) pairs h)
 
+pub all_seconds : (marks : List Flag) (next : ℕ) (now : List Node) (place : ℕ) (pairs : List Pair) → All (IsPair marks next now place) pairs → Within now (seconds pairs)
+all_seconds marks next now place pairs h k d l = seconds_within marks next now place pairs h (get_or (seconds pairs) k d) (k, l, get_or_default (seconds pairs) k (get_or (seconds pairs) k d) d l)
+
+pub weigh_on : (marks : List Flag) (next : ℕ) (now new : List Node) (place : ℕ) (pairs : List Pair) → Grows now new → place ≤ length now → All (IsPair marks next now place) pairs → Weighed marks now pairs place → Weighed marks new pairs (place + 1)
+weigh_on marks next now new place pairs g inside h w =
+    let within : Within now w.places = All-weaker (IsPlace marks now place) (λ j. j < length now) (λ j q. omega (arith, q.before, inside)) w.places w.each in
+    record {
+      places = w.places;
+      apart = w.apart;
+      each = All-weaker (IsPlace marks now place) (IsPlace marks new (place + 1)) (λ j q. record { before = omega (arith, q.before); marked = q.marked; symbol = symbol_on now new j g (omega (arith, q.before, inside)) q.symbol }) w.places w.each;
+      same = bits_kept now new (seconds pairs) g (all_seconds marks next now place pairs h) ∙ w.same ∙ sym (bits_kept now new w.places g within);
+    }
+
 -- the next place, where it is no symbol
 pub walked_on : (nodes : List Node) (t : ℕ) (marks : List Flag) (fresh : ℕ) (now new : List Node) (lowered : List (List ℕ)) (pairs : List Pair) (conditions us : List ℕ) (next place : ℕ)
     → Walked nodes t marks fresh now lowered pairs conditions next place → Grows now new → place < length nodes → (Marked marks place → IsSymbol now place → ⊥)
@@ -186,5 +215,6 @@ walked_on nodes t marks fresh now new lowered pairs conditions us next place w g
             },
           );
       even = λ u v number r s cu cv hu hv. w.even u v number r s cu cv (had_op now new u (Symbol number r) g (seconds_within marks next now place pairs w.mapped u cu) hu) (had_op now new v (Symbol number s) g (seconds_within marks next now place pairs w.mapped v cv) hv);
+      weight = weigh_on marks next now new place pairs g (omega (arith, place_in)) w.mapped w.weight;
       kept = λ u number ty c has. w.kept u number ty c (had_op now new u (Symbol number ty) g (seconds_within marks next now place pairs w.mapped u c) has);
     }

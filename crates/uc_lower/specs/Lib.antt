@@ -5,3 +5,4 @@ pub mod Steps
 pub mod Symbols
 pub mod Lowering
 pub mod Walk
+pub mod Bits

@@ -12,6 +12,7 @@ ghost use Rattle.uc_lower.specs.Made.{Grows, Within, HasBits};
 ghost use Rattle.uc_lower.specs.Steps.{IsLowerable};
 ghost use Rattle.uc_lower.specs.Symbols.{AreTruths};
 ghost use Rattle.uc_lower.specs.Lowering.{IsSymbol, IsFiniteTerm, CorrespondBy, IsMapOf, IsLoweredTerm};
+ghost use Rattle.uc_lower.specs.Bits.{HasNoMoreBits};
 ghost use Rattle.uc_lower.specs.Walk.{is_symbol, IsFresh, paired, IsStep, IsGoal};
 
 use crate::build::conjunction;
@@ -40,6 +41,7 @@ pub fn lower(alloc: Global, terms: &mut Terms, t: TermId) -> Result<Lowered, All
     ensures map { IfOk result (λ l. IsMapOf terms.old t terms.new l.goal l.map.pairs) }
     ensures even { IfOk result (λ l. EvenlyTyped terms.new l.goal) }
     ensures lowered { IfOk result (λ l. IsLoweredTerm terms.new l.goal) }
+    ensures bits { IfOk result (λ l. HasNoMoreBits terms.old t terms.new l.goal) }
     ensures grown { Grows terms.old terms.new }
     ensures kept { KeepsValues terms.old terms.new }
 {
@@ -56,6 +58,7 @@ fn walk(alloc: Global, terms: &mut Terms, t: TermId) -> Result<Lowered, AllocErr
     ensures map { IfOk result (λ l. IsMapOf terms.old t terms.new l.goal l.map.pairs) }
     ensures even { IfOk result (λ l. EvenlyTyped terms.new l.goal) }
     ensures lowered { IfOk result (λ l. IsLoweredTerm terms.new l.goal) }
+    ensures bits { IfOk result (λ l. HasNoMoreBits terms.old t terms.new l.goal) }
     ensures grown { Grows terms.old terms.new }
 {
     let _well_typed = terms.nodes();

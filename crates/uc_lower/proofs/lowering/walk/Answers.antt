@@ -7,7 +7,7 @@ use Rattle.uc_lower.specs.Lowering.{CorrespondBy, IsMapOf}
 use Rattle.uc_lower.proofs.Growing.{grows_not}
 use Rattle.uc_lower.proofs.Walking.{Walked}
 use Rattle.uc_lower.proofs.Stepping.{walked_start, walked_step, lowerable, place_bits, place_in}
-use Rattle.uc_lower.proofs.Ending.{Ended, ended, RootLow, root_some, root_low, corresponds, mapped, evenly, lowered_term}
+use Rattle.uc_lower.proofs.Ending.{Ended, ended, RootLow, root_some, root_low, corresponds, mapped, evenly, lowered_term, no_more_bits}
 use Rattle.uc_lower.proofs.lowering.walk.Goals as goal
 
 pub subterms-requires : goal.subterms-requires
@@ -119,3 +119,10 @@ returns-clause-lowered c =
     let low : c.low_of.result.now ≡ lows c.loop-place.lowered.items c.args.t = c.low_of.ensures ∙ ap (λ x. lows x c.args.t) c.as_slice-done.ensures.value in
     let root : RootLow c.loop-place.terms c.loop-place.lowered.items c.args.t c.index-low_of-0.result = root_low c.args.terms.now c.args.t c.in_ok-marks.marks.items c.in_ok-next.next c.loop-place.terms c.loop-place.lowered.items c.loop-place.pairs.items c.loop-place.conditions.items c.loop-place.next c.index-low_of-0.result end (c.index-low_of-0.is ∙ ap (λ us. get_or us 0 c.index-low_of-0.result) low) in
     (lowered_term c.args.terms.now c.args.t c.in_ok-marks.marks.items c.in_ok-next.next c.loop-place.terms c.goal.new.terms c.loop-place.lowered.items c.loop-place.pairs.items c.loop-place.conditions.items c.loop-place.next c.index-low_of-0.result c.in_ok-goal.goal end root c.in_ok-goal.ensures.goal)
+
+pub returns-clause-bits : goal.returns-clause-bits
+returns-clause-bits c =
+    let end : Ended c.args.terms.now c.args.t c.in_ok-marks.marks.items c.in_ok-next.next c.loop-place.terms c.loop-place.lowered.items c.loop-place.pairs.items c.loop-place.conditions.items c.loop-place.next = ended c.args.terms.now c.args.t c.in_ok-marks.marks.items c.in_ok-next.next c.loop-place.terms c.loop-place.lowered.items c.loop-place.pairs.items c.loop-place.conditions.items c.loop-place.next c.loop-place.place c.loop-place.invariant (omega (arith, c.loop-place-test.false, c.loop-place.auto.place-end, c.len-place-end.ensures, c.in_ok-marks.marks.ok.0)) c.nodes-well_typed.ensures.well c.nodes-well_typed.ensures.shared c.requires.there c.requires.boolean c.requires.even c.requires.finite c.in_ok-marks.ensures in
+    let low : c.low_of.result.now ≡ lows c.loop-place.lowered.items c.args.t = c.low_of.ensures ∙ ap (λ x. lows x c.args.t) c.as_slice-done.ensures.value in
+    let root : RootLow c.loop-place.terms c.loop-place.lowered.items c.args.t c.index-low_of-0.result = root_low c.args.terms.now c.args.t c.in_ok-marks.marks.items c.in_ok-next.next c.loop-place.terms c.loop-place.lowered.items c.loop-place.pairs.items c.loop-place.conditions.items c.loop-place.next c.index-low_of-0.result end (c.index-low_of-0.is ∙ ap (λ us. get_or us 0 c.index-low_of-0.result) low) in
+    (no_more_bits c.args.terms.now c.args.t c.in_ok-marks.marks.items c.in_ok-next.next c.loop-place.terms c.goal.new.terms c.loop-place.lowered.items c.loop-place.pairs.items c.loop-place.conditions.items c.loop-place.next c.index-low_of-0.result c.in_ok-goal.goal end root c.in_ok-goal.ensures.goal)
