@@ -1,11 +1,11 @@
 -- How many bits terms have, and that what stands for a term has as many as the term.
-use Rattle.std.specs.Prelude.{◌≡◌, ℕ, ◌+◌, ◌<◌, ◌≤◌, List, [], ◌∷◌, ◌++◌, map, length, get_or, Option, Some, None, All, Contains, zero, suc}
+use Rattle.std.specs.Prelude.{◌≡◌, ℕ, ◌+◌, ◌<◌, ◌≤◌, List, [], ◌∷◌, ◌++◌, length, get_or, Option, Some, None, All, Contains, zero, suc}
 use Rattle.std.proofs.Common.{refl, sym, ap, ◌∙◌, subst, arith, inl, inr, append-nil}
 use Rattle.std.proofs.lemmas.List.{map-append}
 use Rattle.std.proofs.lemmas.List.Elements.{All-head, All-tail, All-cons, All-nil, Contains-append_left, Contains-append_right, Contains-append_cases}
 use Rattle.uc_values.specs.Types.{field_types}
 use Rattle.uc_values.specs.Sizes.{label_bits, bit_count, total_bits, both_bits, counts}
-use Rattle.uc_values.proofs.Widths.{bits-Rec, bits-Bool, bits-Bv, bits-Enum}
+use Rattle.uc_values.proofs.Widths.{bits-Rec, bits-Bv, bits-Enum}
 use Rattle.uc_values.specs.declared.ty.Field.{Field}
 use Rattle.uc_values.specs.declared.ty.Ty.{Ty}
 use Rattle.uc_values.specs.declared.ty.Ty.TheVariants.{Bool, Bv, Enum, Rec}

@@ -1,11 +1,11 @@
 -- What is made of lowered parts: conjunctions, tests and choices, field by field.
-use Rattle.std.specs.Prelude.{◌≡◌, ℕ, ◌+◌, ◌<◌, ◌≤◌, Bool as Flag, true, false, ◌&&◌, cond, List, [], ◌∷◌, ◌++◌, map, length, take, drop, get_or, nat_eq, slice_get, Some, All, zero, suc}
+use Rattle.std.specs.Prelude.{◌≡◌, ℕ, ◌+◌, ◌<◌, Bool as Flag, true, false, ◌&&◌, cond, List, [], ◌∷◌, ◌++◌, map, length, take, get_or, nat_eq, All, zero, suc}
 use Rattle.std.specs.Option.{option_map}
 use Rattle.std.specs.List.{list_all}
-use Rattle.std.proofs.Common.{refl, sym, ap, ◌∙◌, subst, arith, length-append}
+use Rattle.std.proofs.Common.{refl, sym, ap, ◌∙◌, subst, arith}
 use Rattle.std.proofs.lemmas.List.{length-map, map-append, take_more, take_all}
 use Rattle.std.proofs.lemmas.List.Folds.{list_all-append}
-use Rattle.std.proofs.lemmas.List.Elements.{All-append, All-cons, All-nil, All-head, All-tail, All-push, All-weaker}
+use Rattle.std.proofs.lemmas.List.Elements.{All-cons, All-nil, All-head, All-tail, All-push}
 use Rattle.uc_values.specs.Values.{truth_of}
 use Rattle.uc_values.specs.Sameness.{same}
 use Rattle.uc_values.specs.declared.ty.Ty.{Ty}
@@ -16,10 +16,10 @@ use Rattle.uc_ops.specs.declared.model.Model.{Model}
 use Rattle.uc_ops.specs.declared.op.Op.{Op}
 use Rattle.uc_ops.specs.declared.op.Op.TheVariants.{Const, And, Eq, Ite}
 use Rattle.uc_ops.specs.declared.node.Node.{Node}
-use Rattle.uc_ops.specs.Typing.{Suits, type_of, type_at, types_at}
+use Rattle.uc_ops.specs.Typing.{Suits, type_at, types_at}
 use Rattle.uc_ops.specs.Meaning.{apply}
 use Rattle.uc_ops.proofs.Lists.{slice_get-within}
-use Rattle.uc_terms.specs.Tables.{HasOp, WellTyped, Makes, parts_at, node_of}
+use Rattle.uc_terms.specs.Tables.{WellTyped, Makes, node_of}
 use Rattle.uc_terms.specs.Values.{value, values_at}
 use Rattle.uc_terms.specs.Subterms.{itself}
 use Rattle.std.proofs.Math.Bool.{and-true}
@@ -27,7 +27,7 @@ use Rattle.std.proofs.lemmas.Bool.{false≢true}
 use Rattle.std.proofs.lemmas.Bool.Decides.{nat_tests}
 use Rattle.uc_terms.proofs.Grown.{parts-node, type-node}
 use Rattle.uc_lower.specs.Fields.{all_same}
-use Rattle.uc_lower.specs.Made.{Grows, Within, IsMade, IsLowType, truth, IsLowered, KeepsLowered}
+use Rattle.uc_lower.specs.Made.{Grows, Within, IsMade, IsLowType, truth, IsLowered}
 use Rattle.uc_lower.specs.Steps.{IsConjunction, AreTests, IsEquality, AreChosen}
 use Rattle.uc_lower.proofs.Growing.{grows_not, grows_on, longer, kept_within, kept_type, kept_types, kept_value, kept_values, all_kept_lowered, kept_lowered, made_lowered, boolean_value}
 use Rattle.uc_lower.proofs.Codes.{same_append}

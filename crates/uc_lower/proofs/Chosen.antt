@@ -1,10 +1,10 @@
 -- What stands for a choice, a field of a record and a constant.
-use Rattle.std.specs.Prelude.{◌≡◌, ℕ, ◌+◌, ◌-◌, ◌<◌, ◌≤◌, ◌^◌, Bool as Flag, true, false, cond, IsTrue, List, [], ◌∷◌, ◌++◌, map, length, take, drop, get_or, slice_get, Some, All, Contains, zero, suc}
-use Rattle.std.proofs.Common.{refl, sym, ap, ◌∙◌, subst, arith, length-append, length-drop, append-nil, inl, inr}
+use Rattle.std.specs.Prelude.{◌≡◌, ℕ, ◌+◌, ◌<◌, ◌≤◌, ◌^◌, Bool as Flag, true, false, cond, IsTrue, List, [], ◌∷◌, ◌++◌, map, length, take, drop, get_or, All, Contains, zero, suc}
+use Rattle.std.proofs.Common.{refl, sym, ap, ◌∙◌, subst, arith, length-append, append-nil, inl, inr}
 use Rattle.std.proofs.lemmas.List.{length-map, take_all, take-map, drop-map}
 use Rattle.std.proofs.lemmas.List.Elements.{All-append, All-cons, All-nil, All-head, All-tail, All-take}
 use Rattle.std.proofs.lemmas.Bool.{false≢true}
-use Rattle.uc_values.specs.Values.{fits, truth_of, label_of, parts_of, field_of, nothing}
+use Rattle.uc_values.specs.Values.{fits, truth_of, label_of, parts_of, field_of}
 use Rattle.uc_values.specs.Types.{field_types}
 use Rattle.uc_values.specs.Sizes.{label_bits}
 use Rattle.uc_values.proofs.Fitting.{Fit, IsLabel-fits, IsRecord-fits, fits-IsBits, parts-Rec}
@@ -13,25 +13,23 @@ use Rattle.uc_values.specs.declared.ty.Field.{Field}
 use Rattle.uc_values.specs.declared.ty.Ty.{Ty}
 use Rattle.uc_values.specs.declared.ty.Ty.TheVariants.{Bool, Int, Bv, Enum, Rec}
 use Rattle.uc_values.specs.declared.value.Value.{Value}
-use Rattle.uc_values.specs.declared.value.Value.TheVariants.{Bv as Bits, Rec as Record}
-use Rattle.uc_ops.specs.declared.model.Model.{Model}
-use Rattle.uc_ops.specs.declared.op.Op.{Op}
+use Rattle.uc_values.specs.declared.value.Value.TheVariants.{Bv as Bits}
 use Rattle.uc_ops.specs.declared.op.Op.TheVariants.{Symbol, Const, Ite, App, GetField}
 use Rattle.uc_ops.specs.declared.node.Node.{Node}
-use Rattle.uc_ops.specs.Typing.{Suits, Valid, is_constant, type_of, type_at, types_at, part_type, fields_of}
+use Rattle.uc_ops.specs.Typing.{Suits, is_constant, type_at, types_at, part_type, fields_of}
 use Rattle.uc_ops.specs.Meaning.{apply, part}
 use Rattle.uc_ops.proofs.Typed.{fields-Rec, Bv-valid}
 use Rattle.uc_terms.specs.Tables.{HasOp, WellTyped, parts_at}
 use Rattle.uc_terms.specs.Values.{value, values_at}
 use Rattle.uc_lower.specs.Fields.{leaves, low_types, coded, all_leaves, all_low, all_coded}
-use Rattle.uc_lower.specs.Made.{Grows, Within, IsMade, IsLowType, truth, bits, IsLowNode, IsLowered, HasBits}
+use Rattle.uc_lower.specs.Made.{Grows, Within, IsMade, IsLowType, bits, IsLowNode, IsLowered, HasBits}
 use Rattle.uc_lower.specs.Steps.{AreChosen, lows, part_lows, IsLow, Means, IsBitsType, IsReady, IsLowOf}
-use Rattle.uc_lower.proofs.Leaves.{AllFinite, none, boolean, word, label, fields, one_finite, low-Bool, low-Enum, low-Rec, leaves-Rec, coded-Bool, coded-Enum, coded-Rec}
-use Rattle.uc_lower.proofs.Codes.{low_length, are_codes, zip_length}
+use Rattle.uc_lower.proofs.Leaves.{AllFinite, none, boolean, word, label, fields, one_finite, low-Bool, low-Enum, low-Rec, coded-Bool, coded-Enum, coded-Rec}
+use Rattle.uc_lower.proofs.Codes.{are_codes, zip_length}
 use Rattle.uc_lower.specs.Ranges.{IsCode}
-use Rattle.uc_lower.proofs.Growing.{kept_type, kept_value, grows_not, made_lowered, one_op, split_subterm}
+use Rattle.uc_lower.proofs.Growing.{kept_type, kept_value, made_lowered, one_op, split_subterm}
 use Rattle.uc_lower.proofs.Building.{one_lowered, one_item, no_types, same_lengths}
-use Rattle.uc_lower.proofs.Inner.{NodeFacts, node_facts, OnePart, ThreeParts, one_part, three_parts, low_own, one_low, one_means}
+use Rattle.uc_lower.proofs.Inner.{node_facts, ThreeParts, one_part, three_parts, one_low, one_means}
 
 ite_parts : (nodes : List Node) (t : ℕ) → WellTyped nodes → t < length nodes → HasOp nodes t Ite → (ty : Ty) × ThreeParts nodes (parts_at nodes t) Bool ty ty
 ite_parts nodes t w l h = let f = node_facts nodes t Ite w l h in (f.suits.0, three_parts nodes (parts_at nodes t) Bool f.suits.0 f.suits.0 f.suits.1)

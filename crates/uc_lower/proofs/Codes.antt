@@ -1,8 +1,8 @@
 -- What stands for the values of types of finitely many values: it fits, and every such value comes of one.
-use Rattle.std.specs.Prelude.{ℕ, ◌+◌, ◌<◌, ◌≤◌, ◌^◌, Bool as Truth, true, ◌&&◌, ◌≡◌, IsTrue, nat_eq, List, [], ◌∷◌, ◌++◌, map, length, take, drop, zero, suc}
+use Rattle.std.specs.Prelude.{ℕ, ◌<◌, ◌&&◌, ◌≡◌, IsTrue, nat_eq, List, [], ◌∷◌, ◌++◌, length}
 use Rattle.std.specs.List.{AllZip}
-use Rattle.std.proofs.Common.{refl, sym, ap, ◌∙◌, subst, arith, length-append, append-nil}
-use Rattle.std.proofs.lemmas.List.{length-map, map-append}
+use Rattle.std.proofs.Common.{refl, sym, ap, ◌∙◌, arith}
+use Rattle.std.proofs.lemmas.List.{length-map}
 use Rattle.std.proofs.Math.Bool.{and_assoc}
 use Rattle.std.proofs.lemmas.Bool.Decides.{nat_tests}
 use Rattle.uc_values.specs.Values.{fits, label_of, bits_of, parts_of}
@@ -17,8 +17,8 @@ use Rattle.uc_values.specs.declared.ty.Ty.{Ty}
 use Rattle.uc_values.specs.declared.ty.Ty.TheVariants.{Bool, Bv, Enum, Rec}
 use Rattle.uc_values.specs.declared.value.Value.{Value}
 use Rattle.uc_values.specs.declared.value.Value.TheVariants.{Bv as Bits, Enum as Label, Rec as Record}
-use Rattle.uc_lower.specs.Fields.{leaves, low_type, low_types, coded, all_leaves, all_low, all_coded, all_same}
-use Rattle.uc_lower.specs.Ranges.{InRange, IsCode, AreCodes}
+use Rattle.uc_lower.specs.Fields.{low_type, all_leaves, all_low, all_coded, all_same}
+use Rattle.uc_lower.specs.Ranges.{IsCode, AreCodes}
 use Rattle.uc_lower.proofs.Leaves.{AllFinite, none, boolean, word, label, fields, low-all, low-Bool, low-Bv, low-Enum, low-Rec, leaves-Bool, leaves-Bv, leaves-Enum, leaves-Rec, coded-Bool, coded-Bv, coded-Enum, coded-Rec}
 
 pub zip_append : {A B : Type 0} (P : A → B → Type 0) (ls bs : List A) (xs ys : List B) → AllZip P ls xs → AllZip P bs ys → AllZip P (ls ++ bs) (xs ++ ys)

@@ -1,16 +1,16 @@
 -- What the walk gives at its end: models of the term and of its goal go over into each other.
-use Rattle.std.specs.Prelude.{◌≡◌, ◌≢◌, ℕ, ◌+◌, ◌<◌, ◌≤◌, Bool as Flag, true, false, ◌&&◌, IsTrue, List, [], ◌∷◌, ◌++◌, map, length, get_or, slice_get, slice_index_or, Some, All, Contains, zero, suc}
+use Rattle.std.specs.Prelude.{◌≡◌, ◌≢◌, ℕ, ◌<◌, ◌≤◌, Bool as Flag, true, false, ◌&&◌, IsTrue, List, [], ◌∷◌, ◌++◌, map, length, get_or, slice_get, slice_index_or, Some, All, Contains, zero, suc}
 use Rattle.std.specs.List.{AllZip, list_all}
 use Rattle.std.specs.Option.{option_map}
 use Rattle.std.proofs.Common.{refl, sym, ap, ◌∙◌, subst, arith, append-nil, inl, inr, ◌⊎◌}
-use Rattle.std.proofs.lemmas.List.{length-map, map-append, get_or_default}
+use Rattle.std.proofs.lemmas.List.{map-append, get_or_default}
 use Rattle.std.proofs.lemmas.Bool.{false≢true}
-use Rattle.std.proofs.lemmas.Bool.Decides.{eqb_tells, leb_tells}
-use Rattle.std.proofs.lemmas.List.Elements.{All-append, All-cons, All-nil, All-head, All-tail, All-weaker, All-contains, All-push}
+use Rattle.std.proofs.lemmas.Bool.Decides.{leb_tells}
+use Rattle.std.proofs.lemmas.List.Elements.{All-append, All-cons, All-nil, All-head, All-tail, All-weaker, All-contains}
 use Rattle.std.proofs.lemmas.List.Folds.{list_all-append}
 use Rattle.std.specs.Prelude.{nat_eq}
 use Rattle.std.proofs.Math.Bool.{and-true}
-use Rattle.uc_values.specs.Values.{fits, truth_of, zero_of}
+use Rattle.uc_values.specs.Values.{fits, truth_of}
 use Rattle.uc_values.proofs.Shapes.{and_true}
 use Rattle.uc_values.proofs.Fitting.{Fit}
 use Rattle.uc_values.specs.declared.ty.Ty.{Ty}
@@ -19,36 +19,34 @@ use Rattle.uc_values.specs.declared.value.Value.{Value}
 use Rattle.uc_values.specs.declared.value.Value.TheVariants.{Bool as Truth}
 use Rattle.uc_ops.specs.declared.model.Model.{Model}
 use Rattle.uc_ops.specs.declared.op.Op.{Op}
-use Rattle.uc_ops.specs.declared.op.Op.TheVariants.{Symbol, App}
+use Rattle.uc_ops.specs.declared.op.Op.TheVariants.{Symbol}
 use Rattle.uc_ops.specs.declared.node.Node.{Node}
 use Rattle.uc_ops.specs.Typing.{type_at, types_at}
-use Rattle.uc_ops.specs.Meaning.{fitting}
 use Rattle.uc_ops.proofs.Lists.{at_place}
-use Rattle.uc_ops.proofs.Fitting.{Fits}
 use Rattle.uc_terms.specs.Tables.{HasOp, WellTyped, NoTwoEqual, parts_at}
 use Rattle.uc_terms.specs.Values.{value, values_at}
-use Rattle.uc_terms.specs.Subterms.{IsSubterm, itself, IsBelow, EvenlyTyped, Marked, AreSubterms, FitsTerm}
+use Rattle.uc_terms.specs.Subterms.{IsSubterm, itself, EvenlyTyped, Marked, AreSubterms, FitsTerm}
 use Rattle.uc_terms.specs.Laws.{IsModelOf}
 use Rattle.uc_terms.proofs.Grown.{parts-node}
 use Rattle.uc_terms.proofs.Walk.{marked_within}
 use Rattle.uc_terms.proofs.Fitting.{value-fits, all_fit}
 use Rattle.uc_lower.specs.Fields.{leaves, low_type, low_types, coded, all_coded}
 use Rattle.uc_lower.specs.Ranges.{InRange, IsCode}
-use Rattle.uc_lower.specs.Made.{Grows, Within, IsLowNode, IsLowered, KeepsLowered, HasBits}
-use Rattle.uc_lower.specs.Steps.{lows, IsLow, Means, IsConjunction}
-use Rattle.uc_lower.specs.Symbols.{Hold, AreTruths, InRanges}
-use Rattle.uc_lower.specs.Lowering.{Pair, stand_ins, seconds, IsSymbol, IsFiniteTerm, Agree, Partner, CorrespondBy, IsPairOf, IsMapOf, IsLoweredTerm}
+use Rattle.uc_lower.specs.Made.{Grows, Within, IsLowered, HasBits}
+use Rattle.uc_lower.specs.Steps.{lows, IsConjunction}
+use Rattle.uc_lower.specs.Symbols.{Hold}
+use Rattle.uc_lower.specs.Lowering.{Pair, seconds, IsSymbol, IsFiniteTerm, Agree, Partner, CorrespondBy, IsPairOf, IsMapOf, IsLoweredTerm}
 use Rattle.uc_lower.specs.Walk.{IsGoal}
 use Rattle.uc_lower.proofs.Leaves.{one_finite, low-Bool, coded-Bool}
-use Rattle.uc_lower.proofs.Codes.{are_codes, Decoded, decoded}
-use Rattle.uc_lower.proofs.Growing.{grows_not, grows_on, longer, kept_within, kept_type, kept_types, kept_value, kept_values, kept_op, had_op, one_op, boolean_value}
-use Rattle.uc_lower.proofs.Building.{no_types, no_items, All-front, All-back}
+use Rattle.uc_lower.proofs.Codes.{are_codes, decoded}
+use Rattle.uc_lower.proofs.Growing.{grows_not, longer, kept_type, kept_types, kept_values, kept_op, had_op, one_op, boolean_value}
+use Rattle.uc_lower.proofs.Building.{no_types, no_items, All-front}
 use Rattle.uc_lower.proofs.Inner.{node_facts}
 use Rattle.uc_lower.proofs.Marking.{below_of, marked_of}
 use Rattle.uc_lower.proofs.Models.{put, put_here, put_other}
 use Rattle.uc_lower.specs.Bits.{IsSymbolBelow, HasNoMoreBits}
 use Rattle.uc_lower.proofs.Bits.{bits_kept, fewer_bits}
-use Rattle.uc_lower.proofs.Walking.{IsPlace, AgreeTo, FitsAt, Found, IsPair, AreBounded, Walked, symbol_on, symbol_back, seconds_within, coded_kept}
+use Rattle.uc_lower.proofs.Walking.{IsPlace, AgreeTo, Found, IsPair, AreBounded, Walked, symbol_on, symbol_back, seconds_within, coded_kept}
 use Rattle.uc_lower.proofs.Symboling.{symbol_value}
 use Rattle.uc_lower.proofs.Chosen.{condition_length, one_condition}
 

@@ -1,44 +1,37 @@
 -- What stands for a term, from what stands for its parts.
-use Rattle.std.specs.Prelude.{◌≡◌, ℕ, ◌+◌, ◌-◌, ◌<◌, ◌≤◌, ◌^◌, Bool as Flag, true, false, ◌&&◌, cond, IsTrue, List, [], ◌∷◌, ◌++◌, map, length, take, drop, get_or, slice_get, Some, All, zero, suc}
-use Rattle.std.specs.List.{list_all}
+use Rattle.std.specs.Prelude.{◌≡◌, ℕ, ◌+◌, ◌-◌, ◌<◌, true, ◌&&◌, IsTrue, List, [], ◌∷◌, ◌++◌, length, Some, All}
 use Rattle.std.specs.Option.{option_map}
-use Rattle.std.proofs.Common.{refl, sym, ap, ◌∙◌, subst, arith, length-append, append-nil}
-use Rattle.std.proofs.lemmas.List.{length-map, map-append, take_all, take-map, drop-map}
-use Rattle.std.proofs.lemmas.List.Elements.{All-append, All-cons, All-nil, All-head, All-tail, All-take}
+use Rattle.std.proofs.Common.{refl, sym, ap, ◌∙◌, subst, arith, append-nil}
+use Rattle.std.proofs.lemmas.List.{map-append}
+use Rattle.std.proofs.lemmas.List.Elements.{All-append, All-cons, All-nil, All-head, All-tail}
 use Rattle.std.proofs.Math.Bool.{and-true}
-use Rattle.uc_values.specs.Values.{fits, truth_of, label_of, parts_of, field_of}
+use Rattle.uc_values.specs.Values.{fits}
 use Rattle.uc_values.specs.Types.{field_types}
-use Rattle.uc_values.specs.Sizes.{label_bits}
 use Rattle.uc_values.specs.Sameness.{same}
-use Rattle.uc_values.proofs.Fitting.{Fit, IsLabel-fits, IsRecord-fits, fits-IsBits, parts-Rec}
-use Rattle.uc_values.proofs.Widths.{label_bits-least}
-use Rattle.uc_values.specs.declared.ty.Field.{Field}
+use Rattle.uc_values.proofs.Fitting.{Fit, parts-Rec}
 use Rattle.uc_values.specs.declared.ty.Ty.{Ty}
-use Rattle.uc_values.specs.declared.ty.Ty.TheVariants.{Bool, Bv, Enum, Rec}
+use Rattle.uc_values.specs.declared.ty.Ty.TheVariants.{Bool, Bv, Rec}
 use Rattle.uc_values.specs.declared.value.Value.{Value}
-use Rattle.uc_values.specs.declared.value.Value.TheVariants.{Bool as Truth, Bv as Bits, Rec as Record}
+use Rattle.uc_values.specs.declared.value.Value.TheVariants.{Bool as Truth, Rec as Record}
 use Rattle.uc_ops.specs.declared.model.Model.{Model}
 use Rattle.uc_ops.specs.declared.op.Op.{Op}
-use Rattle.uc_ops.specs.declared.op.Op.TheVariants.{Symbol, Const, Not, And, Or, Eq, Ite, Add, Scale, Le, BvAdd, BvSub, BvMul, BvNeg, BvAnd, BvOr, BvXor, BvNot, Concat, Extract, ZeroExt, SignExt, Shl, Lshr, Ashr, Slt, Sle, Ult, Ule, App, Select, Store, Diff, MkRec, GetField}
+use Rattle.uc_ops.specs.declared.op.Op.TheVariants.{Symbol, Not, And, Or, Eq, BvAdd, BvSub, BvMul, BvNeg, BvAnd, BvOr, BvXor, BvNot, Concat, Extract, ZeroExt, SignExt, Shl, Lshr, Ashr, Slt, Sle, Ult, Ule, App, MkRec}
 use Rattle.uc_ops.specs.declared.node.Node.{Node}
-use Rattle.uc_ops.specs.Typing.{Suits, Valid, Some_of, Bits as OneOfBits, Pair_of_bits, type_of, type_at, types_at, part_type, fields_of}
-use Rattle.uc_ops.specs.Meaning.{apply, part}
+use Rattle.uc_ops.specs.Typing.{Suits, Some_of, Bits as OneOfBits, Pair_of_bits, type_of, type_at, types_at, part_type}
+use Rattle.uc_ops.specs.Meaning.{apply}
 use Rattle.uc_ops.proofs.Lists.{at_place}
-use Rattle.uc_ops.proofs.Fitting.{Fits}
-use Rattle.uc_ops.proofs.Typed.{fields-Rec, Bv-valid}
 use Rattle.uc_terms.specs.Tables.{HasOp, WellTyped, parts_at}
 use Rattle.uc_terms.specs.Values.{value, values_at}
-use Rattle.uc_terms.specs.Subterms.{IsSubterm, itself, deeper}
 use Rattle.uc_terms.proofs.Grown.{parts-node, type-node}
 use Rattle.uc_terms.proofs.Values.{value-node, within_all}
 use Rattle.uc_terms.proofs.Fitting.{all_fit, value-fits}
-use Rattle.uc_lower.specs.Fields.{leaves, low_types, coded, all_leaves, all_low, all_coded, all_same}
-use Rattle.uc_lower.specs.Made.{Grows, Within, IsMade, IsLowType, truth, bits, IsLowNode, IsLowered, KeepsLowered, IsComposed, HasBits}
-use Rattle.uc_lower.specs.Steps.{IsEquality, AreChosen, lows, part_lows, joined_lows, IsLow, Means, IsInner, IsPlain, IsBitsType, IsReady, IsLowerable, IsLowOf}
-use Rattle.uc_lower.proofs.Leaves.{AllFinite, none, finite_more, one_finite, low-Bool, low-Bv, low-Enum, low-Rec, coded-Bool, coded-Bv, coded-Enum, coded-Rec}
+use Rattle.uc_lower.specs.Fields.{low_types, coded, all_low, all_coded, all_same}
+use Rattle.uc_lower.specs.Made.{Grows, Within, IsMade, IsLowType, truth, bits, IsLowered, IsComposed, HasBits}
+use Rattle.uc_lower.specs.Steps.{IsEquality, lows, part_lows, joined_lows, IsLow, Means, IsPlain, IsReady, IsLowOf}
+use Rattle.uc_lower.proofs.Leaves.{one_finite, low-Bool, low-Bv, low-Rec, coded-Bool, coded-Bv, coded-Rec}
 use Rattle.uc_lower.proofs.Codes.{coded_same}
-use Rattle.uc_lower.proofs.Growing.{kept_type, kept_value, kept_within, kept_types, kept_values, grows_not, made_lowered, split_subterm, IsBelowPart}
-use Rattle.uc_lower.proofs.Building.{one_lowered, one_item, All-front, All-back}
+use Rattle.uc_lower.proofs.Growing.{kept_type, kept_value, made_lowered}
+use Rattle.uc_lower.proofs.Building.{one_lowered}
 
 -- what is known of a term of a well-typed table
 pub record NodeFacts (nodes : List Node) (t : ℕ) (op : Op) : Type 0 where

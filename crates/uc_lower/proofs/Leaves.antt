@@ -1,30 +1,25 @@
 -- The innermost fields of types of finitely many values, and what stands for their values.
-use Rattle.std.specs.Prelude.{ℕ, ◌+◌, ◌<◌, ◌≤◌, ◌^◌, Bool as Truth, true, false, ◌&&◌, ◌≡◌, IsTrue, nat_eq, List, [], ◌∷◌, ◌++◌, map, length, take, drop, Option, Some, None, All, zero, suc}
-use Rattle.std.specs.List.{AllZip, list_all}
-use Rattle.std.proofs.Common.{refl, sym, ap, ◌∙◌, subst, arith, rules, length-append, append_assoc}
-use Rattle.std.proofs.lemmas.List.{length-map, map-append}
+use Rattle.std.specs.Prelude.{ℕ, true, ◌≡◌, List, [], ◌∷◌, ◌++◌, map, Option, Some, None, All}
+use Rattle.std.specs.List.{list_all}
+use Rattle.std.proofs.Common.{refl, sym, ap, ◌∙◌, subst}
+use Rattle.std.proofs.lemmas.List.{map-append}
 use Rattle.std.proofs.lemmas.List.Elements.{All-append, All-cons, All-nil, All-head, All-tail}
-use Rattle.std.proofs.Math.Bool.{and_assoc}
-use Rattle.std.proofs.lemmas.Bool.Decides.{nat_tests}
-use Rattle.uc_values.specs.Values.{fits, label_of, bits_of, parts_of}
+use Rattle.uc_values.specs.Values.{label_of, parts_of}
 use Rattle.uc_values.specs.Types.{is_valid, field_types}
 use Rattle.uc_values.specs.Sizes.{label_bits, bit_count, total_bits, both_bits, counts}
-use Rattle.uc_values.specs.Sameness.{same, same_parts, sames, sameness}
 use Rattle.uc_values.proofs.Shapes.{with_test, and_true, valid-Rec}
-use Rattle.uc_values.proofs.Fitting.{Fit, IsBits-fits, fits-IsBits, IsRecord-fits, fits-IsRecord, IsLabel-fits, fits-IsLabel, parts-Rec}
-use Rattle.uc_values.proofs.Widths.{label_bits-least, bits-Rec, bits-Int, bits-Un, bits-Arr}
-use Rattle.uc_values.proofs.Agreement.{same-Rec, sameness-Enum, sameness-Bv}
+use Rattle.uc_values.proofs.Widths.{bits-Rec, bits-Int, bits-Un, bits-Arr}
 use Rattle.uc_values.specs.declared.ty.Field.{Field}
 use Rattle.uc_values.specs.declared.ty.Ty.{Ty}
-use Rattle.uc_values.specs.declared.ty.Ty.TheVariants.{Bool, Int, Bv, Enum, Un, Rec, Arr, rolls-Bool, rolls-Int, rolls-Bv, rolls-Rec, rolls-Enum, rolls-Un, rolls-Arr}
+use Rattle.uc_values.specs.declared.ty.Ty.TheVariants.{Bool, Bv, Enum, Rec, rolls-Bool, rolls-Int, rolls-Bv, rolls-Rec, rolls-Enum, rolls-Un, rolls-Arr}
 use Rattle.uc_values.specs.declared.ty.Ty.TheFolds.{fold-roll-Ty, ind-Ty, map-Ty}
 use Rattle.uc_values.specs.declared.ty.Ty.TheViews.{roll-Ty}
 use Rattle.uc_values.specs.declared.ty.Ty.TheOpen.{Ty-F}
 use Rattle.uc_values.specs.declared.ty.Ty.TheOpen.Ty-F.{Bool as boolean_type, Int as integer_type, Bv as bits_type, Enum as enum_type, Un as open_type, Rec as record_type, Arr as array_type}
 use Rattle.uc_values.specs.declared.value.Value.{Value}
-use Rattle.uc_values.specs.declared.value.Value.TheVariants.{Bv as Bits, Enum as Label, Rec as Record}
+use Rattle.uc_values.specs.declared.value.Value.TheVariants.{Bv as Bits}
 use Rattle.uc_ops.specs.Typing.{Valid, AllValid}
-use Rattle.uc_lower.specs.Fields.{joined_leaves, leaves_form, leaves, low_type, low_types, joined_codes, coded_form, coded, all_leaves, all_low, all_coded, all_same}
+use Rattle.uc_lower.specs.Fields.{joined_leaves, leaves_form, leaves, low_type, low_types, joined_codes, coded_form, coded, all_leaves, all_low, all_coded}
 use Rattle.uc_lower.specs.Made.{IsLowType, truth, bits, HasBits}
 
 -- the equations of the innermost fields, by the forms of the type

@@ -1,5 +1,5 @@
 -- Marks on the subterms of one term.
-use Rattle.std.specs.Prelude.{◌≡◌, ℕ, ◌+◌, ◌<◌, ◌≤◌, Bool as Flag, true, false, List, [], ◌∷◌, ◌++◌, map, length, take, get_or, slice_index_or, Contains, zero, suc}
+use Rattle.std.specs.Prelude.{◌≡◌, ℕ, ◌+◌, ◌<◌, ◌≤◌, Bool as Flag, true, false, List, [], ◌∷◌, ◌++◌, length, take, get_or, slice_index_or, zero, suc}
 use Rattle.std.proofs.Common.{refl, sym, ap, ◌∙◌, subst, arith, append_assoc, append-nil, inl, inr}
 use Rattle.std.proofs.lemmas.List.{take_more, take_all, map-append}
 use Rattle.std.proofs.lemmas.Bool.Decides.{leb_tells}

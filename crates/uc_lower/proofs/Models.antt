@@ -1,6 +1,6 @@
 -- Lists of values with some places set.
-use Rattle.std.specs.Prelude.{◌≡◌, ◌≢◌, ℕ, ◌+◌, ◌<◌, ◌≤◌, List, [], ◌∷◌, length, slice_get, Some, zero, suc}
-use Rattle.std.proofs.Common.{refl, sym, ap, ◌∙◌, subst, arith}
+use Rattle.std.specs.Prelude.{◌≡◌, ◌≢◌, ℕ, ◌+◌, ◌<◌, List, [], ◌∷◌, slice_get, Some, zero, suc}
+use Rattle.std.proofs.Common.{refl, arith}
 use Rattle.uc_values.specs.Values.{nothing}
 use Rattle.uc_values.specs.declared.value.Value.{Value}
 

@@ -1,16 +1,16 @@
 -- The terms of the fields of a record, one after another.
-use Rattle.std.specs.Prelude.{◌≡◌, ℕ, ◌+◌, ◌-◌, ◌<◌, ◌≤◌, List, [], ◌∷◌, ◌++◌, map, length, take, drop, get_or, slice_get, Option, None, unwrap_or, zero, suc}
+use Rattle.std.specs.Prelude.{◌≡◌, ℕ, ◌+◌, ◌-◌, ◌<◌, List, [], ◌∷◌, ◌++◌, map, length, take, drop, get_or, slice_get, Option, None, unwrap_or, zero, suc}
 use Rattle.std.specs.Option.{option_map}
 use Rattle.std.proofs.lemmas.Option.{slice_get-map, unwrap_or-slice_get}
 use Rattle.uc_lower.specs.Steps.{lows, part_lows, joined_lows}
-use Rattle.std.proofs.Common.{refl, sym, ap, ◌∙◌, subst, arith, length-append, length-drop, append-nil, append_assoc}
-use Rattle.std.proofs.lemmas.List.{length-map, map-append, take_more, take-map, take_all}
+use Rattle.std.proofs.Common.{refl, sym, ap, ◌∙◌, arith, length-append, length-drop, append-nil, append_assoc}
+use Rattle.std.proofs.lemmas.List.{map-append, take_more, take-map}
 use Rattle.std.proofs.Math.Seq.{drop-nil}
 use Rattle.uc_values.specs.Types.{field_types}
 use Rattle.uc_values.specs.declared.ty.Field.{Field}
 use Rattle.uc_values.specs.declared.ty.Ty.{Ty}
-use Rattle.uc_values.specs.declared.ty.Ty.TheVariants.{Bool, Rec}
-use Rattle.uc_ops.specs.Typing.{fields_of, part_type, type_or}
+use Rattle.uc_values.specs.declared.ty.Ty.TheVariants.{Rec}
+use Rattle.uc_ops.specs.Typing.{fields_of, part_type}
 use Rattle.uc_ops.proofs.Typed.{fields-Rec}
 use Rattle.uc_lower.specs.Fields.{leaves, all_leaves}
 use Rattle.uc_lower.proofs.Leaves.{leaves-Rec}

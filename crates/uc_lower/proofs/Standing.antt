@@ -1,11 +1,11 @@
 -- Symbols that stand for the innermost fields of a symbol, and their ranges.
-use Rattle.std.specs.Prelude.{◌≡◌, ℕ, ◌+◌, ◌-◌, ◌<◌, ◌≤◌, ◌^◌, nat_le, nat_lt, Bool as Flag, true, false, IsTrue, List, [], ◌∷◌, ◌++◌, map, length, take, get_or, All, Contains, zero, suc}
+use Rattle.std.specs.Prelude.{◌≡◌, ℕ, ◌+◌, ◌-◌, ◌<◌, ◌≤◌, ◌^◌, nat_le, nat_lt, true, List, [], ◌∷◌, ◌++◌, map, length, take, get_or, All, Contains}
 use Rattle.std.specs.List.{AllZip}
 use Rattle.std.proofs.Common.{refl, sym, ap, ◌∙◌, subst, arith, length-append, append-nil, inl, inr}
 use Rattle.std.proofs.lemmas.List.{length-map, map-append, take_more}
 use Rattle.std.proofs.lemmas.Bool.{false≢true}
 use Rattle.std.proofs.lemmas.Bool.Decides.{nat_tests, leb_tells}
-use Rattle.std.proofs.lemmas.List.Elements.{All-append, All-cons, All-nil, All-head, All-tail, All-push}
+use Rattle.std.proofs.lemmas.List.Elements.{All-cons, All-nil, All-head, All-tail, All-push}
 use Rattle.uc_values.specs.Values.{truth_of, bits_of}
 use Rattle.uc_values.specs.Sizes.{label_bits}
 use Rattle.uc_values.proofs.Fitting.{fits-IsBits}
@@ -16,7 +16,6 @@ use Rattle.uc_values.specs.declared.ty.Ty.TheVariants.{Bool, Bv, Enum}
 use Rattle.uc_values.specs.declared.value.Value.{Value}
 use Rattle.uc_values.specs.declared.value.Value.TheVariants.{Bool as Truth, Bv as Bits}
 use Rattle.uc_ops.specs.declared.model.Model.{Model}
-use Rattle.uc_ops.specs.declared.op.Op.{Op}
 use Rattle.uc_ops.specs.declared.op.Op.TheVariants.{Symbol, Const, Ule, App}
 use Rattle.uc_ops.specs.declared.node.Node.{Node}
 use Rattle.uc_ops.specs.Typing.{Suits, Valid, AllValid, type_at, types_at}
@@ -27,7 +26,7 @@ use Rattle.uc_lower.specs.Fields.{leaves, low_type, all_leaves}
 use Rattle.uc_lower.specs.Ranges.{InRange}
 use Rattle.uc_lower.specs.Made.{Grows, Within, IsMade, IsLowType, truth, bits, IsLowNode, IsLowered, HasBits}
 use Rattle.uc_lower.specs.Steps.{IsBitsType}
-use Rattle.uc_lower.specs.Symbols.{Hold, AreTruths, IsBound, HasRange, Numbered, InRanges, AreSymbols, is_low}
+use Rattle.uc_lower.specs.Symbols.{Hold, AreTruths, IsBound, HasRange, Numbered, AreSymbols, is_low}
 use Rattle.uc_lower.proofs.Leaves.{IsLeaf, truth_leaf, bits_leaf, label_leaf, leaves_leaf, leaves_valid, one_finite}
 use Rattle.uc_lower.proofs.Codes.{zip_append}
 use Rattle.uc_lower.proofs.Growing.{grows_not, grows_on, longer, kept_within, kept_type, kept_types, kept_value, kept_values, kept_op, kept_lowered, all_kept_lowered, made_lowered, one_op, split_subterm}

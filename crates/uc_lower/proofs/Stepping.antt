@@ -1,21 +1,21 @@
 -- Each step of the walk keeps what the walk knows.
-use Rattle.std.specs.Prelude.{◌≡◌, ℕ, ◌+◌, ◌<◌, ◌≤◌, Bool as Flag, true, false, IsTrue, List, [], ◌∷◌, ◌++◌, map, length, get_or, slice_get, slice_index_or, Some, None, All, Contains, zero, suc}
+use Rattle.std.specs.Prelude.{◌≡◌, ℕ, ◌+◌, ◌<◌, ◌≤◌, Bool as Flag, true, false, IsTrue, List, [], ◌∷◌, ◌++◌, map, length, get_or, slice_get, slice_index_or, All, Contains, zero, suc}
 use Rattle.std.specs.List.{AllZip}
-use Rattle.std.proofs.Common.{refl, sym, ap, ◌∙◌, subst, arith, append-nil, inl, inr}
+use Rattle.std.proofs.Common.{refl, sym, ap, ◌∙◌, subst, arith, append-nil}
 use Rattle.std.proofs.lemmas.Bool.{false≢true}
 use Rattle.std.proofs.lemmas.List.{get_or_default}
-use Rattle.std.proofs.lemmas.List.Elements.{All-cons, All-nil, All-head, All-tail, All-contains, Contains-append_right}
+use Rattle.std.proofs.lemmas.List.Elements.{All-cons, All-nil, All-head, All-tail}
 use Rattle.uc_values.specs.Values.{fits, truth_of}
 use Rattle.uc_values.proofs.Widths.{bits-Int, bits-Arr}
 use Rattle.uc_values.proofs.Fitting.{Fit}
 use Rattle.uc_values.specs.declared.ty.Ty.{Ty}
-use Rattle.uc_values.specs.declared.ty.Ty.TheVariants.{Bool, Int, Bv, Arr}
+use Rattle.uc_values.specs.declared.ty.Ty.TheVariants.{Bool, Int, Arr}
 use Rattle.uc_values.specs.declared.value.Value.{Value}
 use Rattle.uc_ops.specs.declared.model.Model.{Model}
 use Rattle.uc_ops.specs.declared.op.Op.{Op}
 use Rattle.uc_ops.specs.declared.op.Op.TheVariants.{Symbol, Add, Scale, Le, App, Select, Store, Diff}
 use Rattle.uc_ops.specs.declared.node.Node.{Node}
-use Rattle.uc_ops.specs.Typing.{type_at, types_at, part_type}
+use Rattle.uc_ops.specs.Typing.{type_at}
 use Rattle.uc_terms.specs.Tables.{HasOp, WellTyped, parts_at}
 use Rattle.uc_terms.specs.Values.{value, values_at}
 use Rattle.uc_terms.specs.Subterms.{IsSubterm, deeper, Marked, AreSubterms, FitsTerm, EvenlyTyped}
@@ -23,18 +23,18 @@ use Rattle.uc_terms.proofs.Fitting.{value-fits}
 use Rattle.uc_lower.specs.Fields.{leaves, low_type, low_types, coded}
 use Rattle.uc_lower.specs.Ranges.{InRange, IsCode}
 use Rattle.uc_lower.specs.Made.{Grows, Within, IsLowType, truth, bits, IsLowered, HasBits}
-use Rattle.uc_lower.specs.Steps.{lows, IsLow, Means, IsInner, IsReady, IsLowerable, IsLowOf}
-use Rattle.uc_lower.specs.Symbols.{Hold, InRanges, Numbered, AreSymbols, StandsFor, itself, symbols}
-use Rattle.uc_lower.specs.Lowering.{Pair, stand_ins, seconds, IsSymbol, IsFiniteTerm}
+use Rattle.uc_lower.specs.Steps.{lows, IsLow, Means, IsInner, IsLowerable}
+use Rattle.uc_lower.specs.Symbols.{InRanges, Numbered, AreSymbols, itself, symbols}
+use Rattle.uc_lower.specs.Lowering.{Pair, seconds, IsSymbol, IsFiniteTerm}
 use Rattle.uc_lower.specs.Walk.{IsFresh, paired, IsStep, skipped, inner, symbol}
 use Rattle.uc_lower.proofs.Leaves.{one_finite, leaves-Bool, leaves-Bv}
 use Rattle.uc_lower.proofs.Codes.{are_codes}
-use Rattle.uc_lower.proofs.Growing.{grows_not, longer, kept_type, kept_value, kept_op, had_op, kept_parts, one_op, parts_before}
+use Rattle.uc_lower.proofs.Growing.{grows_not, longer, kept_type, kept_value, had_op, kept_parts, one_op, parts_before}
 use Rattle.uc_lower.proofs.Building.{one_lowered, no_types}
-use Rattle.uc_lower.proofs.Inner.{NodeFacts, node_facts, two_parts, three_parts, one_low, one_means}
+use Rattle.uc_lower.proofs.Inner.{node_facts, two_parts, three_parts, one_low, one_means}
 use Rattle.uc_lower.proofs.Standing.{symbol_lowered}
 use Rattle.uc_lower.proofs.Models.{put, put_all, put_all-other, put_all-first, put_all-rest}
-use Rattle.uc_lower.proofs.Walking.{IsPlace, AgreeTo, FitsAt, Found, IsPair, AreBounded, Walked, symbol_on, symbol_back, walked_on}
+use Rattle.uc_lower.proofs.Walking.{IsPlace, FitsAt, Found, IsPair, Walked, symbol_on, walked_on}
 use Rattle.uc_lower.proofs.Symboling.{symbol_value, SymbolStep, EvenStep, GoesOn, seconds_at, walked_symbol}
 use Rattle.uc_terms.proofs.Walk.{marked_within}
 use Rattle.uc_lower.proofs.Marking.{only_at, below_of, marked_of}

@@ -1,33 +1,30 @@
 -- The walk at a symbol.
-use Rattle.std.specs.Prelude.{◌≡◌, ◌≢◌, ℕ, ◌+◌, ◌-◌, ◌<◌, ◌≤◌, Bool as Flag, true, false, cond, nat_eq, IsTrue, List, [], ◌∷◌, ◌++◌, map, length, get_or, slice_get, Some, Option, None, All, Contains, zero, suc}
-use Rattle.std.specs.List.{AllZip}
-use Rattle.std.proofs.Common.{refl, sym, ap, ◌∙◌, subst, arith, length-append, append-nil, inl, inr, ◌⊎◌}
-use Rattle.std.proofs.lemmas.List.{length-map, map-append, get_or_default}
-use Rattle.std.proofs.lemmas.Bool.Decides.{eqb_tells, leb_tells, nat_tests}
-use Rattle.std.proofs.lemmas.List.Elements.{All-append, All-cons, All-nil, All-head, All-tail, All-push, All-weaker, All-contains, Contains-append_left, Contains-append_right, Contains-append_cases}
-use Rattle.uc_values.specs.Values.{fits, truth_of, zero_of}
-use Rattle.uc_values.proofs.Fitting.{Fit}
+use Rattle.std.specs.Prelude.{◌≡◌, ◌≢◌, ℕ, ◌+◌, ◌<◌, ◌≤◌, Bool as Flag, true, false, cond, nat_eq, IsTrue, List, [], ◌∷◌, ◌++◌, length, get_or, slice_get, Some, All, Contains}
+use Rattle.std.proofs.Common.{refl, sym, ap, ◌∙◌, subst, arith, length-append, append-nil, inl, inr}
+use Rattle.std.proofs.lemmas.List.{get_or_default}
+use Rattle.std.proofs.lemmas.Bool.Decides.{eqb_tells, nat_tests}
+use Rattle.std.proofs.lemmas.List.Elements.{All-append, All-cons, All-nil, All-head, All-tail, All-weaker, All-contains, Contains-append_left, Contains-append_right, Contains-append_cases}
+use Rattle.uc_values.specs.Values.{fits, zero_of}
 use Rattle.uc_values.specs.declared.ty.Ty.{Ty}
 use Rattle.uc_values.specs.declared.value.Value.{Value}
 use Rattle.uc_ops.specs.declared.model.Model.{Model}
-use Rattle.uc_ops.specs.declared.op.Op.TheVariants.{Symbol, App}
+use Rattle.uc_ops.specs.declared.op.Op.TheVariants.{Symbol}
 use Rattle.uc_ops.specs.declared.node.Node.{Node}
-use Rattle.uc_ops.specs.Typing.{type_at, types_at}
+use Rattle.uc_ops.specs.Typing.{type_at}
 use Rattle.uc_ops.specs.Meaning.{fitting}
 use Rattle.uc_ops.proofs.Lists.{same_map}
-use Rattle.uc_terms.specs.Tables.{HasOp, WellTyped, parts_at}
+use Rattle.uc_terms.specs.Tables.{HasOp, WellTyped}
 use Rattle.uc_terms.specs.Values.{value, values_at}
 use Rattle.uc_terms.specs.Subterms.{Marked, FitsTerm, IsSubterm}
-use Rattle.uc_lower.specs.Fields.{leaves, low_types, low_type, coded}
-use Rattle.uc_lower.specs.Ranges.{InRange}
-use Rattle.uc_lower.specs.Made.{Grows, Within, IsLowType, IsLowNode, IsLowered, HasBits}
+use Rattle.uc_lower.specs.Fields.{leaves}
+use Rattle.uc_lower.specs.Made.{Grows, Within, IsLowered, HasBits}
 use Rattle.uc_lower.specs.Bits.{bits_at, type_bits}
 use Rattle.uc_lower.proofs.Bits.{low_types-bits, bits_append, bits_kept}
 use Rattle.uc_lower.specs.Steps.{lows, IsLow, Means}
 use Rattle.uc_lower.specs.Symbols.{Hold, AreTruths, InRanges}
 use Rattle.uc_lower.specs.Lowering.{Pair, stand_ins, seconds, IsSymbol}
 use Rattle.uc_lower.specs.Walk.{paired}
-use Rattle.uc_lower.proofs.Growing.{grows_not, grows_on, longer, kept_within, kept_type, kept_types, kept_value, kept_values, kept_op, had_op, all_kept_lowered, one_op}
+use Rattle.uc_lower.proofs.Growing.{grows_on, longer, had_op, all_kept_lowered}
 use Rattle.uc_lower.proofs.Inner.{node_facts}
 use Rattle.uc_lower.proofs.Walking.{IsPlace, Weighed, all_seconds, AgreeTo, FitsAt, Found, IsPair, AreBounded, Walked, lows_before, lows_here, next_place, symbol_on, symbol_back, low_on, means_on, means_back, ranges_on, ranges_back, pair_on, of_seconds, seconds_within}
 

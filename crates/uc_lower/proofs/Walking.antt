@@ -1,35 +1,31 @@
 -- The walk over the subterms of a term, place by place.
-use Rattle.std.specs.Prelude.{◌≡◌, ◌≢◌, ℕ, ◌+◌, ◌-◌, ◌<◌, ◌≤◌, Bool as Flag, true, false, cond, nat_eq, IsTrue, List, [], ◌∷◌, ◌++◌, map, length, get_or, slice_get, Some, All, Contains, zero, suc}
+use Rattle.std.specs.Prelude.{◌≡◌, ℕ, ◌+◌, ◌<◌, ◌≤◌, Bool as Flag, IsTrue, List, [], ◌∷◌, ◌++◌, length, get_or, slice_get, Some, All, Contains, suc}
 use Rattle.std.specs.List.{AllZip}
-use Rattle.std.proofs.Common.{refl, sym, ap, ◌∙◌, subst, arith, length-append, append-nil, inl, inr, ◌⊎◌}
-use Rattle.std.proofs.lemmas.List.{length-map, map-append, get_or_default}
-use Rattle.std.proofs.lemmas.Bool.Decides.{eqb_tells, leb_tells, nat_tests}
-use Rattle.std.proofs.lemmas.List.Elements.{All-append, All-cons, All-nil, All-head, All-tail, All-push, All-weaker, All-contains, All-map, Contains-append_left, Contains-append_right, Contains-append_cases}
+use Rattle.std.proofs.Common.{sym, ap, ◌∙◌, subst, arith, length-append, inl, inr}
+use Rattle.std.proofs.lemmas.List.{get_or_default}
+use Rattle.std.proofs.lemmas.Bool.Decides.{leb_tells}
+use Rattle.std.proofs.lemmas.List.Elements.{All-weaker, All-contains, All-map}
 use Rattle.std.proofs.Math.ListN.{get_or-append}
 use Rattle.std.proofs.Math.Seq.{get_or-append_seam}
-use Rattle.uc_values.specs.Values.{fits, truth_of, zero_of}
+use Rattle.uc_values.specs.Values.{fits}
 use Rattle.uc_values.specs.declared.ty.Ty.{Ty}
-use Rattle.uc_values.specs.declared.ty.Ty.TheVariants.{Bool}
 use Rattle.uc_values.specs.declared.value.Value.{Value}
 use Rattle.uc_ops.specs.declared.model.Model.{Model}
 use Rattle.uc_ops.specs.declared.op.Op.TheVariants.{Symbol}
 use Rattle.uc_ops.specs.declared.node.Node.{Node}
-use Rattle.uc_ops.specs.Typing.{type_at, types_at}
-use Rattle.uc_ops.specs.Meaning.{fitting}
-use Rattle.uc_ops.proofs.Lists.{same_map}
-use Rattle.uc_terms.specs.Tables.{HasOp, WellTyped, parts_at}
-use Rattle.uc_terms.specs.Values.{value, values_at}
+use Rattle.uc_ops.specs.Typing.{type_at}
+use Rattle.uc_terms.specs.Tables.{HasOp}
+use Rattle.uc_terms.specs.Values.{value}
 use Rattle.uc_terms.specs.Subterms.{Marked, FitsTerm, IsSubterm}
 use Rattle.uc_lower.specs.Fields.{leaves, low_types, coded}
 use Rattle.uc_lower.specs.Ranges.{InRange}
-use Rattle.uc_lower.specs.Made.{Grows, Within, IsLowNode, IsLowered}
+use Rattle.uc_lower.specs.Made.{Grows, Within, IsLowered}
 use Rattle.uc_lower.specs.Steps.{lows, IsLow, Means}
 use Rattle.uc_lower.specs.Symbols.{Hold, AreTruths, InRanges}
 use Rattle.uc_lower.specs.Lowering.{Pair, stand_ins, seconds, IsSymbol}
 use Rattle.uc_lower.specs.Bits.{bits_at, AreApart}
 use Rattle.uc_lower.proofs.Bits.{bits_kept}
-use Rattle.uc_lower.proofs.Growing.{grows_not, grows_on, longer, kept_within, kept_type, kept_types, kept_value, kept_values, kept_op, had_op, all_kept_lowered, one_op}
-use Rattle.uc_lower.proofs.Inner.{node_facts}
+use Rattle.uc_lower.proofs.Growing.{grows_on, longer, kept_within, kept_type, kept_types, kept_value, kept_values, kept_op, had_op, all_kept_lowered}
 use Rattle.uc_lower.proofs.Standing.{hold_kept, hold_back, truths_kept}
 
 -- the symbols before a place have what stands for them

@@ -1,11 +1,11 @@
 -- The innermost fields of types, and what stands for a value: the values of its innermost fields, with bits for labels.
-use Rattle.std.specs.Prelude.{ℕ, Bool as Truth, true, ◌&&◌, List, [], ◌∷◌, ◌++◌, map}
+use Rattle.std.specs.Prelude.{Bool as Truth, true, ◌&&◌, List, [], ◌∷◌, ◌++◌, map}
 use Rattle.uc_values.specs.Values.{label_of, parts_of}
 use Rattle.uc_values.specs.Sizes.{label_bits}
 use Rattle.uc_values.specs.Sameness.{same}
 use Rattle.uc_values.specs.declared.ty.Field.{Field}
 use Rattle.uc_values.specs.declared.ty.Ty.{Ty}
-use Rattle.uc_values.specs.declared.ty.Ty.TheVariants.{Bool, Int, Bv, Enum, Un, Rec}
+use Rattle.uc_values.specs.declared.ty.Ty.TheVariants.{Bool, Int, Bv, Enum, Un}
 use Rattle.uc_values.specs.declared.ty.Ty.TheFolds.{fold-Ty}
 use Rattle.uc_values.specs.declared.ty.Ty.TheOpen.{Ty-F}
 use Rattle.uc_values.specs.declared.ty.Ty.TheOpen.Ty-F.{Bool as boolean_type, Int as integer_type, Bv as bits_type, Enum as enum_type, Un as open_type, Rec as record_type, Arr as array_type}

@@ -1,5 +1,5 @@
 -- Which bit-vectors stand for labels.
-use Rattle.std.specs.Prelude.{ℕ, ◌<◌, IsTrue, List}
+use Rattle.std.specs.Prelude.{◌<◌, IsTrue, List}
 use Rattle.std.specs.List.{AllZip}
 use Rattle.uc_values.specs.Values.{fits, bits_of}
 use Rattle.uc_values.specs.declared.ty.Ty.{Ty}

@@ -1,4 +1,4 @@
-use Rattle.std.proofs.Common.{◌≡◌, [], List, ℕ, sym, subst}
+use Rattle.std.proofs.Common.{◌≡◌, [], sym, subst}
 use Rattle.uc_lower.specs.Steps.{IsConjunction}
 use Rattle.uc_lower.proofs.Building.{conjunction_none, conjunction_some, truths_types, no_types, no_items, some_items}
 use Rattle.uc_lower.proofs.build.conjunction.Goals as goal

@@ -1,4 +1,4 @@
-use Rattle.std.proofs.Common.{◌≡◌, ◌∷◌, [], List, ℕ, ◌∙◌, sym, ap, subst, arith, length}
+use Rattle.std.proofs.Common.{◌≡◌, subst, arith, length}
 use Rattle.uc_lower.specs.Steps.{IsConjunction}
 use Rattle.uc_lower.proofs.Building.{equality_one, equality_all, one_item}
 use Rattle.uc_lower.proofs.build.equality.Goals as goal

@@ -1,4 +1,4 @@
-use Rattle.std.proofs.Common.{◌∙◌, sym, ap, drop, length, subst, ◌<◌, arith}
+use Rattle.std.proofs.Common.{◌∙◌, sym, ap, drop, length, ◌<◌, arith}
 use Rattle.uc_values.specs.declared.ty.Field.{Field}
 use Rattle.uc_values.specs.declared.ty.Ty.{Ty}
 use Rattle.uc_ops.specs.Typing.{fields_of}

@@ -1,4 +1,4 @@
-use Rattle.std.proofs.Common.{refl, arith}
+use Rattle.std.proofs.Common.{refl}
 use Rattle.uc_lower.proofs.Marking.{fresh_step, fresh_end}
 use Rattle.uc_lower.proofs.lowering.fresh.Goals as goal
 

@@ -1,5 +1,4 @@
-use Rattle.std.proofs.Common.{◌≡◌, ◌∷◌, [], ◌∙◌, sym, ap, subst, length}
-use Rattle.uc_lower.proofs.Building.{no_items}
+use Rattle.std.proofs.Common.{◌∙◌}
 use Rattle.uc_lower.proofs.Ending.{goal_alone, goal_of, no_vec_items}
 use Rattle.uc_lower.proofs.lowering.goal.Goals as goal
 

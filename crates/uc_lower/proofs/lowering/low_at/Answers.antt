@@ -1,4 +1,4 @@
-use Rattle.std.proofs.Common.{◌≡◌, ◌++◌, ◌∙◌, true, sym, ap, subst, rules}
+use Rattle.std.proofs.Common.{◌≡◌, ◌++◌, ◌∙◌, true, sym, ap, rules}
 use Rattle.uc_lower.specs.Walk.{paired}
 use Rattle.uc_lower.proofs.Marking.{symbol_at, symbol_step}
 use Rattle.uc_lower.proofs.lowering.low_at.Goals as goal

@@ -1,6 +1,6 @@
-use Rattle.std.proofs.Common.{◌≡◌, ◌∙◌, sym, ap, subst}
+use Rattle.std.proofs.Common.{◌∙◌, sym, subst}
 use Rattle.uc_ops.specs.declared.op.Op.TheVariants.{Const}
-use Rattle.uc_values.specs.declared.ty.Ty.TheVariants.{Bool, Bv, Enum}
+use Rattle.uc_values.specs.declared.ty.Ty.TheVariants.{Bool, Bv}
 use Rattle.uc_lower.specs.Made.{truth, bits}
 use Rattle.uc_lower.specs.Steps.{IsReady, IsLowOf}
 use Rattle.uc_lower.proofs.Chosen.{label_ready, constant_kept, constant_label}

@@ -1,6 +1,5 @@
-use Rattle.std.proofs.Common.{◌≡◌, ◌<◌, ◌∙◌, sym, ap, subst, arith, length, get_or}
-use Rattle.uc_terms.specs.Tables.{parts_at}
-use Rattle.uc_ops.specs.Typing.{fields_of, type_at}
+use Rattle.std.proofs.Common.{◌<◌, sym, subst, length}
+use Rattle.uc_ops.specs.Typing.{fields_of}
 use Rattle.uc_lower.proofs.Chosen.{field_ready, field_some, field_made}
 use Rattle.uc_lower.proofs.nodes.field.Goals as goal
 

@@ -1,9 +1,9 @@
-use Rattle.std.proofs.Common.{◌≡◌, ◌∙◌, ◌∷◌, [], sym, ap, subst, arith, length, get_or}
+use Rattle.std.proofs.Common.{◌≡◌, ◌∙◌, sym, ap, subst, arith, length, get_or}
 use Rattle.uc_ops.specs.Typing.{types_at}
 use Rattle.uc_terms.specs.Tables.{parts_at}
 use Rattle.uc_lower.specs.Made.{Within}
-use Rattle.uc_lower.specs.Steps.{IsLowOf, AreChosen, part_lows}
-use Rattle.uc_lower.proofs.Chosen.{choice_parts, condition_length, one_condition, choice_low, choice_made}
+use Rattle.uc_lower.specs.Steps.{part_lows}
+use Rattle.uc_lower.proofs.Chosen.{choice_parts, condition_length, one_condition, choice_made}
 use Rattle.uc_lower.proofs.nodes.low_choice.Goals as goal
 
 pub bounds-low_part-0 : goal.bounds-low_part-0

@@ -1,4 +1,4 @@
-use Rattle.std.proofs.Common.{◌≡◌, ◌∙◌, ◌∷◌, [], sym, ap, subst}
+use Rattle.std.proofs.Common.{◌≡◌, ◌∙◌, sym, ap, subst}
 use Rattle.uc_ops.specs.Typing.{types_at}
 use Rattle.uc_terms.specs.Tables.{parts_at}
 use Rattle.uc_lower.specs.Made.{Within}

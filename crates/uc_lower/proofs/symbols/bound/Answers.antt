@@ -1,6 +1,3 @@
-use Rattle.std.proofs.Common.{◌≡◌, ◌∙◌, sym, ap, subst}
-use Rattle.uc_lower.proofs.Building.{two_within}
-use Rattle.uc_lower.proofs.Growing.{longer}
 use Rattle.uc_lower.proofs.Standing.{last_suits, bound_suits, bound_is, bound_within}
 use Rattle.uc_lower.proofs.symbols.bound.Goals as goal
 

@@ -1,9 +1,8 @@
-use Rattle.std.proofs.Common.{◌≡◌, ◌∙◌, sym, ap, subst}
-use Rattle.uc_values.specs.declared.ty.Ty.TheVariants.{Enum}
+use Rattle.std.proofs.Common.{◌∙◌, sym, ap, subst}
 use Rattle.uc_ops.specs.Typing.{Valid}
 use Rattle.uc_lower.specs.Fields.{low_type}
 use Rattle.uc_lower.specs.Symbols.{HasRange}
-use Rattle.uc_lower.proofs.Standing.{range_some, range_none, label_some}
+use Rattle.uc_lower.proofs.Standing.{range_some, label_some}
 use Rattle.uc_lower.proofs.symbols.range.Goals as goal
 
 pub bound-requires-clause-typed : goal.bound-requires-clause-typed

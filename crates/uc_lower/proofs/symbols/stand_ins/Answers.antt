@@ -1,5 +1,4 @@
 use Rattle.std.proofs.Common.{◌≡◌, ◌∙◌, sym, ap, subst, refl, All}
-use Rattle.uc_values.specs.declared.ty.Ty.{Ty}
 use Rattle.uc_ops.specs.Typing.{AllValid, Valid, type_at}
 use Rattle.uc_lower.specs.Fields.{leaves}
 use Rattle.uc_lower.specs.Steps.{IsBitsType}

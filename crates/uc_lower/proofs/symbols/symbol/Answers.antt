@@ -1,4 +1,4 @@
-use Rattle.std.proofs.Common.{◌≡◌, [], sym, ap, subst, refl}
+use Rattle.std.proofs.Common.{[], subst, refl}
 use Rattle.uc_ops.specs.declared.op.Op.TheVariants.{Symbol}
 use Rattle.uc_lower.specs.Made.{IsMade}
 use Rattle.uc_lower.proofs.symbols.symbol.Goals as goal

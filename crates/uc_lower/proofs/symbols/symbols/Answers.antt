@@ -1,8 +1,7 @@
-use Rattle.std.proofs.Common.{◌≡◌, ◌∷◌, [], ◌∙◌, ◌+◌, sym, ap, subst, take, arith}
-use Rattle.std.proofs.lemmas.List.{take_more}
+use Rattle.std.proofs.Common.{[], sym, subst}
 use Rattle.uc_lower.specs.Steps.{IsBitsType}
-use Rattle.uc_lower.specs.Symbols.{AreSymbols, AreTruths}
-use Rattle.uc_lower.proofs.Standing.{no_symbols, symbols_more, truths_kept, symbols_step}
+use Rattle.uc_lower.specs.Symbols.{AreSymbols}
+use Rattle.uc_lower.proofs.Standing.{no_symbols, truths_kept, symbols_step}
 use Rattle.uc_lower.proofs.symbols.symbols.Goals as goal
 
 pub loop-leaf-init : goal.loop-leaf-init
