@@ -1,0 +1,15 @@
+pub mod Leaves
+pub mod Codes
+pub mod Growing
+pub mod Building
+pub mod Slices
+pub mod Inner
+pub mod Chosen
+pub mod Standing
+pub mod Models
+pub mod Walking
+pub mod Symboling
+pub mod Marking
+pub mod Stepping
+pub mod Ending
+pub mod Bits

@@ -1,0 +1,18 @@
+use Rattle.std.proofs.Common.{arith, subst, sym, ◌+◌}
+use Rattle.uc_lower.specs.Steps.{AreTests}
+use Rattle.uc_lower.proofs.Building.{here, tests_suit, test_step}
+use Rattle.uc_lower.proofs.build.tests.Goals as goal
+
+pub made-requires-clause-suits : goal.made-requires-clause-suits
+made-requires-clause-suits c =
+    let i = c.loop-place.place in
+    let l = c.index-left-place.result in
+    let r = c.index-right-place.result in
+    tests_suit c.args.terms.now c.loop-place.terms c.args.left.now c.args.right.now i l r
+    (here c.args.terms.now c.loop-place.terms c.args.left.now c.args.right.now i l r c.loop-place.invariant.grown c.requires.left c.requires.right c.requires.same c.index-left-place.is c.index-right-place.is (omega arith))
+
+pub loop-place-preserved : goal.loop-place-preserved
+loop-place-preserved c =
+    subst (AreTests c.args.terms.now c.made.new.terms c.args.left.now c.args.right.now (c.loop-place.place + 1)) (sym c.in_ok-push.ensures.items)
+    (test_step c.args.terms.now c.loop-place.terms c.made.new.terms c.args.left.now c.args.right.now c.loop-place.place c.index-left-place.result c.index-right-place.result c.in_ok-test.test c.loop-place.tests.items
+    c.requires.well c.loop-place.invariant c.in_ok-test.ensures.made c.requires.left c.requires.right c.requires.same c.index-left-place.is c.index-right-place.is (omega arith))
