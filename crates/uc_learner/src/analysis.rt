@@ -1,0 +1,99 @@
+//! The analysis of a conflict: a walk back over the trail that resolves the false clause with the reasons of its literals.
+
+ghost use Rattle.std.specs.Prelude.{◌≡◌, ◌+◌, ◌<◌, ℕ, List, [], ◌∷◌, length, reverse, true, false, All, slice_index_or, IfOk};
+ghost use Rattle.uc_learner.specs.Sound.{Sound};
+ghost use Rattle.uc_circuit.specs.Values.{IsFalsified};
+ghost use Rattle.uc_learner.specs.Learns.{Learns};
+ghost use Rattle.uc_learner.specs.Walked.{Walked};
+
+use crate::state::{State, Step};
+use std::alloc::{AllocError, Global};
+use uc_circuit::Lit;
+
+/// What the walk has found so far.
+#[derive(Drop)]
+pub struct Analysis {
+    /// The variables that the conflict needs.
+    pub marked: Vec<bool>,
+    /// The reasons that were resolved, the last one first.
+    pub hints: Vec<u32>,
+    /// The literals of the learnt clause.
+    pub kept: Vec<Lit>,
+    /// How much of the trail stays.
+    pub target: usize,
+}
+
+fn mark(marked: &mut Vec<bool>, clause: &[Lit])
+    requires { All (λ l. l.var < length marked.old.items) clause.now }
+    ensures same_length { length marked.new.items ≡ length marked.old.items }
+    ensures grows { (x : ℕ) → slice_index_or marked.old.items x false ≡ true → slice_index_or marked.new.items x false ≡ true }
+    ensures all { All (λ l. slice_index_or marked.new.items l.var false ≡ true) clause.now }
+{
+    for literal in clause {
+        marked[literal.var as usize] = true;
+    }
+}
+
+impl State {
+    fn walk(&self, analysis: &mut Analysis, at: usize) -> Result<(), AllocError>
+        requires sound { Sound self.now }
+        requires inside { at < length self.now.trail.items }
+        requires before { Walked self.now (at + 1) analysis.old.marked.items analysis.old.kept.items (reverse analysis.old.hints.items) analysis.old.target }
+        ensures { IfOk result (λ _. Walked self.now at analysis.new.marked.items analysis.new.kept.items (reverse analysis.new.hints.items) analysis.new.target) }
+    {
+        let step = self.trail[at];
+        let needed = analysis.marked[step.literal.var as usize];
+        match step.reason {
+            Some(number) if analysis.kept.is_empty() => {
+                if needed {
+                    mark(
+                        &mut analysis.marked,
+                        self.clauses[number as usize].as_slice(),
+                    );
+                    analysis.hints.push(number)?;
+                }
+            }
+            Some(_) => {
+                if needed {
+                    analysis.kept.push(step.literal.negate())?;
+                }
+            }
+            None => {
+                if analysis.kept.is_empty() {
+                    analysis.target = at;
+                    analysis.kept.push(step.literal.negate())?;
+                } else if needed {
+                    analysis.kept.push(step.literal.negate())?;
+                } else if analysis.kept.len() == 1 {
+                    analysis.target = at;
+                }
+            }
+        }
+        Ok(())
+    }
+
+    /// The clause that a conflict teaches, with its hints in order.
+    pub fn analyze(&self, alloc: Global, conflict: u32) -> Result<Analysis, AllocError>
+        requires sound { Sound self.now }
+        requires inside { conflict < length self.now.clauses.items }
+        requires conflict { IsFalsified self.now.values.items (slice_index_or self.now.clauses.items conflict []) }
+        ensures { IfOk result (λ a. Learns self.now a.kept.items a.hints.items a.target) }
+    {
+        let mut marked = vec![in alloc; false; self.inputs.len()]?;
+        mark(&mut marked, self.clauses[conflict as usize].as_slice());
+        let hints = vec![in alloc; conflict]?;
+        let mut analysis = Analysis {
+            marked,
+            hints,
+            kept: Vec::new(alloc),
+            target: 0,
+        };
+        let mut at = self.trail.len();
+        while at > 0 {
+            at -= 1;
+            self.walk(&mut analysis, at)?;
+        }
+        analysis.hints.reverse();
+        Ok(analysis)
+    }
+}

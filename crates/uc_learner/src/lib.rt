@@ -1,0 +1,6 @@
+//! Clause learning.
+#![tactic(auto)]
+
+mod analysis;
+mod propagation;
+mod state;
