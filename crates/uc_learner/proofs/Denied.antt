@@ -9,6 +9,7 @@ use Rattle.uc_circuit.specs.declared.literal.Lit.{Lit}
 use Rattle.uc_circuit.specs.Literals.{negate}
 use Rattle.uc_circuit.specs.Values.{assign, IsFalse, IsFalsified}
 use Rattle.uc_log.specs.Refutes.{deny}
+
 pub deny_elsewhere : (v : List (Option Bool)) (c : List Lit) (x : ℕ) → All (λ l. l.var ≢ x) c → get_or (deny v c) x None ≡ get_or v x None
 deny_elsewhere v [] x away = refl
 deny_elsewhere v (l ∷ c) x away =
@@ -49,4 +50,3 @@ deny_false w v (l ∷ c) within false' =
     All-cons (IsFalse (deny v (l ∷ c))) l c
     (deny_keeps w (assign v (negate l)) c l.var l.neg rest inside' (All-head (IsFalse w) l c false') set')
     (deny_false w (assign v (negate l)) c within' rest)
-

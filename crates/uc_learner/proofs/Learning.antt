@@ -116,11 +116,11 @@ walked_end s marks kept hints target sound walked =
         contradicts = record {
           falsified = fail;
           refutes = walked.explains.from (deny none kept) (record {
-          same_length = length-deny none kept;
-          marked = λ x b is_marked is. absurd (let e : Some b ≡ None = sym is ∙ no_value n x in cc);
-          kept_false = fail;
-          unset = λ x is away. deny_elsewhere none kept x away ∙ no_value n x;
-        });
+            same_length = length-deny none kept;
+            marked = λ x b is_marked is. absurd (let e : Some b ≡ None = sym is ∙ no_value n x in cc);
+            kept_false = fail;
+            unset = λ x is away. deny_elsewhere none kept x away ∙ no_value n x;
+          });
         };
       };
       shape = walked.shape;

@@ -5,4 +5,9 @@ pub mod Measure
 pub mod Walking
 pub mod Learning
 pub mod Progress
+pub mod Taught
+pub mod Opening
+pub mod Answering
+pub mod Completion
 pub mod Passing
+pub mod Adding

@@ -5,3 +5,9 @@ pub mod Walked
 pub mod Learns
 pub mod ClauseStates
 pub mod Moves
+pub mod Opened
+pub mod Recorded
+pub mod Learners
+pub mod Learned
+pub mod Answered
+pub mod Added
