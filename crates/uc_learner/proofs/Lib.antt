@@ -11,3 +11,4 @@ pub mod Answering
 pub mod Completion
 pub mod Passing
 pub mod Adding
+pub mod Starting

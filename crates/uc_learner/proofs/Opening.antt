@@ -43,7 +43,7 @@ accepted nodes (Some q) log valid ends = (
 )
 
 -- the inputs are counted by the flags
-inputs_counted : (nodes : List (Option Gate)) → inputs_count (input_flags nodes) ≡ inputs_of nodes
+pub inputs_counted : (nodes : List (Option Gate)) → inputs_count (input_flags nodes) ≡ inputs_of nodes
 inputs_counted [] = refl
 inputs_counted (None ∷ nodes) = ap (λ k. 1 + k) (inputs_counted nodes)
 inputs_counted (Some g ∷ nodes) = ap (λ k. 0 + k) (inputs_counted nodes)

@@ -57,26 +57,26 @@ decision_at trail i step h is none = record {
 }
 
 pub walked_resolved :
-    (s : State) (i : ℕ) (step : Step) (marks after : List Bool) (hints : List ℕ) (n target : ℕ)
+    (s : State) (i : ℕ) (step : Step) (marks after : List Bool) (kept : List Lit) (hints : List ℕ) (n target : ℕ)
     → Sound s → i < length s.trail.items → step ≡ get_or s.trail.items i step → step.reason ≡ Some n
     → length after ≡ length marks
     → ((x : ℕ) → get_or marks x false ≡ true → get_or after x false ≡ true)
     → All (λ l. get_or after l.var false ≡ true) (get_or s.clauses.items n [])
-    → Walked s (i + 1) marks [] hints target
-    → Walked s i after [] (n ∷ hints) target
-walked_resolved s i step marks after hints n target sound h is reason same_length grows all walked =
+    → Walked s (i + 1) marks kept hints target
+    → Walked s i after kept (n ∷ hints) target
+walked_resolved s i step marks after kept hints n target sound h is reason same_length grows all walked =
     let at : StepAt s i step = step_at s i step sound h is in
     let w : List (Option Bool) = values_at (length s.inputs.items) s.trail.items i in
     let implied : IsImplied s.clauses.items w step.literal n =
     subst (λ (r : Option ℕ). MatchOption r (IsInput s.inputs.items step.literal) (IsImplied s.clauses.items w step.literal)) reason at.fits.cause in
+    let unvalued : All (HasNoValue (assign w step.literal)) kept = subst (λ (k : List (Option Bool)). All (HasNoValue k) kept) at.next walked.unvalued in
     record {
       marks_cover = same_length ∙ walked.marks_cover;
       explains =
-          walk_resolved s.clauses.items w step.literal marks after [] hints n at.fits.inside implied.0 implied.1 grows all
-          (All-nil (HasNoValue (assign w step.literal)))
-          (subst (λ (k : List (Option Bool)). Explains s.clauses.items k marks [] hints) at.next walked.explains);
-      unvalued = All-nil (HasNoValue w);
-      shape = tt;
+          walk_resolved s.clauses.items w step.literal marks after kept hints n at.fits.inside implied.0 implied.1 grows all unvalued
+          (subst (λ (k : List (Option Bool)). Explains s.clauses.items k marks kept hints) at.next walked.explains);
+      unvalued = kept_before w step.literal kept at.fits.inside unvalued;
+      shape = shape_before s.trail.items (length s.inputs.items) i kept target walked.shape;
     }
 
 pub walked_unneeded :
@@ -197,15 +197,13 @@ pub walked_resolved_by :
     → length after ≡ length marks
     → ((x : ℕ) → get_or marks x false ≡ true → get_or after x false ≡ true)
     → All (λ l. get_or after l.var false ≡ true) (get_or s.clauses.items n [])
-    → length kept ≡ 0
     → pushed ≡ hints ++ n ∷ []
     → Walked s (i + 1) marks kept (reverse hints) target
     → Walked s i after kept (reverse pushed) target
-walked_resolved_by s i step marks after (l ∷ kept) hints pushed n target sound h is reason same_length grows all none push walked = absurd (omega arith)
-walked_resolved_by s i step marks after [] hints pushed n target sound h is reason same_length grows all none push walked =
+walked_resolved_by s i step marks after kept hints pushed n target sound h is reason same_length grows all push walked =
     let e : reverse pushed ≡ n ∷ reverse hints = ap reverse push ∙ reverse-append hints (n ∷ []) in
-    subst (λ (k : List ℕ). Walked s i after [] k target) (sym e)
-    (walked_resolved s i step marks after (reverse hints) n target sound h is reason same_length grows all walked)
+    subst (λ (k : List ℕ). Walked s i after kept k target) (sym e)
+    (walked_resolved s i step marks after kept (reverse hints) n target sound h is reason same_length grows all walked)
 
 pub walked_first_by :
     (s : State) (i : ℕ) (step : Step) (marks : List Bool) (kept pushed : List Lit) (hints : List ℕ) (target : ℕ)

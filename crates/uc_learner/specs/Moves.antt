@@ -44,11 +44,20 @@ pub record Onward (before after : State) : Type 0 where
   pub left_le : left_of after ≤ left_of before
   pub unset_le : unset_count after.values.items ≤ unset_count before.values.items
 
+abbrev pub IsFreeInput : State → ℕ → Type 0
+IsFreeInput s x = (x < length s.inputs.items) × (slice_index_or s.inputs.items x false ≡ true) × (slice_index_or s.values.items x None ≡ None)
+
 -- an input without a value, None where there is none
 abbrev pub Chosen : State → Option ℕ → Type 0
 Chosen s r =
     MatchOption r ((x : ℕ) → slice_index_or s.inputs.items x false ≡ true → slice_index_or s.values.items x None ≡ None → ⊥)
-    (λ x. (x < length s.inputs.items) × (slice_index_or s.inputs.items x false ≡ true) × (slice_index_or s.values.items x None ≡ None))
+    (IsFreeInput s)
+
+-- a decision of an input without a value, None where there is none
+abbrev pub Decides : State → Option Step → Type 0
+Decides s r =
+    MatchOption r ((x : ℕ) → slice_index_or s.inputs.items x false ≡ true → slice_index_or s.values.items x None ≡ None → ⊥)
+    (λ step. (step.reason ≡ None) × IsFreeInput s step.literal.var)
 
 -- a state in which all clauses were settled, before any decision was made
 pub record SettledOnce (clauses : List (List Lit)) : Type 0 where

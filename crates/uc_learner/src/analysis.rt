@@ -21,6 +21,21 @@ pub struct Analysis {
     pub kept: Vec<Lit>,
     /// How much of the trail stays.
     pub target: usize,
+    /// How many steps stand before the first decision.
+    root: usize,
+    /// The variables of these steps.
+    fixed: Vec<bool>,
+}
+
+impl Analysis {
+    /// Whether each of the literals is needed already, or was made true or false before the first decision.
+    fn covers(&self, clause: &[Lit]) -> bool {
+        clause.iter().all(|literal| has(&self.marked, literal.var) || has(&self.fixed, literal.var))
+    }
+}
+
+fn has(variables: &Vec<bool>, variable: u32) -> bool {
+    variables.get(variable as usize).copied().unwrap_or(false)
 }
 
 fn mark(marked: &mut Vec<bool>, clause: &[Lit])
@@ -35,6 +50,41 @@ fn mark(marked: &mut Vec<bool>, clause: &[Lit])
 }
 
 impl State {
+    /// Whether the walk resolves with the reason of a step that is needed, or else keeps its literal. It resolves above the
+    /// last decision and before the first one, and where that adds no literal to the clause.
+    fn is_resolved(&self, analysis: &Analysis, at: usize, reason: u32) -> bool
+        ensures { result ≡ false → 0 < length analysis.now.kept.items }
+    {
+        if analysis.kept.is_empty() || at < analysis.root {
+            return true;
+        }
+        match self.clauses.get(reason as usize) {
+            None => false,
+            Some(clause) => analysis.covers(clause.as_slice()),
+        }
+    }
+
+    /// How many steps stand before the first decision.
+    fn root(&self) -> usize {
+        for at in 0..self.trail.len() {
+            if self.trail[at].reason.is_none() {
+                return at;
+            }
+        }
+        self.trail.len()
+    }
+
+    /// The variables of the first steps.
+    fn variables_of(&self, alloc: Global, steps: usize) -> Result<Vec<bool>, AllocError> {
+        let mut variables = vec![in alloc; false; self.inputs.len()]?;
+        for step in self.trail.iter().take(steps) {
+            if let Some(variable) = variables.get_mut(step.literal.var as usize) {
+                *variable = true;
+            }
+        }
+        Ok(variables)
+    }
+
     fn walk(&self, analysis: &mut Analysis, at: usize) -> Result<(), AllocError>
         requires sound { Sound self.now }
         requires inside { at < length self.now.trail.items }
@@ -44,7 +94,7 @@ impl State {
         let step = self.trail[at];
         let needed = analysis.marked[step.literal.var as usize];
         match step.reason {
-            Some(number) if analysis.kept.is_empty() => {
+            Some(number) if self.is_resolved(analysis, at, number) => {
                 if needed {
                     mark(
                         &mut analysis.marked,
@@ -82,11 +132,15 @@ impl State {
         let mut marked = vec![in alloc; false; self.inputs.len()]?;
         mark(&mut marked, self.clauses[conflict as usize].as_slice());
         let hints = vec![in alloc; conflict]?;
+        let root = self.root();
+        let fixed = self.variables_of(alloc, root)?;
         let mut analysis = Analysis {
             marked,
             hints,
             kept: Vec::new(alloc),
             target: 0,
+            root,
+            fixed,
         };
         let mut at = self.trail.len();
         while at > 0 {

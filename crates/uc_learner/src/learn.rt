@@ -104,8 +104,9 @@ impl State {
     ghost use Rattle.uc_learner.specs.declared.learn.Search.TheVariants.{Candidate, Refuted};
     ghost use Rattle.uc_learner.specs.declared.learn.LearnError.TheVariants.{Budget};
 
-    /// Takes over a learnt clause, and asserts its first literal behind the steps that stay.
-    fn learn(&mut self, clause: &[Lit], target: usize) -> Result<(), AllocError>
+    /// Takes over a learnt clause, and asserts its first literal behind the steps that stay. The marked variables took part
+    /// in the conflict.
+    fn learn(&mut self, clause: &[Lit], marked: &[bool], target: usize) -> Result<(), AllocError>
         requires ready { Ready self.old }
         requires some { 0 < length clause.now }
         requires taught { IsTaught self.old clause.now target }
@@ -119,6 +120,7 @@ impl State {
         let copy = Clause::from_slice(*self.clauses.allocator(), clause)?;
         self.cut(target);
         self.clauses.push(copy)?;
+        self.preferences.raise(marked);
         self.push(Step {
             literal: asserted,
             reason: Some(number as u32),
@@ -160,17 +162,18 @@ impl State {
     {
         let alloc = *self.clauses.allocator();
         let Analysis {
-            marked: _,
+            marked,
             hints,
             kept,
             target,
+            ..
         } = self.analyze(alloc, conflict)?;
         let clause = Clause::from_slice(alloc, kept.as_slice())?;
         record(terms, log, meter, clause, Items::from_vec(hints))?;
         if kept.is_empty() {
             return Ok(true);
         }
-        self.learn(kept.as_slice(), target)?;
+        self.learn(kept.as_slice(), marked.as_slice(), target)?;
         Ok(false)
     }
 

@@ -7,6 +7,7 @@
 mod analysis;
 mod learn;
 mod learner;
+mod preferences;
 mod propagation;
 mod state;
 

@@ -1,9 +1,9 @@
 //! Unit propagation over all clauses.
 
-ghost use Rattle.std.specs.Prelude.{◌≡◌, ◌<◌, length, slice_index_or, [], IfOk, OnOk};
+ghost use Rattle.std.specs.Prelude.{◌≡◌, ◌<◌, length, slice_index_or, [], IsTrue, IfOk, OnOk};
 ghost use Rattle.uc_learner.specs.Sound.{Sound};
 ghost use Rattle.uc_learner.specs.ClauseStates.{ConflictIs};
-ghost use Rattle.uc_learner.specs.Moves.{Ready, Onward, Chosen, NoDecision, PassEnds, Descended};
+ghost use Rattle.uc_learner.specs.Moves.{Ready, Onward, Chosen, Decides, IsFreeInput, NoDecision, PassEnds, Descended};
 
 use crate::state::{State, Step};
 use std::alloc::AllocError;
@@ -78,6 +78,59 @@ impl State {
         None
     }
 
+    /// The input without a value that took part in conflicts most and latest.
+    fn chosen_input(&self) -> Option<u32>
+        requires { Sound self.now }
+        ensures { Chosen self.now result }
+    {
+        let Some(first) = self.free_input() else {
+            return None;
+        };
+        let mut best = first;
+        for input in first..self.inputs.len() as u32 {
+            best = self.better(best, input);
+        }
+        Some(best)
+    }
+
+    /// The input with the higher score, where the second is an input without a value.
+    fn better(&self, best: u32, other: u32) -> u32
+        requires { IsFreeInput self.now best }
+        ensures { IsFreeInput self.now result }
+    {
+        if self.is_free(other) && self.preferences.score(other) > self.preferences.score(best) {
+            other
+        } else {
+            best
+        }
+    }
+
+    /// Whether it is an input without a value.
+    fn is_free(&self, input: u32) -> bool
+        ensures { IsTrue result → IsFreeInput self.now input }
+    {
+        let place = input as usize;
+        place < self.inputs.len()
+            && place < self.values.len()
+            && self.inputs[place]
+            && self.values[place].is_none()
+    }
+
+    /// The decision to make: the chosen input gets the value that it had last.
+    fn decision(&self) -> Option<Step>
+        requires { Sound self.now }
+        ensures { Decides self.now result }
+    {
+        let Some(input) = self.chosen_input() else {
+            return None;
+        };
+        let neg = !self.preferences.phase(input);
+        Some(Step {
+            literal: Lit { var: input, neg },
+            reason: None,
+        })
+    }
+
     /// Decides and propagates until a clause is false or each input has a value.
     pub fn descend(&mut self) -> Result<Option<u32>, AllocError>
         requires { Ready self.old }
@@ -87,16 +140,10 @@ impl State {
             if let Some(conflict) = self.propagate()? {
                 return Ok(Some(conflict));
             }
-            let Some(input) = self.free_input() else {
+            let Some(step) = self.decision() else {
                 return Ok(None);
             };
-            self.push(Step {
-                literal: Lit {
-                    var: input,
-                    neg: true,
-                },
-                reason: None,
-            })?;
+            self.push(step)?;
         }
     }
 }

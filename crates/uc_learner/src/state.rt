@@ -7,6 +7,7 @@ ghost use Rattle.uc_log.specs.Refutes.{unvalued};
 ghost use Rattle.uc_learner.specs.Learners.{IsOver, input_flags};
 ghost use Rattle.uc_learner.specs.Answered.{Holds};
 
+use crate::preferences::Preferences;
 use std::alloc::{AllocError, Global};
 use uc_circuit::{Circuit, Clause, Lit};
 use uc_log::{Entry, Problem};
@@ -26,6 +27,7 @@ pub struct State {
     pub inputs: Vec<bool>,
     pub values: Vec<Option<bool>>,
     pub trail: Vec<Step>,
+    pub preferences: Preferences,
 }
 
 impl State {
@@ -42,6 +44,7 @@ impl State {
             inputs: Vec::new(alloc),
             values: Vec::new(alloc),
             trail: Vec::new(alloc),
+            preferences: Preferences::new(alloc),
         }
     }
 
@@ -60,6 +63,7 @@ impl State {
             inputs: input_flags(alloc, circuit)?,
             values: no_values(alloc, circuit.len() as usize)?,
             trail: Vec::new(alloc),
+            preferences: Preferences::of(alloc, circuit.len())?,
         })
     }
 
@@ -91,6 +95,7 @@ impl State {
         }
         self.inputs.push(is_input)?;
         self.values.push(None)?;
+        self.preferences.add_variable()?;
         Ok(())
     }
 
@@ -112,13 +117,15 @@ impl State {
         while self.trail.len() > target {
             if let Some(step) = self.trail.pop() {
                 self.values[step.literal.var as usize] = None;
+                self.preferences
+                    .keep_phase(step.literal.var, !step.literal.neg);
             }
         }
     }
 }
 
 /// For each variable of a circuit, whether it is an input.
-fn input_flags(alloc: Global, circuit: &Circuit) -> Result<Vec<bool>, AllocError>
+pub fn input_flags(alloc: Global, circuit: &Circuit) -> Result<Vec<bool>, AllocError>
     ensures { IfOk result (λ f. f.items ≡ input_flags circuit.now) }
 {
     let mut flags = Vec::with_capacity(alloc, circuit.len() as usize)?;

@@ -1,4 +1,4 @@
-use Rattle.std.proofs.Common.{arith, refl, subst}
+use Rattle.std.proofs.Common.{arith, subst}
 use Rattle.uc_learner.specs.ClauseStates.{AllSettled, ConflictIs}
 use Rattle.uc_learner.specs.Moves.{Onward}
 use Rattle.uc_learner.proofs.Learning.{length-values}
@@ -14,20 +14,20 @@ returns-in-Some c = record {
 }
 
 pub push-requires : goal.push-requires
-push-requires c = omega (arith, length-values c.propagate.new.self c.in_ok-conflict.ensures.onward.ready.sound, c.in-Some-free_input.ensures.0)
+push-requires c = omega (arith, length-values c.propagate.new.self c.in_ok-conflict.ensures.onward.ready.sound, c.in-Some-decision.ensures.1.0)
 
 pub loop-conflict-smaller : goal.loop-conflict-smaller
 loop-conflict-smaller c =
     let settled : AllSettled c.propagate.new.self.clauses.items c.propagate.new.self.values.items = conflict_none c.propagate.new.self c.in_ok-conflict.field-0 c.in_ok-conflict.ensures.conflict c.in_default.not-Some in
     let stepped : Stepped c.propagate.new.self c.push.new.self =
-    decided_step c.propagate.new.self c.push.new.self _ c.in_ok-conflict.ensures.onward.ready c.in_ok-push.ensures refl c.in-Some-free_input.ensures.1 c.in-Some-free_input.ensures.0 c.in-Some-free_input.ensures.2 settled in
+    decided_step c.propagate.new.self c.push.new.self _ c.in_ok-conflict.ensures.onward.ready c.in_ok-push.ensures c.in-Some-decision.ensures.0 c.in-Some-decision.ensures.1.1 c.in-Some-decision.ensures.1.0 c.in-Some-decision.ensures.1.2 settled in
     omega (arith, stepped.unset_less, c.in_ok-conflict.ensures.onward.unset_le)
 
 pub loop-conflict-preserved : goal.loop-conflict-preserved
 loop-conflict-preserved c =
     let settled : AllSettled c.propagate.new.self.clauses.items c.propagate.new.self.values.items = conflict_none c.propagate.new.self c.in_ok-conflict.field-0 c.in_ok-conflict.ensures.conflict c.in_default.not-Some in
     let stepped : Stepped c.propagate.new.self c.push.new.self =
-    decided_step c.propagate.new.self c.push.new.self _ c.in_ok-conflict.ensures.onward.ready c.in_ok-push.ensures refl c.in-Some-free_input.ensures.1 c.in-Some-free_input.ensures.0 c.in-Some-free_input.ensures.2 settled in
+    decided_step c.propagate.new.self c.push.new.self _ c.in_ok-conflict.ensures.onward.ready c.in_ok-push.ensures c.in-Some-decision.ensures.0 c.in-Some-decision.ensures.1.1 c.in-Some-decision.ensures.1.0 c.in-Some-decision.ensures.1.2 settled in
     let here : Onward c.args.self.now c.propagate.new.self = onward_trans c.args.self.now c.loop-conflict.self c.propagate.new.self c.loop-conflict.invariant.onward c.in_ok-conflict.ensures.onward in
     record {
       onward = onward_trans c.args.self.now c.propagate.new.self c.push.new.self here stepped.onward;

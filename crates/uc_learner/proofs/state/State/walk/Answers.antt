@@ -11,7 +11,7 @@ returns-in_ok-push-in-Some c =
     (subst (λ (k : List Lit). All (λ l. get_or c.mark.new.marked.items l.var false ≡ true) k)
     (clause_read c.args.self.now c.in-Some.number _ _ (reason_inside _ _ _ _ c.requires.sound c.requires.inside c.index-step.ensures c.in-Some.is) c.index.ensures c.as_slice.ensures)
     c.mark.ensures.all)
-    (grind (arith, common_steps)) c.in_ok-push-in-Some.ensures.items c.requires.before
+    c.in_ok-push-in-Some.ensures.items c.requires.before
 
 pub returns-else-needed : goal.returns-else-needed
 returns-else-needed c = walked_unneeded _ _ _ _ _ _ _ c.requires.sound c.requires.inside c.index-step.ensures (cc) c.requires.before
