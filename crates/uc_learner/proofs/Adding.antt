@@ -1,25 +1,22 @@
 -- Taking over a problem and an entry.
-use Rattle.std.proofs.Common.{◌≡◌, ℕ, ◌+◌, ◌^◌, ◌<◌, ◌≤◌, Bool, true, false, List, [], ◌∷◌, ◌++◌, Option, None, Some, length, replicate, refl, sym, ◌∙◌, ap, subst, arith}
-use Rattle.std.specs.Prelude.{All}
-use Rattle.std.proofs.lemmas.List.{append-nil, length_push, length-append, length-map, length-replicate, replicate-append-replicate, map-append}
+use Rattle.std.proofs.Common.{◌≡◌, ℕ, ◌+◌, ◌^◌, ◌<◌, Bool, List, [], ◌∷◌, ◌++◌, None, length, replicate, refl, sym, ◌∙◌, ap, subst, arith}
+use Rattle.std.proofs.lemmas.List.{append-nil, length-append, length-map, length-replicate, replicate-append-replicate, map-append}
 use Rattle.std.proofs.lemmas.List.Elements.{All-nil, All-append, All-push}
 use Rattle.uc_circuit.specs.declared.literal.Lit.{Lit}
-use Rattle.uc_circuit.specs.declared.gate.Gate.{Gate}
 use Rattle.uc_circuit.specs.Gates.{clauses_of_gate}
 use Rattle.uc_log.specs.declared.entry.Entry.{Entry}
 use Rattle.uc_log.specs.declared.entry.Entry.TheVariants.{Gate as GateEntry, Atom as AtomEntry, Learnt}
 use Rattle.uc_log.specs.Problems.{Question, IsQuestion}
-use Rattle.uc_log.specs.Refutes.{Within, AllWithin, unvalued}
-use Rattle.uc_log.specs.Entries.{Known, known_of, clauses_of, add, added_nodes, given}
+use Rattle.uc_log.specs.Refutes.{Within, AllWithin}
+use Rattle.uc_log.specs.Entries.{Known, clauses_of, added_nodes, given}
 use Rattle.uc_log.proofs.Circuits.{gate_within, weaken}
 use Rattle.uc_log.proofs.Refutation.{closed_first}
 use Rattle.uc_learner.specs.declared.state.Step.{Step}
 use Rattle.uc_learner.specs.declared.state.State.{State}
-use Rattle.uc_learner.specs.Trail.{values_after, TrailFits}
+use Rattle.uc_learner.specs.Trail.{values_after}
 use Rattle.uc_learner.specs.Sound.{Sound}
 use Rattle.uc_learner.specs.Moves.{Cut}
 use Rattle.uc_learner.specs.Learners.{flag_of, input_flags, IsOver}
-use Rattle.uc_learner.specs.Answered.{Holds}
 use Rattle.uc_learner.specs.Added.{VariableAdded, Added}
 use Rattle.uc_learner.proofs.Progress.{sound_made}
 

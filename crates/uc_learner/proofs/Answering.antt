@@ -11,7 +11,7 @@ use Rattle.uc_log.specs.declared.entry.Entry.TheVariants.{Learnt}
 use Rattle.uc_log.specs.Refutes.{Refutes, IsLearnt}
 use Rattle.uc_ops.specs.declared.node.Node.{Node}
 use Rattle.uc_log.specs.Problems.{Question}
-use Rattle.uc_log.specs.Entries.{Known, add, known_after, AllMeet}
+use Rattle.uc_log.specs.Entries.{Known, add, known_after}
 use Rattle.uc_learner.specs.Opened.{opened_known, known_now, GivesEmpty}
 use Rattle.uc_learner.specs.Learners.{flag_of, input_flags}
 use Rattle.uc_log.proofs.Growth.{known_after-append, new_clause}

@@ -1,13 +1,12 @@
 -- Where the inputs have values and each clause is settled, each clause is true.
-use Rattle.std.proofs.Common.{◌≡◌, ℕ, ◌+◌, ◌<◌, ◌≤◌, ◌⊎◌, inl, inr, Bool, true, false, not, List, [], ◌∷◌, ◌++◌, Option, None, Some, length, get_or, refl, sym, ◌∙◌, ap, subst, arith, zero-add}
-use Rattle.std.specs.Prelude.{All, Contains, MatchOption, map, if◌then◌else◌}
+use Rattle.std.proofs.Common.{◌≡◌, ℕ, ◌+◌, ◌<◌, ◌⊎◌, inl, inr, Bool, true, false, not, List, [], ◌∷◌, ◌++◌, Option, None, Some, length, get_or, refl, sym, ◌∙◌, ap, subst, arith, zero-add}
+use Rattle.std.specs.Prelude.{All, Contains, MatchOption, if◌then◌else◌}
 use Rattle.std.specs.Option.{unwrap_or}
 use Rattle.std.proofs.lemmas.Bool.{cases_eq}
 use Rattle.std.proofs.lemmas.List.{append-nil, length_push, length-map, get_or-map, get_or_append_left, get_or_push}
 use Rattle.std.proofs.lemmas.List.Elements.{All-nil, All-cons, All-append, All-head, All-tail, All-contains, All-weaker, Contains-get_or, Contains-append_left, Contains-append_right, All-contains_itself}
 use Rattle.uc_circuit.specs.declared.literal.Lit.{Lit}
 use Rattle.uc_circuit.specs.declared.gate.Gate.{Gate}
-use Rattle.uc_circuit.specs.Literals.{literal_value}
 use Rattle.uc_circuit.specs.Clauses.{IsTrueClause, Satisfies}
 use Rattle.uc_circuit.specs.Gates.{clauses_of_gate, OperandsBelow}
 use Rattle.uc_circuit.specs.Circuits.{IsOrdered, circuit_clauses, node_clauses}
@@ -19,11 +18,11 @@ use Rattle.uc_log.specs.declared.entry.Entry.TheVariants.{Gate as GateEntry, Ato
 use Rattle.uc_log.specs.Problems.{Question, IsQuestion}
 use Rattle.uc_log.specs.Refutes.{AllWithin}
 use Rattle.uc_log.specs.Meters.{IsValidFor}
-use Rattle.uc_log.specs.Entries.{Known, known_of, add, given, known_after, Meets, AllMeet}
+use Rattle.uc_log.specs.Entries.{Known, known_of, add, known_after, Meets, AllMeet}
 use Rattle.uc_log.proofs.Circuits.{clauses_from-append}
 use Rattle.uc_learner.specs.declared.state.State.{State}
 use Rattle.uc_learner.specs.ClauseStates.{AllSettled, ConflictIs}
-use Rattle.uc_learner.specs.Opened.{opened_known, known_now, HasQuestion}
+use Rattle.uc_learner.specs.Opened.{known_now, HasQuestion}
 use Rattle.uc_learner.specs.Learners.{flag_of, input_flags, valuation}
 use Rattle.uc_learner.specs.Moves.{Descended}
 use Rattle.uc_learner.specs.Answered.{Holds}

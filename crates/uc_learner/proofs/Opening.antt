@@ -3,7 +3,6 @@ use Rattle.std.proofs.Common.{◌≡◌, ◌<◌, ◌+◌, ℕ, Bool, List, [], 
 use Rattle.std.specs.Prelude.{Contains, slice_get}
 use Rattle.std.proofs.lemmas.List.{length-take-le}
 use Rattle.std.proofs.lemmas.Option.{get_or_from_slice_get}
-use Rattle.uc_circuit.specs.declared.literal.Lit.{Lit}
 use Rattle.uc_ops.specs.declared.node.Node.{Node}
 use Rattle.uc_log.specs.declared.entry.Entry.{Entry}
 use Rattle.uc_log.specs.declared.entry.Entry.TheVariants.{Learnt}

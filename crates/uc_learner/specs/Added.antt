@@ -6,6 +6,7 @@ use Rattle.uc_learner.specs.declared.state.State.{State}
 use Rattle.uc_learner.specs.Sound.{Sound}
 use Rattle.uc_learner.specs.Answered.{Holds}
 
+-- a variable more, without a value
 pub record VariableAdded (before : State) (is_input : Bool) (after : State) : Type 0 where
   pub clauses : after.clauses.items ≡ before.clauses.items
   pub inputs : after.inputs.items ≡ before.inputs.items ++ is_input ∷ []
@@ -13,6 +14,7 @@ pub record VariableAdded (before : State) (is_input : Bool) (after : State) : Ty
   pub trail : after.trail.items ≡ before.trail.items
   pub room : length after.inputs.items < 2 ^ 32
 
+-- the entry is taken over: whatever the state held is held with the entry
 pub record Added (before : State) (e : Entry) (after : State) : Type 0 where
   pub sound : Sound after
   pub holds : (k : Known) → Holds before k → Holds after (add k e)

@@ -5,6 +5,7 @@ use Rattle.uc_circuit.specs.Values.{IsFalsified}
 use Rattle.uc_learner.specs.declared.state.State.{State}
 use Rattle.uc_circuit.specs.Values.{IsSettled}
 
+-- no clause is false or unit
 abbrev pub AllSettled : List (List Lit) → List (Option Bool) → Type 0
 AllSettled clauses values = All (IsSettled values) clauses
 

@@ -10,6 +10,7 @@ pub record IsTaught (s : State) (clause : List Lit) (target : ℕ) : Type 0 wher
   pub within : All (λ l. l.var < length s.inputs.items) clause
   pub shape : HasShape s.trail.items (length s.inputs.items) 0 clause target
 
+-- the clause is there, the search is between two steps again, and fewer assignments of the inputs are left
 pub record LearnedBy (before : State) (clause : List Lit) (after : State) : Type 0 where
   pub clauses : after.clauses.items ≡ before.clauses.items ++ clause ∷ []
   pub inputs : after.inputs.items ≡ before.inputs.items

@@ -18,6 +18,7 @@ pub record Learning : Type 0 where
   pub values : List (Option Bool)
   pub entries : ℕ
 
+-- an input is a node without a gate
 abbrev pub flag_of : Option Gate → Bool
 flag_of None = true
 flag_of (Some g) = false

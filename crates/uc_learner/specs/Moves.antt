@@ -10,12 +10,14 @@ use Rattle.uc_learner.specs.Sound.{Sound}
 use Rattle.uc_learner.specs.ClauseStates.{AllSettled, ConflictIs}
 use Rattle.uc_circuit.specs.declared.literal.Lit.{Lit}
 
+-- one step more
 pub record Pushed (before : State) (step : Step) (after : State) : Type 0 where
   pub clauses : after.clauses.items ≡ before.clauses.items
   pub inputs : after.inputs.items ≡ before.inputs.items
   pub trail : after.trail.items ≡ before.trail.items ++ step ∷ []
   pub values : after.values.items ≡ assign before.values.items step.literal
 
+-- the first steps alone
 pub record Cut (before : State) (target : ℕ) (after : State) : Type 0 where
   pub clauses : after.clauses.items ≡ before.clauses.items
   pub inputs : after.inputs.items ≡ before.inputs.items
@@ -44,6 +46,7 @@ pub record Onward (before after : State) : Type 0 where
   pub left_le : left_of after ≤ left_of before
   pub unset_le : unset_count after.values.items ≤ unset_count before.values.items
 
+-- the variable is an input without a value
 abbrev pub IsFreeInput : State → ℕ → Type 0
 IsFreeInput s x = (x < length s.inputs.items) × (slice_index_or s.inputs.items x false ≡ true) × (slice_index_or s.values.items x None ≡ None)
 
@@ -64,15 +67,18 @@ pub record SettledOnce (clauses : List (List Lit)) : Type 0 where
   pub values : List (Option Bool)
   pub settled : AllSettled clauses values
 
+-- each step is implied
 abbrev pub NoDecision : State → Type 0
 NoDecision s = All (λ step. step.reason ≡ None → ⊥) s.trail.items
 
+-- None where nothing is forced or false and each input has a value, else the number of a false clause
 pub record Descended (before after : State) (r : Option ℕ) : Type 0 where
   pub onward : Onward before after
   pub conflict : ConflictIs after r
   pub complete : MatchOption r ((x : ℕ) → slice_index_or after.inputs.items x false ≡ true → slice_index_or after.values.items x None ≡ None → ⊥) (λ _. Unit {0})
   pub decided : SettledOnce before.clauses.items ⊎ (NoDecision before → NoDecision after)
 
+-- a false clause, or a variable more with a value, or nothing forced
 abbrev pub PassEnds : State → State → Pass → Type 0
 PassEnds before after (Conflict n) = ConflictIs after (Some n)
 PassEnds before after Changed = unset_count after.values.items < unset_count before.values.items

@@ -13,9 +13,11 @@ values_after values (s ∷ rest) = values_after (assign values s.literal) rest
 abbrev pub values_at : ℕ → List Step → ℕ → List (Option Bool)
 values_at n trail i = values_after (replicate n None) (take i trail)
 
+-- the clause of that number forces the literal
 abbrev pub IsImplied : List (List Lit) → List (Option Bool) → Lit → ℕ → Type 0
 IsImplied clauses values l n = (n < length clauses) × Forces values (slice_index_or clauses n []) l
 
+-- the variable of the literal is an input
 abbrev pub IsInput : List Bool → Lit → Type 0
 IsInput inputs l = slice_index_or inputs l.var false ≡ true
 
@@ -25,10 +27,12 @@ pub record StepFits (inputs : List Bool) (clauses : List (List Lit)) (values : L
   pub unset : HasNoValue values s.literal
   pub cause : MatchOption s.reason (IsInput inputs s.literal) (IsImplied clauses values s.literal)
 
+-- each step fits the values before it
 abbrev pub TrailFits : List Bool → List (List Lit) → List (Option Bool) → List Step → Type 0
 TrailFits inputs clauses values [] = Unit {0}
 TrailFits inputs clauses values (s ∷ rest) = StepFits inputs clauses values s × TrailFits inputs clauses (assign values s.literal) rest
 
+-- no clause is false
 abbrev pub NoneFalsified : List (List Lit) → List (Option Bool) → Type 0
 NoneFalsified clauses values = All (λ c. IsFalsified values c → ⊥) clauses
 
@@ -45,6 +49,7 @@ one_if_free true None = 1
 one_if_free true (Some b) = 0
 one_if_free false v = 0
 
+-- summed over the variables
 abbrev pub free : List Bool → List (Option Bool) → ℕ
 free [] values = 0
 free (k ∷ inputs) [] = 0
@@ -55,6 +60,7 @@ abbrev pub flipped_side : Option ℕ → ℕ → ℕ
 flipped_side None n = 2 ^ n
 flipped_side (Some r) n = 0
 
+-- summed over the decisions
 abbrev pub flips : List Bool → List (Option Bool) → List Step → ℕ
 flips inputs values [] = 0
 flips inputs values (s ∷ rest) =

@@ -26,10 +26,12 @@ pub record Shape (trail : List Step) (n i : ℕ) (asserted : Lit) (rest : List L
   pub at_le : i ≤ target
   pub rest_false : IsFalsified (values_at n trail target) rest
 
+-- the same of the whole clause: an empty one has no decision to negate
 abbrev pub HasShape : List Step → ℕ → ℕ → List Lit → ℕ → Type 0
 HasShape trail n i [] target = Unit {0}
 HasShape trail n i (l ∷ rest) target = Shape trail n i l rest target
 
+-- behind step i: from the values that are marked or kept the hints lead to a false clause
 pub record Walked (s : State) (i : ℕ) (marks : List Bool) (kept : List Lit) (hints : List ℕ) (target : ℕ) : Type 0 where
   pub marks_cover : length marks ≡ length s.inputs.items
   pub explains : Explains s.clauses.items (values_at (length s.inputs.items) s.trail.items i) marks kept hints

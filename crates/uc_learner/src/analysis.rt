@@ -38,6 +38,7 @@ fn has(variables: &Vec<bool>, variable: u32) -> bool {
     variables.get(variable as usize).copied().unwrap_or(false)
 }
 
+/// Marks the variables of a clause.
 fn mark(marked: &mut Vec<bool>, clause: &[Lit])
     requires { All (λ l. l.var < length marked.old.items) clause.now }
     ensures same_length { length marked.new.items ≡ length marked.old.items }
@@ -85,6 +86,7 @@ impl State {
         Ok(variables)
     }
 
+    /// Walks over the step at a place, the walk having come down to the place behind it.
     fn walk(&self, analysis: &mut Analysis, at: usize) -> Result<(), AllocError>
         requires sound { Sound self.now }
         requires inside { at < length self.now.trail.items }

@@ -19,13 +19,16 @@ pub struct Step {
     pub reason: Option<u32>,
 }
 
+/// What the search knows: its clauses, and what it has made true.
 #[derive(Drop)]
 pub struct State {
     /// The clauses by number.
     pub clauses: Vec<Clause>,
     /// For each variable, whether it is an input.
     pub inputs: Vec<bool>,
+    /// The values of the variables after the trail.
     pub values: Vec<Option<bool>>,
+    /// The literals that were made true, in order.
     pub trail: Vec<Step>,
     pub preferences: Preferences,
 }
@@ -99,6 +102,7 @@ impl State {
         Ok(())
     }
 
+    /// Makes a literal true.
     pub fn push(&mut self, step: Step) -> Result<(), AllocError>
         requires { step.literal.var < length self.old.values.items }
         ensures { OnOk result (Pushed self.old step self.new) }

@@ -1,4 +1,4 @@
-use Rattle.std.proofs.Common.{subst, ◌∙◌, [], ◌∷◌, List, ℕ}
+use Rattle.std.proofs.Common.{subst, [], List, ℕ}
 use Rattle.std.specs.Prelude.{Contains}
 use Rattle.uc_circuit.specs.declared.literal.Lit.{Lit}
 use Rattle.uc_log.specs.declared.entry.Entry.TheVariants.{Learnt}

@@ -1,4 +1,4 @@
-use Rattle.std.proofs.Common.{arith, refl, sym, ap, ◌≡◌, ◌<◌, ◌+◌, ◌^◌, length, true, false, []}
+use Rattle.std.proofs.Common.{arith, refl, sym, ap, ◌≡◌, ◌<◌, ◌+◌, ◌^◌, length, true, false}
 use Rattle.std.proofs.lemmas.Grind.{common_steps}
 use Rattle.std.proofs.lemmas.Result.{on_ok_weaker}
 use Rattle.uc_log.specs.declared.entry.Entry.{Entry}

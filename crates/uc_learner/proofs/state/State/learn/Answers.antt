@@ -1,4 +1,4 @@
-use Rattle.std.proofs.Common.{arith, refl, sym, ap, ◌∙◌, ◌≡◌, ◌++◌, ◌∷◌, [], false, length, get_or, Some}
+use Rattle.std.proofs.Common.{arith, refl, ap, ◌∙◌, ◌≡◌, ◌++◌, ◌∷◌, [], false, length, get_or, Some}
 use Rattle.std.proofs.lemmas.Grind.{common_steps}
 use Rattle.std.proofs.lemmas.List.{get_or_default}
 use Rattle.std.proofs.lemmas.Result.{on_ok_weaker}

@@ -1,6 +1,5 @@
-use Rattle.std.proofs.Common.{arith, ap, ◌∙◌, ◌≡◌, ◌<◌, ◌^◌, length, replicate, None}
+use Rattle.std.proofs.Common.{arith, ap, ◌∙◌, length, replicate, None}
 use Rattle.std.proofs.lemmas.Grind.{common_steps}
-use Rattle.uc_log.specs.Entries.{clauses_of}
 use Rattle.uc_learner.specs.Learners.{input_flags}
 use Rattle.uc_learner.proofs.Adding.{first_sound}
 use Rattle.uc_learner.proofs.state.State.of.Goals as goal
