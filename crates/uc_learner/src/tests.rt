@@ -1,4 +1,4 @@
-//! Pigeons and a contradiction, with each refutation given to the checker.
+//! Pigeons, products and a contradiction, with each refutation given to the checker.
 
 ghost use Rattle.std.specs.Prelude.{◌≡◌, ◌<◌, ◌+◌, ◌^◌, length, OnOk};
 ghost use Rattle.uc_learner.specs.Answered.{one_if};
@@ -90,6 +90,65 @@ fn pigeons(alloc: Global, count: u32, holes: u32) -> Result<Problem, AllocError>
     problem_of(alloc, circuit, goal)
 }
 
+/// The sum of two numbers, lowest bit first, with as many bits as the first.
+fn sum(
+    alloc: Global,
+    circuit: &mut Circuit,
+    zero: Lit,
+    left: &[Lit],
+    right: &[Lit],
+) -> Result<Vec<Lit>, AllocError> {
+    let mut bits = Vec::new(alloc);
+    let mut carry = zero;
+    for (x, y) in left.iter().zip(right.iter()) {
+        let differ = gate(circuit, Gate::Xor(*x, *y))?;
+        bits.push(gate(circuit, Gate::Xor(differ, carry))?)?;
+        carry = gate(circuit, Gate::Mux(differ, carry, *x))?;
+    }
+    Ok(bits)
+}
+
+/// The product of two numbers, with as many bits as the first.
+fn product(
+    alloc: Global,
+    circuit: &mut Circuit,
+    zero: Lit,
+    left: &[Lit],
+    right: &[Lit],
+) -> Result<Vec<Lit>, AllocError> {
+    let mut total = Vec::new(alloc);
+    for _bit in left {
+        total.push(zero)?;
+    }
+    let mut shift = Vec::new(alloc);
+    for digit in right {
+        let mut row = Vec::from_slice(alloc, shift.as_slice())?;
+        for bit in left {
+            row.push(gate(circuit, Gate::And(*bit, *digit))?)?;
+        }
+        total = sum(alloc, circuit, zero, total.as_slice(), row.as_slice())?;
+        shift.push(zero)?;
+    }
+    Ok(total)
+}
+
+/// The products of two numbers in both orders differ.
+fn commutativity(alloc: Global, bits: u32) -> Result<Problem, AllocError> {
+    let mut circuit = Circuit::new(alloc)?;
+    let first = circuit.add_input()?;
+    let zero = gate(&mut circuit, Gate::And(first, first.negate()))?;
+    let left = inputs(alloc, &mut circuit, bits)?;
+    let right = inputs(alloc, &mut circuit, bits)?;
+    let here = product(alloc, &mut circuit, zero, left.as_slice(), right.as_slice())?;
+    let there = product(alloc, &mut circuit, zero, right.as_slice(), left.as_slice())?;
+    let mut differ = Vec::new(alloc);
+    for (x, y) in here.iter().zip(there.iter()) {
+        differ.push(gate(&mut circuit, Gate::Xor(*x, *y))?)?;
+    }
+    let goal = one_of(alloc, &mut circuit, differ.as_slice())?;
+    problem_of(alloc, circuit, goal)
+}
+
 /// Gate 1, which is input 0 and its negation, is to be true.
 fn contradiction(alloc: Global) -> Result<Problem, AllocError> {
     let mut circuit = Circuit::new(alloc)?;
@@ -159,6 +218,7 @@ fn a_search_ends_with_an_accepted_log_or_a_candidate(rt: HostRuntime) -> Result<
     assert!(rt; ended_alone(alloc, contradiction(alloc)?, 0)? == Outcome::OutOfBudget);
     assert!(rt; ended_alone(alloc, pigeons(alloc, 5, 4)?, 1 << 20)? == refuted);
     assert!(rt; ended_alone(alloc, pigeons(alloc, 6, 5)?, 1 << 30)? == refuted);
+    assert!(rt; ended_alone(alloc, commutativity(alloc, 3)?, 128)? == refuted);
     assert!(rt; ended_alone(alloc, pigeons(alloc, 4, 4)?, 1 << 16)? == Outcome::Candidate(true));
     Ok(())
 }
