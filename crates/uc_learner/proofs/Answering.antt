@@ -1,0 +1,254 @@
+-- The answers of the search.
+use Rattle.std.proofs.Common.{◌≡◌, ℕ, ◌+◌, ◌^◌, ◌<◌, ◌≤◌, ◌⊎◌, inl, inr, Bool, true, false, not, List, [], ◌∷◌, ◌++◌, Option, None, Some, length, get_or, replicate, refl, sym, ◌∙◌, ap, subst, arith}
+use Rattle.std.specs.Prelude.{All, Contains}
+use Rattle.std.proofs.lemmas.Bool.{cases_eq}
+use Rattle.std.proofs.lemmas.List.{append-nil, append_assoc, get_or_push, get_or_append_left, length-set, length_push, length-map}
+use Rattle.std.proofs.lemmas.List.Elements.{All-nil, All-contains}
+use Rattle.uc_circuit.specs.declared.literal.Lit.{Lit}
+use Rattle.uc_circuit.specs.Values.{assign, IsFalse, IsFalsified, Forces}
+use Rattle.uc_log.specs.declared.entry.Entry.{Entry}
+use Rattle.uc_log.specs.declared.entry.Entry.TheVariants.{Learnt}
+use Rattle.uc_log.specs.Refutes.{Refutes, IsLearnt}
+use Rattle.uc_ops.specs.declared.node.Node.{Node}
+use Rattle.uc_log.specs.Problems.{Question}
+use Rattle.uc_log.specs.Entries.{Known, add, known_after}
+use Rattle.uc_learner.specs.Opened.{opened_known, known_now, GivesEmpty}
+use Rattle.uc_learner.specs.Learners.{flag_of, input_flags}
+use Rattle.uc_log.proofs.Growth.{known_after-append, new_clause}
+use Rattle.uc_log.proofs.Deny.{no_value, value_inside}
+use Rattle.uc_learner.specs.declared.state.Step.{Step}
+use Rattle.uc_learner.specs.declared.state.State.{State}
+use Rattle.uc_learner.specs.Trail.{values_at, NoneFalsified, DecisionsAreOpen, free, left}
+use Rattle.uc_circuit.specs.Values.{IsSettled}
+use Rattle.uc_learner.specs.ClauseStates.{AllSettled}
+use Rattle.uc_learner.specs.Walked.{Shape}
+use Rattle.uc_learner.specs.Learns.{Learns}
+use Rattle.uc_learner.specs.Moves.{Cut, Ready, NoDecision, SettledOnce, left_of}
+use Rattle.uc_learner.specs.Learned.{LearnedBy}
+use Rattle.uc_learner.specs.Recorded.{IsRecorded, LearntFits, Extends}
+use Rattle.uc_learner.proofs.Opening.{meet_of}
+use Rattle.uc_learner.specs.Answered.{NoneEmpty, Holds, GoesOn, Concluded, UnitRefutable, inputs_count}
+use Rattle.uc_learner.proofs.Walk.{assign_here, assign_elsewhere}
+use Rattle.uc_learner.proofs.Learning.{DecidedAt, decided_at, shape_false_at}
+use Rattle.uc_learner.proofs.Steps.{open_at}
+
+-- the clause of a conflict is not among the clauses
+pub not_held : (s : State) (clause : List Lit) (hints : List ℕ) (target : ℕ) → Ready s → NoneEmpty s.clauses.items → Learns s clause hints target → Contains s.clauses.items clause → ⊥
+not_held s [] hints target ready none learns has =
+    none has.0 has.1 has.2
+not_held s (l ∷ rest) hints target ready none learns has =
+    let n : ℕ = length s.inputs.items in
+    let shape : Shape s.trail.items n 0 l rest target = learns.shape in
+    let at : DecidedAt s shape.place shape.decided = decided_at s shape.place shape.decided ready.sound shape.decision in
+    let d : Step = record { literal = shape.decided; reason = None } in
+    let false' : IsFalsified (assign (values_at n s.trail.items shape.place) shape.decided) (l ∷ rest) =
+    subst (λ (v : List (Option Bool)). IsFalsified v (l ∷ rest)) at.next (shape_false_at s 0 l rest target ready.sound shape) in
+    let open' : NoneFalsified s.clauses.items (assign (values_at n s.trail.items shape.place) (get_or s.trail.items shape.place d).literal) =
+    open_at s.clauses.items (replicate n None) s.trail.items shape.place d ready.are_open shape.decision.inside (shape.decision.reason d) in
+    let open'' : NoneFalsified s.clauses.items (assign (values_at n s.trail.items shape.place) shape.decided) =
+    subst (λ (k : Lit). NoneFalsified s.clauses.items (assign (values_at n s.trail.items shape.place) k)) (shape.decision.literal d) open' in
+    All-contains (λ (c : List Lit). IsFalsified (assign (values_at n s.trail.items shape.place) shape.decided) c → ⊥) s.clauses.items (l ∷ rest) open'' has false'
+
+pub new_learnt :
+    (s : State) (nodes : List Node) (opened : Option Question) (here : ℕ) (log : List Entry) (clause clause' : List Lit) (hints hints' : List ℕ) (target : ℕ)
+    → Ready s → NoneEmpty s.clauses.items → Holds s (known_now opened log) → IsRecorded nodes opened here log
+    → Learns s clause hints target → clause' ≡ clause → Contains log (Learnt clause' hints') → ⊥
+new_learnt s nodes opened here log clause clause' hints hints' target ready none holds recorded learns same has =
+    new_clause nodes (opened_known opened) log clause' hints' (meet_of nodes opened log recorded.valid)
+    (λ there. not_held s clause hints target ready none learns
+    (subst (λ (c : List Lit). Contains s.clauses.items c) same (subst (λ (cs : List (List Lit)). Contains cs clause') (sym holds.clauses) there)))
+    has
+
+pub learnt_fits :
+    (s : State) (opened : Option Question) (log : List Entry) (clause clause' : List Lit) (hints hints' : List ℕ) (target : ℕ)
+    → Holds s (known_now opened log) → Learns s clause hints target → clause' ≡ clause → hints' ≡ hints → LearntFits opened log clause' hints'
+learnt_fits s opened log clause clause' hints hints' target holds learns same_clause same_hints =
+    let k : Known = known_now opened log in
+    let many : length s.inputs.items ≡ length k.circuit = ap length holds.inputs ∙ length-map k.circuit flag_of in
+    let a : IsLearnt (length k.circuit) s.clauses.items clause hints = subst (λ n. IsLearnt n s.clauses.items clause hints) many learns.learnt in
+    let b : IsLearnt (length k.circuit) k.clauses clause hints = subst (λ (cs : List (List Lit)). IsLearnt (length k.circuit) cs clause hints) holds.clauses a in
+    let c : IsLearnt (length k.circuit) k.clauses clause' hints = subst (λ (x : List Lit). IsLearnt (length k.circuit) k.clauses x hints) (sym same_clause) b in
+    subst (λ (x : List ℕ). IsLearnt (length k.circuit) k.clauses clause' x) (sym same_hints) c
+
+-- a learnt clause of some literals comes from a decision
+shape_decided : (s : State) (l : Lit) (rest : List Lit) (target : ℕ) → Shape s.trail.items (length s.inputs.items) 0 l rest target → NoDecision s → ⊥
+shape_decided s l rest target shape none =
+    let d : Step = record { literal = shape.decided; reason = None } in
+    none shape.place d shape.decision.inside (shape.decision.reason d)
+
+none_empty_push : (clauses : List (List Lit)) (c : List Lit) → NoneEmpty clauses → 0 < length c → NoneEmpty (clauses ++ c ∷ [])
+none_empty_push clauses c none some n h is =
+    elim (cases_eq n (length clauses)) [
+      | inl same ↦
+          let e : get_or (clauses ++ c ∷ []) n [] ≡ c = ap (λ k. get_or (clauses ++ c ∷ []) k []) same ∙ get_or_push clauses c [] (length clauses) refl in
+          let f : length c ≡ 0 = ap length (sym e ∙ is) in
+          absurd (omega arith)
+      | inr ne ↦
+          let h' : n < length clauses = omega (arith, length_push clauses c) in
+          none n h' (sym (get_or_append_left clauses (c ∷ []) [] n h') ∙ is)
+    ]
+
+pub goes_on :
+    (before after : State) (opened : Option Question) (log log' : List Entry) (clause clause' : List Lit) (hints hints' : List ℕ) (target : ℕ)
+    → Holds before (known_now opened log) → NoneEmpty before.clauses.items
+    → Learns before clause hints target → 0 < length clause
+    → clause' ≡ clause
+    → log' ≡ log ++ Learnt clause' hints' ∷ []
+    → LearnedBy before clause after
+    → Concluded before log (known_now opened log') after log' false
+goes_on before after opened log log' [] clause' hints hints' target holds none learns some same grown learned = absurd (omega arith)
+goes_on before after opened log log' (l ∷ rest) clause' hints hints' target holds none learns some same grown learned =
+    let k : Known = known_now opened log in
+    let known : known_now opened log' ≡ add k (Learnt clause' hints') =
+    ap (known_after (opened_known opened)) grown ∙ known_after-append (opened_known opened) log (Learnt clause' hints' ∷ []) in
+    record {
+      one_more = ap length grown ∙ length_push log (Learnt clause' hints');
+      goes_on = (
+        record {
+          inputs = learned.inputs ∙ holds.inputs ∙ ap input_flags (sym (append-nil k.circuit)) ∙ sym (ap (λ (k : Known). input_flags k.circuit) known);
+          clauses =
+              learned.clauses ∙ ap (λ cs. cs ++ (l ∷ rest) ∷ []) holds.clauses ∙ ap (λ c. k.clauses ++ c ∷ []) (sym same)
+              ∙ sym (ap (λ (k : Known). k.clauses) known);
+        },
+        learned.ready,
+        subst NoneEmpty (sym learned.clauses) (none_empty_push before.clauses.items (l ∷ rest) none some),
+        learned.left_less,
+        learned.inputs,
+        shape_decided before l rest target learns.shape,
+      );
+    }
+
+pub ends_empty :
+    (before after : State) (known : Known) (log log' : List Entry) (clause clause' : List Lit) (hints' : List ℕ)
+    → length clause ≡ 0 → clause' ≡ clause → log' ≡ log ++ Learnt clause' hints' ∷ []
+    → Concluded before log known after log' true
+ends_empty before after known log log' (l ∷ rest) clause' hints' empty same grown = absurd (omega arith)
+ends_empty before after known log log' [] clause' hints' empty same grown = record {
+  one_more = ap length grown ∙ length_push log (Learnt clause' hints');
+  goes_on = record {
+    before = log;
+    hints = hints';
+    is = grown ∙ ap (λ (c : List Lit). log ++ Learnt c hints' ∷ []) same;
+  };
+}
+
+pub bit_or_other : (a b : Bool) → (a ≡ b) ⊎ (a ≡ not b)
+bit_or_other true true = inl refl
+bit_or_other false false = inl refl
+bit_or_other true false = inr refl
+bit_or_other false true = inr refl
+
+-- the one literal of a settled clause that may be true is true
+forced_value :
+    (v : List (Option Bool)) (c : List Lit) (l : Lit) → Contains c l → All (λ m. (m ≡ l) ⊎ IsFalse v m) c → IsSettled v c
+    → get_or v l.var None ≡ Some (not l.neg)
+forced_value v c l there others settled =
+    let go : (o : Option Bool) → get_or v l.var None ≡ o → o ≡ Some (not l.neg) =
+    λ o. elim o as (λ k. get_or v l.var None ≡ k → k ≡ Some (not l.neg)) [
+      | None ↦ λ is. absurd (settled.not_unit l (record { there = there; unset = is; rest = others }))
+      | Some b ↦ λ is. elim (bit_or_other b l.neg) [
+        | inl same ↦ absurd (settled.not_false (λ k d h. elim (others k d h) [
+          | inl is_l ↦ subst (λ (m : Lit). IsFalse v m) (sym is_l) (is ∙ ap (λ x. Some x) same)
+          | inr f ↦ f
+        ]))
+        | inr other ↦ ap (λ x. Some x) other
+      ]
+    ] in
+    go (get_or v l.var None) refl
+
+-- where all clauses are settled, unit propagation makes none false
+pub no_refutation :
+    (clauses : List (List Lit)) (v w : List (Option Bool)) (hints : List ℕ)
+    → AllSettled clauses v
+    → ((x : ℕ) (b : Bool) → get_or w x None ≡ Some b → get_or v x None ≡ Some b)
+    → Refutes clauses w hints → ⊥
+no_refutation clauses v w [] settled below refutes = refutes
+no_refutation clauses v w (n ∷ rest) settled below refutes =
+    elim refutes.1 [
+      | inl p ↦ (settled n [] refutes.0).not_false (λ k d h. below _ _ (p.1 k d h))
+      | inr p ↦
+          let forces : Forces w (get_or clauses n []) p.0 = p.1 in
+          let others : All (λ (m : Lit). (m ≡ p.0) ⊎ IsFalse v m) (get_or clauses n []) =
+          λ k d h. elim (forces.rest k d h) [ inl same ↦ inl same | inr f ↦ inr (below _ _ f) ] in
+          let is_true : get_or v p.0.var None ≡ Some (not p.0.neg) =
+          forced_value v (get_or clauses n []) p.0 forces.there others (settled n [] refutes.0) in
+          no_refutation clauses v (assign w p.0) rest settled
+          (λ x b is. elim (cases_eq x p.0.var) [
+            | inl same ↦
+                let h : x < length (assign w p.0) = value_inside (assign w p.0) x b is in
+                let inside : p.0.var < length w = omega (arith, h, same, length-set w p.0.var (Some (not p.0.neg))) in
+                let e : Some (not p.0.neg) ≡ Some b = sym (assign_here w p.0 inside) ∙ ap (λ k. get_or (assign w p.0) k None) (sym same) ∙ is in
+                ap (λ k. get_or v k None) same ∙ is_true ∙ e
+            | inr ne ↦ below x b (sym (assign_elsewhere w p.0 x ne) ∙ is)
+          ])
+          p.2
+    ]
+
+free-none : (inputs : List Bool) → free inputs (replicate (length inputs) None) ≡ inputs_count inputs
+free-none [] = refl
+free-none (true ∷ inputs) = ap (λ k. 1 + k) (free-none inputs)
+free-none (false ∷ inputs) = ap (λ k. 0 + k) (free-none inputs)
+
+-- a search begins with an empty trail
+pub record Started (s : State) : Type 0 where
+  pub ready : Ready s
+  pub none : NoDecision s
+  pub all_left : left_of s ≡ 2 ^ inputs_count s.inputs.items
+
+pub started : (s mid : State) → Cut s 0 mid → Started mid
+started s mid cut = record {
+  ready = record {
+    sound = cut.sound;
+    are_open = subst (λ (k : List Step). DecisionsAreOpen mid.clauses.items (replicate (length mid.inputs.items) None) k) (sym cut.trail) tt;
+  };
+  none = subst (λ (k : List Step). All (λ (step : Step). step.reason ≡ None → ⊥) k) (sym cut.trail) (All-nil (λ (step : Step). step.reason ≡ None → ⊥));
+  all_left =
+      ap (left mid.inputs.items (replicate (length mid.inputs.items) None)) cut.trail
+      ∙ (let e : 2 ^ free mid.inputs.items (replicate (length mid.inputs.items) None) ≡ 2 ^ inputs_count mid.inputs.items = ap (λ k. 2 ^ k) (free-none mid.inputs.items) in omega arith);
+}
+
+pub holds_same : (s mid : State) (target : ℕ) (k : Known) → Cut s target mid → Holds s k → Holds mid k
+holds_same s mid target k cut holds = record { inputs = cut.inputs ∙ holds.inputs; clauses = cut.clauses ∙ holds.clauses }
+
+pub extends_same : (log : List Entry) → Extends log log
+extends_same log = record { more = []; is = sym (append-nil log) }
+
+pub extends_more : (a b c : List Entry) → Extends a b → Extends b c → Extends a c
+extends_more a b c p q = record {
+  more = p.more ++ q.more;
+  is = q.is ∙ ap (λ k. k ++ q.more) p.is ∙ append_assoc a p.more q.more;
+}
+
+pub settled_refutes : (s : State) → SettledOnce s.clauses.items → UnitRefutable s → ⊥
+settled_refutes s once refutable =
+    no_refutation s.clauses.items once.values (replicate (length s.inputs.items) None) refutable.hints once.settled
+    (λ x b is. absurd (let e : Some b ≡ None = sym is ∙ no_value (length s.inputs.items) x in cc)) refutable.refutes
+
+-- the answer of `conclude` where it goes on
+pub went_on :
+    (before after : State) (log log' : List Entry) (k : Known) (b : Bool) → b ≡ false → Concluded before log k after log' b → GoesOn before log k after log' false
+went_on before after log log' k b is concluded = subst (GoesOn before log k after log') is concluded.goes_on
+
+-- the answer of `conclude` where it does not go on
+pub refuted_by :
+    (before after : State) (log log' : List Entry) (k : Known) (b : Bool) → b ≡ true → Concluded before log k after log' b → GivesEmpty log'
+refuted_by before after log log' k b is concluded = subst (GoesOn before log k after log') is concluded.goes_on
+
+-- what is known of the clauses at the start, after a decision
+pub settled_on :
+    (first s mid : State) (log log₀ : List Entry)
+    → ((length log ≡ length log₀) × NoDecision s × (s.clauses.items ≡ first.clauses.items)) ⊎ SettledOnce first.clauses.items
+    → SettledOnce s.clauses.items ⊎ (NoDecision s → NoDecision mid)
+    → (NoDecision mid → ⊥)
+    → SettledOnce first.clauses.items
+settled_on first s mid log log₀ (inr once) decided some = once
+settled_on first s mid log log₀ (inl p) (inl once) some = subst (λ (k : List (List Lit)). SettledOnce k) p.2 once
+settled_on first s mid log log₀ (inl p) (inr keeps) some = absurd (some (keeps p.1))
+
+-- the budget is not used up before the first entry
+pub used_up :
+    (first s : State) (log log₀ : List Entry) (budget here : ℕ)
+    → ((length log ≡ length log₀) × NoDecision s × (s.clauses.items ≡ first.clauses.items)) ⊎ SettledOnce first.clauses.items
+    → length log ≡ budget → length log₀ ≡ here → here + 1 ≤ budget → UnitRefutable first → ⊥
+used_up first s log log₀ budget here (inl p) full count room refutable = absurd (let e : length log ≡ length log₀ = p.0 in omega arith)
+used_up first s log log₀ budget here (inr once) full count room refutable = settled_refutes first once refutable

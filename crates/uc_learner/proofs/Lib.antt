@@ -1,0 +1,14 @@
+pub mod Denied
+pub mod Walk
+pub mod Steps
+pub mod Measure
+pub mod Walking
+pub mod Learning
+pub mod Progress
+pub mod Taught
+pub mod Opening
+pub mod Answering
+pub mod Completion
+pub mod Passing
+pub mod Adding
+pub mod Starting

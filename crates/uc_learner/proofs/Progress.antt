@@ -1,0 +1,329 @@
+-- How the search's state keeps what it keeps.
+use Rattle.std.proofs.Common.{◌≡◌, ℕ, zero, suc, ◌+◌, ◌-◌, ◌^◌, ◌<◌, ◌≤◌, ◌⊎◌, inl, inr, Bool, true, false, not, List, [], ◌∷◌, ◌++◌, Option, None, Some, length, set, get_or, take, replicate, refl, sym, ◌∙◌, ap, subst, arith, get_or-set_same, get_or-set_other, below_more}
+use Rattle.std.specs.Option.{is_some}
+use Rattle.std.specs.Prelude.{All, Contains, MatchOption}
+use Rattle.std.proofs.lemmas.Bool.{cases_eq}
+use Rattle.std.proofs.lemmas.List.{take_all, take-take, length-take-le, set-set, set-get_or, get_or_read, length_push, get_or_push, take_at}
+use Rattle.std.proofs.lemmas.List.Elements.{All-push, All-nil, All-cons, All-head, All-tail, All-contains, All-weaker, Contains-get_or, Contains-append_right}
+use Rattle.uc_circuit.specs.declared.literal.Lit.{Lit}
+use Rattle.uc_circuit.specs.Literals.{negate}
+use Rattle.uc_circuit.specs.Values.{assign, IsFalse, IsFalsified, HasNoValue, Forces}
+use Rattle.uc_learner.specs.declared.state.Step.{Step}
+use Rattle.uc_learner.specs.declared.state.State.{State}
+use Rattle.uc_learner.specs.Trail.{values_after, values_at, IsImplied, IsInput, StepFits, TrailFits, NoneFalsified, DecisionsAreOpen, one_if_free, left}
+use Rattle.uc_log.specs.Refutes.{AllWithin}
+use Rattle.uc_learner.specs.Sound.{Sound}
+use Rattle.uc_learner.specs.Moves.{Pushed, Cut, Ready, Onward, NoDecision, SettledOnce, left_of, unset_count}
+use Rattle.uc_circuit.specs.Values.{IsSettled}
+use Rattle.uc_learner.specs.ClauseStates.{AllSettled, ConflictIs}
+use Rattle.uc_learner.proofs.Walking.{StepAt, step_at, step_inside}
+use Rattle.uc_learner.proofs.Learning.{length-values}
+use Rattle.uc_learner.proofs.Steps.{values_after-append, fits_push, fits_take, open_push}
+use Rattle.uc_circuit.proofs.Scan.{literal_from_parts}
+use Rattle.uc_learner.proofs.Measure.{left_implied, left_decided}
+
+-- taking back the last step
+pub cut_more :
+    (before s after : State) (step : Step)
+    → Cut before (length s.trail.items) s
+    → 0 < length s.trail.items
+    → step ≡ get_or s.trail.items (length s.trail.items - 1) step
+    → after.clauses.items ≡ s.clauses.items
+    → after.inputs.items ≡ s.inputs.items
+    → after.trail.items ≡ take (length s.trail.items - 1) s.trail.items
+    → after.values.items ≡ set s.values.items step.literal.var None
+    → Cut before (length after.trail.items) after
+cut_more before s after step cut some last clauses inputs trail values =
+    let n : ℕ = length s.inputs.items in
+    let m : ℕ = length s.trail.items - 1 in
+    let w : List (Option Bool) = values_at n s.trail.items m in
+    let at : StepAt s m step = step_at s m step cut.sound (omega arith) last in
+    let m_next : m + 1 ≡ length s.trail.items = omega arith in
+    let now : s.values.items ≡ assign w step.literal =
+    cut.sound.values
+    ∙ ap (values_after (replicate n None)) (sym (take_all (m + 1) s.trail.items (omega arith)))
+    ∙ at.next in
+    let unset : set w step.literal.var None ≡ w =
+    ap (λ o. set w step.literal.var o) (sym at.fits.unset) ∙ set-get_or w step.literal.var None in
+    let back : after.values.items ≡ w =
+    values ∙ ap (λ v. set v step.literal.var None) now ∙ set-set w step.literal.var (Some (not step.literal.neg)) None ∙ unset in
+    let short : length after.trail.items ≡ m = ap length trail ∙ length-take-le m s.trail.items (omega arith) in
+    record {
+      clauses = clauses ∙ cut.clauses;
+      inputs = inputs ∙ cut.inputs;
+      trail =
+          trail ∙ ap (take m) cut.trail ∙ take-take m (length s.trail.items) before.trail.items (omega arith)
+          ∙ ap (λ k. take k before.trail.items) (sym short);
+      sound = record {
+        values =
+            back ∙ ap (values_after (replicate n None)) (sym trail)
+            ∙ ap (λ (k : List Bool). values_after (replicate (length k) None) after.trail.items) (sym inputs);
+        trail =
+            subst (λ (k : List Step). TrailFits after.inputs.items after.clauses.items (replicate (length after.inputs.items) None) k) (sym trail)
+            (subst (λ (c : List (List Lit)). TrailFits after.inputs.items c (replicate (length after.inputs.items) None) (take m s.trail.items)) (sym clauses)
+            (subst (λ (k : List Bool). TrailFits k s.clauses.items (replicate (length k) None) (take m s.trail.items)) (sym inputs)
+            (fits_take s.inputs.items s.clauses.items (replicate n None) m s.trail.items cut.sound.trail)));
+        within =
+            subst (λ (c : List (List Lit)). AllWithin (length after.inputs.items) c) (sym clauses)
+            (subst (λ (k : List Bool). AllWithin (length k) s.clauses.items) (sym inputs) cut.sound.within);
+        numbered = omega (arith, cut.sound.numbered, ap length clauses);
+        variables = omega (arith, cut.sound.variables, ap length inputs);
+      };
+    }
+
+pub cut_none : (s : State) → Sound s → Cut s (length s.trail.items) s
+cut_none s sound = record {
+  clauses = refl;
+  inputs = refl;
+  trail = sym (take_all (length s.trail.items) s.trail.items (omega arith));
+  sound = sound;
+}
+
+pub cut_more_by :
+    (before s after : State) (step : Step)
+    → Cut before (length s.trail.items) s
+    → s.trail.items ≡ after.trail.items ++ step ∷ []
+    → after.clauses.items ≡ s.clauses.items
+    → after.inputs.items ≡ s.inputs.items
+    → after.values.items ≡ set s.values.items step.literal.var None
+    → Cut before (length after.trail.items) after
+cut_more_by before s after step cut popped clauses inputs values =
+    let long : length s.trail.items ≡ length after.trail.items + 1 = ap length popped ∙ length_push after.trail.items step in
+    let place : length s.trail.items - 1 ≡ length after.trail.items = omega arith in
+    let last : get_or s.trail.items (length s.trail.items - 1) step ≡ step =
+    ap (λ k. get_or s.trail.items k step) place ∙ ap (λ xs. get_or xs (length after.trail.items) step) popped ∙ get_or_push after.trail.items step step (length after.trail.items) refl in
+    let front : take (length s.trail.items - 1) s.trail.items ≡ after.trail.items =
+    ap (λ k. take k s.trail.items) place ∙ ap (take (length after.trail.items)) popped ∙ take_at after.trail.items (step ∷ []) (length after.trail.items) refl in
+    cut_more before s after step cut (omega arith) (sym last) clauses inputs (sym front) values
+
+pub popped_inside : (s : State) (rest : List Step) (step : Step) → Sound s → s.trail.items ≡ rest ++ step ∷ [] → step.literal.var < length s.values.items
+popped_inside s rest step sound popped =
+    let long : length s.trail.items ≡ length rest + 1 = ap length popped ∙ length_push rest step in
+    let last : get_or s.trail.items (length rest) step ≡ step =
+    ap (λ xs. get_or xs (length rest) step) popped ∙ get_or_push rest step step (length rest) refl in
+    omega (arith, step_inside s (length rest) step sound (omega arith) (sym last), length-values s sound)
+
+-- a state made of such lists is sound
+pub sound_made :
+    (s : State) (inputs : List Bool) (clauses : List (List Lit)) (values : List (Option Bool)) (trail : List Step)
+    → s.inputs.items ≡ inputs → s.clauses.items ≡ clauses → s.values.items ≡ values → s.trail.items ≡ trail
+    → values ≡ values_after (replicate (length inputs) None) trail
+    → TrailFits inputs clauses (replicate (length inputs) None) trail
+    → AllWithin (length inputs) clauses
+    → length clauses < 2 ^ 32 → length inputs < 2 ^ 32
+    → Sound s
+sound_made s inputs clauses values trail i c v t is fits within numbered variables = record {
+  values =
+      v ∙ is ∙ ap (values_after (replicate (length inputs) None)) (sym t)
+      ∙ ap (λ (k : List Bool). values_after (replicate (length k) None) s.trail.items) (sym i);
+  trail =
+      subst (λ (k : List Step). TrailFits s.inputs.items s.clauses.items (replicate (length s.inputs.items) None) k) (sym t)
+      (subst (λ (k : List (List Lit)). TrailFits s.inputs.items k (replicate (length s.inputs.items) None) trail) (sym c)
+      (subst (λ (k : List Bool). TrailFits k clauses (replicate (length k) None) trail) (sym i) fits));
+  within =
+      subst (λ (k : List (List Lit)). AllWithin (length s.inputs.items) k) (sym c)
+      (subst (λ (k : List Bool). AllWithin (length k) clauses) (sym i) within);
+  numbered = omega (arith, numbered, ap length c);
+  variables = omega (arith, variables, ap length i);
+}
+
+pub open_made :
+    (s : State) (inputs : List Bool) (clauses : List (List Lit)) (trail : List Step)
+    → s.inputs.items ≡ inputs → s.clauses.items ≡ clauses → s.trail.items ≡ trail
+    → DecisionsAreOpen clauses (replicate (length inputs) None) trail
+    → DecisionsAreOpen s.clauses.items (replicate (length s.inputs.items) None) s.trail.items
+open_made s inputs clauses trail i c t are_open =
+    subst (λ (k : List Step). DecisionsAreOpen s.clauses.items (replicate (length s.inputs.items) None) k) (sym t)
+    (subst (λ (k : List (List Lit)). DecisionsAreOpen k (replicate (length s.inputs.items) None) trail) (sym c)
+    (subst (λ (k : List Bool). DecisionsAreOpen clauses (replicate (length k) None) trail) (sym i) are_open))
+
+pub left_made :
+    (s : State) (inputs : List Bool) (trail : List Step) → s.inputs.items ≡ inputs → s.trail.items ≡ trail
+    → left_of s ≡ left inputs (replicate (length inputs) None) trail
+left_made s inputs trail i t =
+    ap (λ (k : List Step). left s.inputs.items (replicate (length s.inputs.items) None) k) t
+    ∙ ap (λ (k : List Bool). left k (replicate (length k) None) trail) i
+
+pub unset-set : (v : List (Option Bool)) (x : ℕ) (b : Bool) → x < length v → get_or v x None ≡ None → unset_count (set v x (Some b)) + 1 ≡ unset_count v
+unset-set [] x b h unset = absurd (omega arith)
+unset-set (o ∷ v) zero b h unset =
+    let e : one_if_free true o ≡ 1 = ap (one_if_free true) unset in
+    omega arith
+unset-set (o ∷ v) (suc x) b h unset =
+    let e : unset_count (set v x (Some b)) + 1 ≡ unset_count v = unset-set v x b (omega arith) unset in
+    omega arith
+
+-- one more step on the trail
+pub record Stepped (before after : State) : Type 0 where
+  pub onward : Onward before after
+  pub unset_less : unset_count after.values.items + 1 ≡ unset_count before.values.items
+
+step_taken :
+    (s after : State) (step : Step)
+    → Ready s → Pushed s step after
+    → StepFits s.inputs.items s.clauses.items (values_after (replicate (length s.inputs.items) None) s.trail.items) step
+    → MatchOption step.reason (NoneFalsified s.clauses.items (assign (values_after (replicate (length s.inputs.items) None) s.trail.items) step.literal)) (λ _. Unit {0})
+    → left s.inputs.items (replicate (length s.inputs.items) None) (s.trail.items ++ step ∷ []) ≤ left_of s
+    → Stepped s after
+step_taken s after step ready pushed fits is_open le =
+    let none : List (Option Bool) = replicate (length s.inputs.items) None in
+    let now : s.values.items ≡ values_after none s.trail.items = ready.sound.values in
+    let values : assign s.values.items step.literal ≡ values_after none (s.trail.items ++ step ∷ []) =
+    ap (λ v. assign v step.literal) now ∙ sym (values_after-append none s.trail.items (step ∷ [])) in
+    let less : unset_count after.values.items + 1 ≡ unset_count s.values.items =
+    ap (λ v. unset_count v + 1) pushed.values
+    ∙ unset-set s.values.items step.literal.var (not step.literal.neg) (omega (arith, fits.inside, ap length now)) (ap (λ v. get_or v step.literal.var None) now ∙ fits.unset) in
+    record {
+      onward = record {
+        clauses = pushed.clauses;
+        inputs = pushed.inputs;
+        ready = record {
+          sound =
+              sound_made after s.inputs.items s.clauses.items (assign s.values.items step.literal) (s.trail.items ++ step ∷ []) pushed.inputs pushed.clauses pushed.values pushed.trail values
+              (fits_push s.inputs.items s.clauses.items none s.trail.items step ready.sound.trail fits) ready.sound.within ready.sound.numbered ready.sound.variables;
+          are_open =
+              open_made after s.inputs.items s.clauses.items (s.trail.items ++ step ∷ []) pushed.inputs pushed.clauses pushed.trail
+              (open_push s.clauses.items none s.trail.items step ready.are_open is_open);
+        };
+        left_le = omega (arith, le, left_made after s.inputs.items (s.trail.items ++ step ∷ []) pushed.inputs pushed.trail);
+        unset_le = omega arith;
+      };
+      unset_less = less;
+    }
+
+pub implied_step :
+    (s after : State) (step : Step) (n : ℕ)
+    → Ready s → Pushed s step after
+    → step.reason ≡ Some n → n < length s.clauses.items → Forces s.values.items (get_or s.clauses.items n []) step.literal
+    → Stepped s after
+implied_step s after step n ready pushed reason h forces =
+    let none : List (Option Bool) = replicate (length s.inputs.items) None in
+    let w : List (Option Bool) = values_after none s.trail.items in
+    let forces' : Forces w (get_or s.clauses.items n []) step.literal = subst (λ (v : List (Option Bool)). Forces v (get_or s.clauses.items n []) step.literal) ready.sound.values forces in
+    let inside : step.literal.var < length s.inputs.items =
+    All-contains (λ (l : Lit). l.var < length s.inputs.items) (get_or s.clauses.items n []) step.literal (ready.sound.within n [] h) forces.there in
+    let inside' : step.literal.var < length w = omega (arith, inside, ap length ready.sound.values, length-values s ready.sound) in
+    step_taken s after step ready pushed
+    (record {
+      inside = inside';
+      unset = forces'.unset;
+      cause = subst (λ (r : Option ℕ). MatchOption r (IsInput s.inputs.items step.literal) (IsImplied s.clauses.items w step.literal)) (sym reason) (h, forces');
+    })
+    (subst (λ (r : Option ℕ). MatchOption r (NoneFalsified s.clauses.items (assign w step.literal)) (λ _. Unit {0})) (sym reason) tt)
+    (left_implied s.inputs.items none s.trail.items step n reason inside' forces'.unset)
+
+-- a clause that is false once a literal is made true was false before, or forced its negation
+falsified_by :
+    (v : List (Option Bool)) (l : Lit) (xs : List Lit) → l.var < length v → IsFalsified (assign v l) xs
+    → IsFalsified v xs ⊎ (Contains xs (negate l) × All (λ m. (m ≡ negate l) ⊎ IsFalse v m) xs)
+falsified_by v l [] inside all = inl (All-nil (IsFalse v))
+falsified_by v l (m ∷ xs) inside all =
+    let head : IsFalse (assign v l) m = All-head (IsFalse (assign v l)) m xs all in
+    let rest : IsFalsified v xs ⊎ (Contains xs (negate l) × All (λ (k : Lit). (k ≡ negate l) ⊎ IsFalse v k) xs) = falsified_by v l xs inside (All-tail (IsFalse (assign v l)) m xs all) in
+    let weak : (ys : List Lit) → IsFalsified v ys → All (λ (k : Lit). (k ≡ negate l) ⊎ IsFalse v k) ys =
+    λ ys is. All-weaker (IsFalse v) (λ (k : Lit). (k ≡ negate l) ⊎ IsFalse v k) (λ k f. inr f) ys is in
+    elim (cases_eq m.var l.var) [
+      | inl same ↦
+          let e : Some (not l.neg) ≡ Some m.neg = sym (get_or-set_same v l.var (Some (not l.neg)) None inside) ∙ ap (λ k. get_or (assign v l) k None) (sym same) ∙ head in
+          let sign : m.neg ≡ not l.neg = cc in
+          let is : m ≡ negate l = literal_from_parts m (negate l) same sign in
+          let all' : All (λ (k : Lit). (k ≡ negate l) ⊎ IsFalse v k) xs = elim rest [ inl f ↦ weak xs f | inr p ↦ p.1 ] in
+          inr (
+            subst (λ (k : Lit). Contains (m ∷ xs) k) is (Contains-get_or (m ∷ xs) 0 m (omega arith)),
+            All-cons (λ (k : Lit). (k ≡ negate l) ⊎ IsFalse v k) m xs (inl is) all',
+          )
+      | inr ne ↦
+          let before : IsFalse v m = sym (get_or-set_other v l.var m.var (Some (not l.neg)) None ne) ∙ head in
+          elim rest [
+            | inl f ↦ inl (All-cons (IsFalse v) m xs before f)
+            | inr p ↦ inr (Contains-append_right (m ∷ []) xs (negate l) p.0, All-cons (λ (k : Lit). (k ≡ negate l) ⊎ IsFalse v k) m xs (inr before) p.1)
+          ]
+    ]
+
+pub settled_open : (v : List (Option Bool)) (l : Lit) (c : List Lit) → l.var < length v → HasNoValue v l → IsSettled v c → IsFalsified (assign v l) c → ⊥
+settled_open v l c inside unset settled all =
+    elim (falsified_by v l c inside all) [
+      | inl f ↦ settled.not_false f
+      | inr p ↦ settled.not_unit (negate l) (record { there = p.0; unset = unset; rest = p.1 })
+    ]
+
+pub decided_step :
+    (s after : State) (step : Step)
+    → Ready s → Pushed s step after
+    → step.reason ≡ None → IsInput s.inputs.items step.literal → step.literal.var < length s.inputs.items → HasNoValue s.values.items step.literal
+    → AllSettled s.clauses.items s.values.items
+    → Stepped s after
+decided_step s after step ready pushed reason input inside unset settled =
+    let none : List (Option Bool) = replicate (length s.inputs.items) None in
+    let w : List (Option Bool) = values_after none s.trail.items in
+    let inside' : step.literal.var < length w = omega (arith, inside, ap length ready.sound.values, length-values s ready.sound) in
+    let unset' : HasNoValue w step.literal = subst (λ (v : List (Option Bool)). HasNoValue v step.literal) ready.sound.values unset in
+    let settled' : AllSettled s.clauses.items w = subst (λ (v : List (Option Bool)). AllSettled s.clauses.items v) ready.sound.values settled in
+    step_taken s after step ready pushed
+    (record {
+      inside = inside';
+      unset = unset';
+      cause = subst (λ (r : Option ℕ). MatchOption r (IsInput s.inputs.items step.literal) (IsImplied s.clauses.items w step.literal)) (sym reason) input;
+    })
+    (subst (λ (r : Option ℕ). MatchOption r (NoneFalsified s.clauses.items (assign w step.literal)) (λ _. Unit {0})) (sym reason)
+    (λ k d h all. settled_open w step.literal (get_or s.clauses.items k d) inside' unset' (settled' k d h) all))
+    (omega (arith, left_decided s.inputs.items none s.trail.items step reason input inside' unset'))
+
+pub onward_refl : (s : State) → Ready s → Onward s s
+onward_refl s ready = record { clauses = refl; inputs = refl; ready = ready; left_le = omega arith; unset_le = omega arith }
+
+pub onward_trans : (a b c : State) → Onward a b → Onward b c → Onward a c
+onward_trans a b c p q = record {
+  clauses = q.clauses ∙ p.clauses;
+  inputs = q.inputs ∙ p.inputs;
+  ready = q.ready;
+  left_le = omega (arith, p.left_le, q.left_le);
+  unset_le = omega (arith, p.unset_le, q.unset_le);
+}
+
+pub undecided_more : (s after : State) (step : Step) (n : ℕ) → NoDecision s → Pushed s step after → step.reason ≡ Some n → NoDecision after
+undecided_more s after step n all pushed reason =
+    subst (All (λ (k : Step). k.reason ≡ None → ⊥)) (sym pushed.trail)
+    (All-push (λ (k : Step). k.reason ≡ None → ⊥) s.trail.items step all (λ e. let f : Some n ≡ None = sym reason ∙ e in cc))
+
+pub chosen_more :
+    (s : State) (n : ℕ)
+    → ((x : ℕ) → x < n → get_or s.inputs.items x false ≡ true → get_or s.values.items x None ≡ None → ⊥)
+    → (get_or s.inputs.items n false ≡ true → get_or s.values.items n None ≡ None → ⊥)
+    → (x : ℕ) → x < n + 1 → get_or s.inputs.items x false ≡ true → get_or s.values.items x None ≡ None → ⊥
+chosen_more s n below here = below_more _ n below here
+
+pub implied_inside : (s : State) (l : Lit) (n : ℕ) → Sound s → n < length s.clauses.items → Forces s.values.items (get_or s.clauses.items n []) l → l.var < length s.values.items
+implied_inside s l n sound h forces =
+    omega (
+      arith,
+      length-values s sound,
+      All-contains (λ (k : Lit). k.var < length s.inputs.items) (get_or s.clauses.items n []) l (sound.within n [] h) forces.there,
+    )
+
+pub settled_once : (s after : State) → Onward s after → AllSettled after.clauses.items after.values.items → SettledOnce s.clauses.items
+settled_once s after onward settled = record {
+  values = after.values.items;
+  settled = subst (λ (k : List (List Lit)). AllSettled k after.values.items) onward.clauses settled;
+}
+
+pub decided_after : (s mid after : State) → SettledOnce s.clauses.items ⊎ (NoDecision s → NoDecision mid) → (NoDecision mid → NoDecision after) → SettledOnce s.clauses.items ⊎ (NoDecision s → NoDecision after)
+decided_after s mid after (inl once) keeps = inl once
+decided_after s mid after (inr none) keeps = inr (λ h. keeps (none h))
+
+-- a value that was read and is there
+pub not_both : (v : List (Option Bool)) (x : ℕ) (o : Option Bool) (b : Bool) → o ≡ get_or v x o → is_some o ≡ not b → b ≡ false → x < length v → get_or v x None ≡ None → ⊥
+not_both v x o b read test is h unset =
+    let e : o ≡ None = get_or_read v x o h read None ∙ unset in
+    let f : is_some o ≡ true = test ∙ ap not is in
+    let g : is_some o ≡ false = ap is_some e in
+    let k : true ≡ false = sym f ∙ g in
+    cc
+
+-- a decision keeps what a loop of decisions keeps, once all clauses are settled
+pub decided_once : (s mid after : State) → Onward s mid → AllSettled mid.clauses.items mid.values.items → SettledOnce s.clauses.items ⊎ (NoDecision s → NoDecision after)
+decided_once s mid after onward settled = inl (settled_once s mid onward settled)
+
+pub conflict_none : (s : State) (r : Option ℕ) → ConflictIs s r → ((n : ℕ) → r ≡ Some n → ⊥) → AllSettled s.clauses.items s.values.items
+conflict_none s None is none = is
+conflict_none s (Some n) is none = absurd (none n refl)

@@ -1,0 +1,23 @@
+use Rattle.std.proofs.Common.{◌≡◌, ◌+◌, ◌^◌, ◌≤◌, ◌⊎◌, length}
+use Rattle.uc_learner.specs.Moves.{Ready, NoDecision, SettledOnce, left_of}
+use Rattle.uc_learner.specs.Opened.{known_now}
+use Rattle.uc_learner.specs.Recorded.{IsRecorded, Extends}
+use Rattle.uc_learner.specs.Answered.{Holds, NoneEmpty, inputs_count}
+use Rattle.uc_learner.proofs.state.State.next.Given as goal
+
+abbrev pub invariant-loop-conflict : goal.invariant-loop-conflict
+invariant-loop-conflict g l = record {
+  ready : Ready l.self;
+  inputs : l.self.inputs.items ≡ l.fn.self.inputs.items;
+  recorded : IsRecorded l.terms (g.M.Meter.opened l.meter) (g.M.Meter.here l.meter) l.log;
+  opened : g.M.Meter.opened l.meter ≡ g.M.Meter.opened l.fn.meter;
+  total : g.M.Meter.total l.meter + g.M.Meter.here l.fn.meter ≡ g.M.Meter.total l.fn.meter + g.M.Meter.here l.meter;
+  holds : Holds l.self (known_now (g.M.Meter.opened l.meter) l.log);
+  none_empty : NoneEmpty l.self.clauses.items;
+  stay : Extends l.fn.log l.log;
+  count : length l.log + left_of l.self ≤ length l.fn.log + 2 ^ inputs_count l.fn.self.inputs.items;
+  settled : ((length l.log ≡ length l.fn.log) × NoDecision l.self × (l.self.clauses.items ≡ l.fn.self.clauses.items)) ⊎ SettledOnce l.fn.self.clauses.items;
+}
+
+abbrev pub decreases-loop-conflict : goal.decreases-loop-conflict
+decreases-loop-conflict g l = left_of l.self

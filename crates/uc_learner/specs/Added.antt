@@ -1,0 +1,20 @@
+-- What taking over an entry does.
+use Rattle.std.specs.Prelude.{◌≡◌, ◌<◌, ◌^◌, Bool, [], ◌∷◌, ◌++◌, None, length}
+use Rattle.uc_log.specs.declared.entry.Entry.{Entry}
+use Rattle.uc_log.specs.Entries.{Known, add}
+use Rattle.uc_learner.specs.declared.state.State.{State}
+use Rattle.uc_learner.specs.Sound.{Sound}
+use Rattle.uc_learner.specs.Answered.{Holds}
+
+-- a variable more, without a value
+pub record VariableAdded (before : State) (is_input : Bool) (after : State) : Type 0 where
+  pub clauses : after.clauses.items ≡ before.clauses.items
+  pub inputs : after.inputs.items ≡ before.inputs.items ++ is_input ∷ []
+  pub values : after.values.items ≡ before.values.items ++ None ∷ []
+  pub trail : after.trail.items ≡ before.trail.items
+  pub room : length after.inputs.items < 2 ^ 32
+
+-- the entry is taken over: whatever the state held is held with the entry
+pub record Added (before : State) (e : Entry) (after : State) : Type 0 where
+  pub sound : Sound after
+  pub holds : (k : Known) → Holds before k → Holds after (add k e)

@@ -1,0 +1,13 @@
+pub mod Trail
+pub mod Analysis
+pub mod Sound
+pub mod Walked
+pub mod Learns
+pub mod ClauseStates
+pub mod Moves
+pub mod Opened
+pub mod Recorded
+pub mod Learners
+pub mod Learned
+pub mod Answered
+pub mod Added

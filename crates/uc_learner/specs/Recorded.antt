@@ -1,0 +1,24 @@
+-- The log and its meter.
+use Rattle.std.specs.Prelude.{◌≡◌, ℕ, List, ◌++◌, Option, length}
+use Rattle.uc_circuit.specs.declared.literal.Lit.{Lit}
+use Rattle.uc_ops.specs.declared.node.Node.{Node}
+use Rattle.uc_log.specs.declared.entry.Entry.{Entry}
+use Rattle.uc_log.specs.Problems.{Question}
+use Rattle.uc_log.specs.Refutes.{IsLearnt}
+use Rattle.uc_log.specs.Meters.{IsValidFor}
+use Rattle.uc_learner.specs.Opened.{known_now}
+
+-- the log is valid for the opened problem, and each of its entries was spent
+pub record IsRecorded (nodes : List Node) (opened : Option Question) (here : ℕ) (entries : List Entry) : Type 0 where
+  pub valid : IsValidFor nodes opened entries
+  pub count : length entries ≡ here
+
+-- the clause and its hints meet the condition of a learnt entry after the log
+abbrev pub LearntFits : Option Question → List Entry → List Lit → List ℕ → Type 0
+LearntFits opened entries clause hints =
+    IsLearnt (length (known_now opened entries).circuit) (known_now opened entries).clauses clause hints
+
+-- the entries that were there stay
+pub record Extends (before after : List Entry) : Type 0 where
+  pub more : List Entry
+  pub is : after ≡ before ++ more

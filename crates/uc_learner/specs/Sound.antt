@@ -1,0 +1,13 @@
+-- What the search's state keeps.
+use Rattle.std.specs.Prelude.{◌≡◌, ◌<◌, ◌^◌, None, length, replicate}
+use Rattle.uc_log.specs.Refutes.{AllWithin}
+use Rattle.uc_learner.specs.declared.state.State.{State}
+use Rattle.uc_learner.specs.Trail.{values_after, TrailFits}
+
+-- the values are those of the steps, each step was right when it was made, and numbers of 32 bits serve
+pub record Sound (s : State) : Type 0 where
+  pub values : s.values.items ≡ values_after (replicate (length s.inputs.items) None) s.trail.items
+  pub trail : TrailFits s.inputs.items s.clauses.items (replicate (length s.inputs.items) None) s.trail.items
+  pub within : AllWithin (length s.inputs.items) s.clauses.items
+  pub numbered : length s.clauses.items < 2 ^ 32
+  pub variables : length s.inputs.items < 2 ^ 32

@@ -1,0 +1,76 @@
+//! Which inputs the search decides first, and with which sign. No clause of the search speaks of it.
+
+use std::alloc::{AllocError, Global};
+
+/// Past this score all scores are made smaller.
+const HIGH: u64 = 1 << 56;
+
+#[derive(Drop)]
+pub struct Preferences {
+    /// The value that each variable had last.
+    phases: Vec<bool>,
+    /// How often and how lately each variable took part in a conflict.
+    scores: Vec<u64>,
+    /// By how much a conflict raises a score.
+    rise: u64,
+}
+
+impl Preferences {
+    pub fn new(alloc: Global) -> Preferences {
+        Preferences {
+            phases: Vec::new(alloc),
+            scores: Vec::new(alloc),
+            rise: 16,
+        }
+    }
+
+    pub fn of(alloc: Global, variables: u32) -> Result<Preferences, AllocError> {
+        let mut preferences = Preferences::new(alloc);
+        for _number in 0..variables {
+            preferences.add_variable()?;
+        }
+        Ok(preferences)
+    }
+
+    pub fn add_variable(&mut self) -> Result<(), AllocError> {
+        self.phases.push(false)?;
+        self.scores.push(0)?;
+        Ok(())
+    }
+
+    /// The value that the variable had last.
+    pub fn phase(&self, variable: u32) -> bool {
+        self.phases.get(variable as usize).copied().unwrap_or(false)
+    }
+
+    pub fn keep_phase(&mut self, variable: u32, value: bool) {
+        if let Some(phase) = self.phases.get_mut(variable as usize) {
+            *phase = value;
+        }
+    }
+
+    pub fn score(&self, variable: u32) -> u64 {
+        self.scores.get(variable as usize).copied().unwrap_or(0)
+    }
+
+    /// Raises the scores of the variables that took part in a conflict. Later conflicts weigh more.
+    pub fn raise(&mut self, marked: &[bool]) {
+        for (score, is_marked) in self.scores.iter_mut().zip(marked) {
+            if *is_marked {
+                *score = score.saturating_add(self.rise);
+            }
+        }
+        self.rise = self.rise.saturating_add(self.rise / 16);
+        if self.rise >= HIGH {
+            self.lower();
+        }
+    }
+
+    /// Makes all scores smaller, in proportion.
+    fn lower(&mut self) {
+        for score in self.scores.iter_mut() {
+            *score >>= 40;
+        }
+        self.rise >>= 40;
+    }
+}
