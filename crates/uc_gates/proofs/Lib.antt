@@ -1,0 +1,6 @@
+pub mod GateEquality
+pub mod Growing
+pub mod Sharing
+pub mod Numbers
+pub mod Pushing
+pub mod Choices

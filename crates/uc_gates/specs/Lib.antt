@@ -1,0 +1,3 @@
+pub mod Signals
+pub mod Building
+pub mod Meanings

@@ -1,0 +1,13 @@
+//! Circuits for numbers: lists of signals, from the lowest bit, and what they stand for.
+//!
+//! In: signals of a circuit that is being built. Out: signals of the same circuit, with more
+//! gates, which stand for the sum, the product, the order and so on of the numbers that the given
+//! ones stand for, whatever the values of the inputs are. No gate stands twice, and a gate with a
+//! constant operand is none.
+#![tactic(auto)]
+
+mod gates;
+mod signal;
+
+pub use gates::Gates;
+pub use signal::Signal;
