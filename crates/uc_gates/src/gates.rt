@@ -167,65 +167,65 @@ impl Gates {
     }
 
     /// The second where the first is true, and else the third.
-    pub fn choose(&mut self, condition: Signal, then: Signal, other: Signal) -> Result<Signal, AllocError>
+    pub fn choose(&mut self, condition: Signal, on_true: Signal, on_false: Signal) -> Result<Signal, AllocError>
         requires condition { Below (size self.old) condition }
-        requires then { Below (size self.old) then }
-        requires other { Below (size self.old) other }
+        requires on_true { Below (size self.old) on_true }
+        requires on_false { Below (size self.old) on_false }
         ensures grows { Grows self.old self.new }
-        ensures ok { IfOk result (Means self.new (λ v. if signal_value v condition then signal_value v then else signal_value v other)) }
+        ensures ok { IfOk result (Means self.new (λ v. if signal_value v condition then signal_value v on_true else signal_value v on_false)) }
     {
         match condition {
-            Signal::Constant(true) => Ok(then),
-            Signal::Constant(false) => Ok(other),
-            Signal::Of(literal) => self.choose_by(literal, then, other),
+            Signal::Constant(true) => Ok(on_true),
+            Signal::Constant(false) => Ok(on_false),
+            Signal::Of(literal) => self.choose_by(literal, on_true, on_false),
         }
     }
 
     /// The first signal where the literal is true, and else the second.
-    fn choose_by(&mut self, condition: Lit, then: Signal, other: Signal) -> Result<Signal, AllocError>
+    fn choose_by(&mut self, condition: Lit, on_true: Signal, on_false: Signal) -> Result<Signal, AllocError>
         requires condition { condition.var < size self.old }
-        requires then { Below (size self.old) then }
-        requires other { Below (size self.old) other }
+        requires on_true { Below (size self.old) on_true }
+        requires on_false { Below (size self.old) on_false }
         ensures grows { Grows self.old self.new }
-        ensures ok { IfOk result (Means self.new (λ v. if literal_value v condition then signal_value v then else signal_value v other)) }
+        ensures ok { IfOk result (Means self.new (λ v. if literal_value v condition then signal_value v on_true else signal_value v on_false)) }
     {
-        match then {
-            Signal::Constant(true) => self.or(Signal::Of(condition), other),
-            Signal::Constant(false) => self.and(Signal::Of(condition.negate()), other),
-            Signal::Of(literal) => self.choose_literal(condition, literal, other),
+        match on_true {
+            Signal::Constant(true) => self.or(Signal::Of(condition), on_false),
+            Signal::Constant(false) => self.and(Signal::Of(condition.negate()), on_false),
+            Signal::Of(literal) => self.choose_literal(condition, literal, on_false),
         }
     }
 
-    fn choose_literal(&mut self, condition: Lit, then: Lit, other: Signal) -> Result<Signal, AllocError>
+    fn choose_literal(&mut self, condition: Lit, on_true: Lit, on_false: Signal) -> Result<Signal, AllocError>
         requires condition { condition.var < size self.old }
-        requires then { then.var < size self.old }
-        requires other { Below (size self.old) other }
+        requires on_true { on_true.var < size self.old }
+        requires on_false { Below (size self.old) on_false }
         ensures grows { Grows self.old self.new }
-        ensures ok { IfOk result (Means self.new (λ v. if literal_value v condition then literal_value v then else signal_value v other)) }
+        ensures ok { IfOk result (Means self.new (λ v. if literal_value v condition then literal_value v on_true else signal_value v on_false)) }
     {
-        match other {
-            Signal::Constant(true) => self.or(Signal::Of(condition.negate()), Signal::Of(then)),
-            Signal::Constant(false) => self.and(Signal::Of(condition), Signal::Of(then)),
-            Signal::Of(literal) => self.choose_literals(condition, then, literal),
+        match on_false {
+            Signal::Constant(true) => self.or(Signal::Of(condition.negate()), Signal::Of(on_true)),
+            Signal::Constant(false) => self.and(Signal::Of(condition), Signal::Of(on_true)),
+            Signal::Of(literal) => self.choose_literals(condition, on_true, literal),
         }
     }
 
-    fn choose_literals(&mut self, condition: Lit, then: Lit, other: Lit) -> Result<Signal, AllocError>
+    fn choose_literals(&mut self, condition: Lit, on_true: Lit, on_false: Lit) -> Result<Signal, AllocError>
         requires condition { condition.var < size self.old }
-        requires then { then.var < size self.old }
-        requires other { other.var < size self.old }
+        requires on_true { on_true.var < size self.old }
+        requires on_false { on_false.var < size self.old }
         ensures grows { Grows self.old self.new }
-        ensures ok { IfOk result (Means self.new (λ v. if literal_value v condition then literal_value v then else literal_value v other)) }
+        ensures ok { IfOk result (Means self.new (λ v. if literal_value v condition then literal_value v on_true else literal_value v on_false)) }
     {
-        if then.var == other.var {
-            if then.neg == other.neg {
-                return Ok(Signal::Of(then));
+        if on_true.var == on_false.var {
+            if on_true.neg == on_false.neg {
+                return Ok(Signal::Of(on_true));
             }
-            return self.xor(Signal::Of(condition), Signal::Of(other));
+            return self.xor(Signal::Of(condition), Signal::Of(on_false));
         }
         if condition.neg {
-            return self.add(Gate::Mux(condition.negate(), other, then));
+            return self.add(Gate::Mux(condition.negate(), on_false, on_true));
         }
-        self.add(Gate::Mux(condition, then, other))
+        self.add(Gate::Mux(condition, on_true, on_false))
     }
 }

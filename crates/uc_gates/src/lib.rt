@@ -6,8 +6,10 @@
 //! constant operand is none.
 #![tactic(auto)]
 
+mod bitwise;
 mod gates;
 mod signal;
 
+pub use bitwise::{and_each, turn_each};
 pub use gates::Gates;
 pub use signal::Signal;
