@@ -4,3 +4,5 @@ pub mod Sharing
 pub mod Numbers
 pub mod Pushing
 pub mod Choices
+pub mod Turns
+pub mod BitByBit

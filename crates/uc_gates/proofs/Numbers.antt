@@ -31,11 +31,11 @@ number-push v xs s i long =
     ∙ ap (λ k. number v xs + 2 ^ k * (bit (signal_value v s) + 2 * 0)) long
     ∙ ap (λ k. number v xs + 2 ^ i * k) (omega arith)
 
-pub number-more : (v : ℕ → Bool) (xs : List Signal) (i : ℕ) (s : Signal) → i < length xs → get_or xs i s ≡ s
-    → number v (take (i + 1) xs) ≡ number v (take i xs) + 2 ^ i * bit (signal_value v s)
-number-more v xs i s h is =
-    ap (number v) (take_more xs i s h ∙ ap (λ x. take i xs ++ x ∷ []) is)
-    ∙ number-push v (take i xs) s i (length-take-le i xs (omega arith))
+pub number-more : (v : ℕ → Bool) (xs : List Signal) (i : ℕ) (d : Signal) → i < length xs
+    → number v (take (i + 1) xs) ≡ number v (take i xs) + 2 ^ i * bit (signal_value v (get_or xs i d))
+number-more v xs i d h =
+    ap (number v) (take_more xs i d h)
+    ∙ number-push v (take i xs) (get_or xs i d) i (length-take-le i xs (omega arith))
 
 pub number-split : (v : ℕ → Bool) (xs : List Signal) (i : ℕ) → i ≤ length xs → number v xs ≡ number v (take i xs) + 2 ^ i * number v (drop i xs)
 number-split v xs i h =
