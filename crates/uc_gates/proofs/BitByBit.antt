@@ -1,13 +1,15 @@
 -- Operations bit by bit, one bit more.
 use Rattle.std.specs.Prelude.{◌≡◌, ℕ, ◌+◌, ◌*◌, ◌^◌, ◌<◌, ◌≤◌, Bool, true, false, not, ◌&&◌, ◌||◌, cond, List, [], ◌∷◌, length, take, map, bit_and, bit_or, bit_xor}
-use Rattle.std.proofs.Common.{refl, sym, ap, ◌∙◌, arith, get_or, add_comm}
+use Rattle.std.proofs.Common.{refl, sym, ap, ◌∙◌, arith, get_or, add_comm, subst}
 use Rattle.std.proofs.Math.Nat.{mul_comm, pow-suc}
 use Rattle.std.proofs.lemmas.Nat.{and_block, or_block, xor_block}
+use Rattle.std.proofs.lemmas.List.{length-map}
+use Rattle.std.proofs.lemmas.List.Elements.{All-map, All-weaker}
 use Rattle.uc_values.specs.Operators.{complemented}
 use Rattle.uc_gates.specs.declared.signal.Signal.{Signal}
-use Rattle.uc_gates.specs.Signals.{signal_value, turned, differ, number, bit}
+use Rattle.uc_gates.specs.Signals.{signal_value, turned, differ, number, bit, Below, AllBelow}
 use Rattle.uc_gates.proofs.Numbers.{number-more, number-front, number-below}
-use Rattle.uc_gates.proofs.Choices.{turned-value}
+use Rattle.uc_gates.proofs.Choices.{turned-value, turned-below}
 
 swap : (r p b : ℕ) → r + p * b ≡ b * p + r
 swap r p b = add_comm r (p * b) ∙ ap (λ n. n + r) (mul_comm p b)
@@ -103,3 +105,10 @@ turned-sum v (s ∷ a) =
 -- the signals turned stand for the number with each bit turned
 pub number-turned : (v : ℕ → Bool) (a : List Signal) → number v (map turned a) ≡ complemented (length a) (number v a)
 number-turned v a = omega (arith, turned-sum v a)
+
+pub turned-all : (n : ℕ) (xs ys : List Signal) → ys ≡ map turned xs → AllBelow n xs → AllBelow n ys
+turned-all n xs ys is h =
+    subst (AllBelow n) (sym is) (All-map (Below n) turned xs (All-weaker (Below n) (λ s. Below n (turned s)) (turned-below n) xs h))
+
+pub turned-long : (xs ys : List Signal) → ys ≡ map turned xs → length ys ≡ length xs
+turned-long xs ys is = ap (length {A = Signal}) is ∙ length-map xs turned

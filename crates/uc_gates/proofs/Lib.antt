@@ -6,3 +6,5 @@ pub mod Pushing
 pub mod Choices
 pub mod Turns
 pub mod BitByBit
+pub mod Sums
+pub mod Orders

@@ -1,5 +1,5 @@
 -- A list of signals that gets one signal after another.
-use Rattle.std.specs.Prelude.{◌≡◌, ℕ, ◌+◌, ◌*◌, ◌^◌, Bool, List, [], ◌∷◌, ◌++◌, length}
+use Rattle.std.specs.Prelude.{◌≡◌, ℕ, ◌+◌, ◌*◌, ◌^◌, Bool, List, [], ◌∷◌, ◌++◌, length, Result, Ok, Err, IfOk}
 use Rattle.std.proofs.Common.{refl, sym, ap, ◌∙◌, arith}
 use Rattle.std.proofs.lemmas.List.{length_push}
 use Rattle.std.proofs.lemmas.List.Elements.{All-push, All-nil}
@@ -33,3 +33,11 @@ amounts-same b width m n ss is a = record { below = a.below; long = a.long; valu
 
 pub means-same : (b : Building) (m n : (ℕ → Bool) → Bool) (s : Signal) → ((v : ℕ → Bool) → Obeys v b → m v ≡ n v) → Means b m s → Means b n s
 means-same b m n s is a = record { below = a.below; value = λ v o. a.value v o ∙ is v o }
+
+pub amounts-width : (b : Building) (width other : ℕ) (m : (ℕ → Bool) → ℕ) (ss : List Signal) → width ≡ other → Amounts b width m ss → Amounts b other m ss
+amounts-width b width other m ss is a = record { below = a.below; long = a.long ∙ is; value = a.value }
+
+-- what follows of the value of an Ok
+pub if_ok-weaker : {T E : Type 0} (P Q : T → Type 0) (r : Result T E) → ((x : T) → P x → Q x) → IfOk r P → IfOk r Q
+if_ok-weaker P Q (Ok x) f h = f x h
+if_ok-weaker P Q (Err e) f h = tt

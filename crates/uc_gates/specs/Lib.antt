@@ -1,3 +1,4 @@
 pub mod Signals
 pub mod Building
 pub mod Meanings
+pub mod Adding

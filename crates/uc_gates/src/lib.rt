@@ -6,10 +6,14 @@
 //! constant operand is none.
 #![tactic(auto)]
 
+mod adding;
 mod bitwise;
+mod comparing;
 mod gates;
 mod signal;
 
-pub use bitwise::{and_each, turn_each};
+pub use adding::{add, add_each, negate, subtract};
+pub use bitwise::{and_each, choose_each, or_each, turn_each, xor_each};
+pub use comparing::{at_most, at_most_signed, equal, less, less_signed};
 pub use gates::Gates;
 pub use signal::Signal;

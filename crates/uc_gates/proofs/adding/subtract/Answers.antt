@@ -1,0 +1,14 @@
+use Rattle.std.proofs.Common.{◌≡◌, ◌∙◌, map, length, List}
+use Rattle.uc_gates.specs.declared.signal.Signal.{Signal}
+use Rattle.uc_gates.specs.Signals.{turned}
+use Rattle.uc_gates.proofs.Pushing.{amounts-same, if_ok-weaker}
+use Rattle.uc_gates.proofs.BitByBit.{turned-all, turned-long}
+use Rattle.uc_gates.proofs.Sums.{difference}
+use Rattle.uc_gates.proofs.adding.subtract.Goals as goal
+
+pub add_each-requires-clause-b : goal.add_each-requires-clause-b
+add_each-requires-clause-b c = turned-all _ c.args.b.now _ (c.as_slice.ensures.value ∙ c.in_ok-turned.ensures) c.requires.b
+
+pub returns-clause-ok : goal.returns-clause-ok
+returns-clause-ok c =
+    if_ok-weaker _ _ _ (λ r a. amounts-same _ _ _ _ _ (λ v o. difference v c.args.a.now c.args.b.now _ (c.as_slice.ensures.value ∙ c.in_ok-turned.ensures) c.requires.long) a) c.add_each.ensures.ok
