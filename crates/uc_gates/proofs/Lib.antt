@@ -8,3 +8,7 @@ pub mod Turns
 pub mod BitByBit
 pub mod Sums
 pub mod Orders
+pub mod Shifts
+pub mod Products
+pub mod Digits
+pub mod Joins

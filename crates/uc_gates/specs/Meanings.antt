@@ -14,3 +14,9 @@ pub record Amounts (b : Building) (width : ℕ) (meaning : (ℕ → Bool) → �
   pub below : AllBelow (size b) signals
   pub long : length signals ≡ width
   pub value : (v : ℕ → Bool) → Obeys v b → number v signals ≡ meaning v
+
+-- so many constant signals stand for the number
+pub record AreConstant (width n : ℕ) (signals : List Signal) : Type 0 where
+  pub below : AllBelow 0 signals
+  pub long : length signals ≡ width
+  pub value : (v : ℕ → Bool) → number v signals ≡ n

@@ -49,6 +49,20 @@ impl Gates {
         self.inputs + self.gates.len() as u32
     }
 
+    /// The circuit.
+    pub fn into_circuit(self, alloc: Global) -> Result<Circuit, AllocError>
+        ensures { IfOk result (λ c. c ≡ nodes_of self) }
+    {
+        let mut circuit = Circuit::new(alloc)?;
+        for _input in 0..self.inputs {
+            circuit.add_input()?;
+        }
+        for gate in self.gates.as_slice() {
+            circuit.add_gate(*gate)?;
+        }
+        Ok(circuit)
+    }
+
     /// The signal of a gate: that of the equal gate where there is one.
     fn add(&mut self, gate: Gate) -> Result<Signal, AllocError>
         requires { OperandsBelow (size self.old) gate }
