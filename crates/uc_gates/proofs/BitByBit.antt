@@ -21,7 +21,7 @@ each-more :
     → ((x y : Bool) → f (bit x) (bit y) ≡ bit (g x y))
     → (v : ℕ → Bool) (a b : List Signal) (i : ℕ) (d e : Signal) → i < length a → i < length b
     → f (number v (take i a)) (number v (take i b)) + 2 ^ i * bit (g (signal_value v (get_or a i d)) (signal_value v (get_or b i e)))
-      ≡ f (number v (take (i + 1) a)) (number v (take (i + 1) b))
+    ≡ f (number v (take (i + 1) a)) (number v (take (i + 1) b))
 each-more f g blocks bits v a b i d e ha hb =
     let p = 2 ^ i in
     let r = number v (take i a) in
@@ -33,10 +33,10 @@ each-more f g blocks bits v a b i d e ha hb =
     let ea : number v (take (i + 1) a) ≡ bit X * p + r = number-more v a i d ha ∙ swap r p (bit X) in
     let eb : number v (take (i + 1) b) ≡ bit Y * p + s = number-more v b i e hb ∙ swap s p (bit Y) in
     sym (
-      ap (λ n. f n (number v (take (i + 1) b))) ea ∙ ap (λ n. f (bit X * p + r) n) eb
-      ∙ blocks i (bit X) (bit Y) r s (number-front v a i la) (number-front v b i lb)
-      ∙ ap (λ n. n * p + f r s) (bits X Y)
-      ∙ sym (swap (f r s) p (bit (g X Y)))
+    ap (λ n. f n (number v (take (i + 1) b))) ea ∙ ap (λ n. f (bit X * p + r) n) eb
+    ∙ blocks i (bit X) (bit Y) r s (number-front v a i la) (number-front v b i lb)
+    ∙ ap (λ n. n * p + f r s) (bits X Y)
+    ∙ sym (swap (f r s) p (bit (g X Y)))
     )
 
 and-bits : (x y : Bool) → bit_and (bit x) (bit y) ≡ bit (x && y)
@@ -60,19 +60,19 @@ xor-bits false false = refl
 pub and-more :
     (v : ℕ → Bool) (a b : List Signal) (i : ℕ) (d e : Signal) → i < length a → i < length b
     → bit_and (number v (take i a)) (number v (take i b)) + 2 ^ i * bit (signal_value v (get_or a i d) && signal_value v (get_or b i e))
-      ≡ bit_and (number v (take (i + 1) a)) (number v (take (i + 1) b))
+    ≡ bit_and (number v (take (i + 1) a)) (number v (take (i + 1) b))
 and-more = each-more bit_and (λ x y. x && y) and_block and-bits
 
 pub or-more :
     (v : ℕ → Bool) (a b : List Signal) (i : ℕ) (d e : Signal) → i < length a → i < length b
     → bit_or (number v (take i a)) (number v (take i b)) + 2 ^ i * bit (signal_value v (get_or a i d) || signal_value v (get_or b i e))
-      ≡ bit_or (number v (take (i + 1) a)) (number v (take (i + 1) b))
+    ≡ bit_or (number v (take (i + 1) a)) (number v (take (i + 1) b))
 or-more = each-more bit_or (λ x y. x || y) or_block or-bits
 
 pub xor-more :
     (v : ℕ → Bool) (a b : List Signal) (i : ℕ) (d e : Signal) → i < length a → i < length b
     → bit_xor (number v (take i a)) (number v (take i b)) + 2 ^ i * bit (differ (signal_value v (get_or a i d)) (signal_value v (get_or b i e)))
-      ≡ bit_xor (number v (take (i + 1) a)) (number v (take (i + 1) b))
+    ≡ bit_xor (number v (take (i + 1) a)) (number v (take (i + 1) b))
 xor-more = each-more bit_xor differ xor_block xor-bits
 
 choose-bit : (c : Bool) (p r s x y m n : ℕ) → m ≡ r + p * x → n ≡ s + p * y → cond c r s + p * cond c x y ≡ cond c m n
@@ -86,11 +86,11 @@ bit-cond false x y = refl
 pub choose-more :
     (v : ℕ → Bool) (c : Bool) (a b : List Signal) (i : ℕ) (d e : Signal) → i < length a → i < length b
     → cond c (number v (take i a)) (number v (take i b)) + 2 ^ i * bit (cond c (signal_value v (get_or a i d)) (signal_value v (get_or b i e)))
-      ≡ cond c (number v (take (i + 1) a)) (number v (take (i + 1) b))
+    ≡ cond c (number v (take (i + 1) a)) (number v (take (i + 1) b))
 choose-more v c a b i d e ha hb =
     ap (λ t. cond c (number v (take i a)) (number v (take i b)) + 2 ^ i * t) (bit-cond c (signal_value v (get_or a i d)) (signal_value v (get_or b i e)))
     ∙ choose-bit c (2 ^ i) (number v (take i a)) (number v (take i b)) (bit (signal_value v (get_or a i d))) (bit (signal_value v (get_or b i e)))
-      (number v (take (i + 1) a)) (number v (take (i + 1) b)) (number-more v a i d ha) (number-more v b i e hb)
+    (number v (take (i + 1) a)) (number v (take (i + 1) b)) (number-more v a i d ha) (number-more v b i e hb)
 
 bit-not : (b : Bool) → bit (not b) + bit b ≡ 1
 bit-not true = refl

@@ -36,8 +36,8 @@ pub or-means :
 or-means b x y p q n r ep eq er m = record {
   below = subst (Below (size b)) (sym er) (turned-below (size b) n m.below);
   value = λ v o.
-    ap (signal_value v) er ∙ turned-value v n ∙ ap not (m.value v o)
-    ∙ ap (λ t. not (t && signal_value v q)) (ap (signal_value v) ep ∙ turned-value v x)
-    ∙ ap (λ t. not (not (signal_value v x) && t)) (ap (signal_value v) eq ∙ turned-value v y)
-    ∙ or-turned (signal_value v x) (signal_value v y);
+      ap (signal_value v) er ∙ turned-value v n ∙ ap not (m.value v o)
+      ∙ ap (λ t. not (t && signal_value v q)) (ap (signal_value v) ep ∙ turned-value v x)
+      ∙ ap (λ t. not (not (signal_value v x) && t)) (ap (signal_value v) eq ∙ turned-value v y)
+      ∙ or-turned (signal_value v x) (signal_value v y);
 }

@@ -44,9 +44,9 @@ digits-more i n rest out t = record {
   below = All-push (Below 0) out (Constant (nat_eq (rest % 2) 1)) t.below tt;
   long = omega (arith, length_push out (Constant (nat_eq (rest % 2) 1)), t.long);
   value = λ v.
-    ap (λ y. y + 2 ^ (i + 1) * (rest / 2)) (number-push v out (Constant (nat_eq (rest % 2) 1)) i t.long)
-    ∙ ap (λ p. number v out + 2 ^ i * bit (nat_eq (rest % 2) 1) + p * (rest / 2)) (ap (λ k. 2 ^ k) (omega arith) ∙ pow-suc 2 i)
-    ∙ shared-out (number v out) (2 ^ i) (bit (nat_eq (rest % 2) 1)) (rest / 2) rest n (digit rest) (t.value v);
+      ap (λ y. y + 2 ^ (i + 1) * (rest / 2)) (number-push v out (Constant (nat_eq (rest % 2) 1)) i t.long)
+      ∙ ap (λ p. number v out + 2 ^ i * bit (nat_eq (rest % 2) 1) + p * (rest / 2)) (ap (λ k. 2 ^ k) (omega arith) ∙ pow-suc 2 i)
+      ∙ shared-out (number v out) (2 ^ i) (bit (nat_eq (rest % 2) 1)) (rest / 2) rest n (digit rest) (t.value v);
 }
 
 no-rest : (o p rest n : ℕ) → o + p * rest ≡ n → n < p → o ≡ n
@@ -61,7 +61,6 @@ digits-all width i n rest out is h t = record {
   long = t.long ∙ is;
   value = λ v. no-rest (number v out) (2 ^ width) rest n (ap (λ k. number v out + 2 ^ k * rest) (sym is) ∙ t.value v) h;
 }
-
 
 slice_get-get_or : (gates : List Gate) (k : ℕ) (d : Gate) → k < length gates → slice_get gates k ≡ Some (get_or gates k d)
 slice_get-get_or [] k d h = absurd (omega arith)

@@ -40,8 +40,8 @@ zeros-before a out more is b below = record {
   below = subst (AllBelow (size b)) (sym is) (All-append (Below (size b)) a (replicate more (Constant false)) below (All-replicate (Below (size b)) more (Constant false) tt));
   long = ap (length {A = Signal}) is ∙ length-append a (replicate more (Constant false)) ∙ omega (arith, length-replicate more (Constant false));
   value = λ v o.
-    let z = mul-zero-right (2 ^ length a) (number v (replicate more (Constant false))) (number-zeros v more (Constant false) refl) in
-    ap (number v) is ∙ number-append v a (replicate more (Constant false)) ∙ omega (arith, z);
+      let z = mul-zero-right (2 ^ length a) (number v (replicate more (Constant false))) (number-zeros v more (Constant false) refl) in
+      ap (number v) is ∙ number-append v a (replicate more (Constant false)) ∙ omega (arith, z);
 }
 
 copies : (v : ℕ → Bool) (w i more A r : ℕ) (s : Signal) (t : Bool) → signal_value v s ≡ t → w ≡ i + 1 → r < 2 ^ i → A ≡ r + 2 ^ i * bit t
@@ -70,10 +70,10 @@ signs-before a out more i d e is b below =
       below = subst (AllBelow (size b)) (sym is) (All-append (Below (size b)) a (replicate more s) below (All-replicate (Below (size b)) more s (below i d h)));
       long = ap (length {A = Signal}) is ∙ length-append a (replicate more s) ∙ omega (arith, length-replicate more s);
       value = λ v o.
-        let split : number v a ≡ number v (take i a) + 2 ^ i * bit (signal_value v s) =
-        sym (ap (number v) (take_all (i + 1) a (omega arith))) ∙ number-more v a i d h in
-        ap (number v) is ∙ number-append v a (replicate more s)
-        ∙ copies v (length a) i more (number v a) (number v (take i a)) s (signal_value v s) refl (sym e) (number-front v a i l) split;
+          let split : number v a ≡ number v (take i a) + 2 ^ i * bit (signal_value v s) =
+          sym (ap (number v) (take_all (i + 1) a (omega arith))) ∙ number-more v a i d h in
+          ap (number v) is ∙ number-append v a (replicate more s)
+          ∙ copies v (length a) i more (number v a) (number v (take i a)) s (signal_value v s) refl (sym e) (number-front v a i l) split;
     }
 
 pub both-lists : (out xs ys a z : List Signal) → out ≡ xs ++ ys → xs ≡ a → ys ≡ z → out ≡ a ++ z

@@ -28,7 +28,7 @@ equal-step p r s m n false false hr hs em en = grind (arith, nat_tests)
 
 pub less-more : (v : ℕ → Bool) (a b : List Signal) (i : ℕ) (d e : Signal) → i < length a → i < length b
     → cond (differ (signal_value v (get_or a i d)) (signal_value v (get_or b i e))) (signal_value v (get_or b i e)) (nat_lt (number v (take i a)) (number v (take i b)))
-      ≡ nat_lt (number v (take (i + 1) a)) (number v (take (i + 1) b))
+    ≡ nat_lt (number v (take (i + 1) a)) (number v (take (i + 1) b))
 less-more v a b i d e ha hb =
     let la : i ≤ length a = omega arith in
     let lb : i ≤ length b = omega arith in
@@ -37,7 +37,7 @@ less-more v a b i d e ha hb =
 
 pub equal-more : (v : ℕ → Bool) (a b : List Signal) (i : ℕ) (d e : Signal) → i < length a → i < length b
     → (nat_eq (number v (take i a)) (number v (take i b)) && not (differ (signal_value v (get_or a i d)) (signal_value v (get_or b i e))))
-      ≡ nat_eq (number v (take (i + 1) a)) (number v (take (i + 1) b))
+    ≡ nat_eq (number v (take (i + 1) a)) (number v (take (i + 1) b))
 equal-more v a b i d e ha hb =
     let la : i ≤ length a = omega arith in
     let lb : i ≤ length b = omega arith in
@@ -55,11 +55,11 @@ equal-turn start old one two m more x y same d td next t g md is h mn step = (
   record {
     below = mn.below;
     value = λ v o.
-      let o1 = obeys-back one two h v o in
-      mn.value v o
-      ∙ ap (λ b. b && signal_value v td) (t.1.value v (obeys-back old one g v o1))
-      ∙ ap (λ b. m v && b) (ap (signal_value v) is ∙ turned-value v d ∙ ap not (md.value v o1))
-      ∙ step v;
+        let o1 = obeys-back one two h v o in
+        mn.value v o
+        ∙ ap (λ b. b && signal_value v td) (t.1.value v (obeys-back old one g v o1))
+        ∙ ap (λ b. m v && b) (ap (signal_value v) is ∙ turned-value v d ∙ ap not (md.value v o1))
+        ∙ step v;
   },
 )
 
@@ -74,11 +74,11 @@ less-turn start old one two m more x y pick less d next t g md h mn step = (
   record {
     below = mn.below;
     value = λ v o.
-      let o1 = obeys-back one two h v o in
-      mn.value v o
-      ∙ ap (λ b. cond b (signal_value v pick) (signal_value v less)) (md.value v o1)
-      ∙ ap (λ b. cond (differ (signal_value v x) (signal_value v y)) (signal_value v pick) b) (t.1.value v (obeys-back old one g v o1))
-      ∙ step v;
+        let o1 = obeys-back one two h v o in
+        mn.value v o
+        ∙ ap (λ b. cond b (signal_value v pick) (signal_value v less)) (md.value v o1)
+        ∙ ap (λ b. cond (differ (signal_value v x) (signal_value v y)) (signal_value v pick) b) (t.1.value v (obeys-back old one g v o1))
+        ∙ step v;
   },
 )
 
@@ -129,7 +129,7 @@ signed-step i p r s m n false false hr hs e em en =
 
 pub signed-more : (v : ℕ → Bool) (a b : List Signal) (i : ℕ) (d e : Signal) → i + 1 ≡ length a → length b ≡ length a
     → cond (differ (signal_value v (get_or a i d)) (signal_value v (get_or b i e))) (signal_value v (get_or a i d)) (nat_lt (number v (take i a)) (number v (take i b)))
-      ≡ int_lt (signed (length a) (number v a)) (signed (length a) (number v b))
+    ≡ int_lt (signed (length a) (number v a)) (signed (length a) (number v b))
 signed-more v a b i d e is long =
     let la : i ≤ length a = omega arith in
     let lb : i ≤ length b = omega arith in

@@ -62,20 +62,20 @@ row-all start one two sum a row high top out by k hk long below g r et h s is =
     let back : length (drop k sum) ≡ j = length-drop k sum ∙ omega arith in
     let e : j + k ≡ w = omega arith in record {
       below = subst (AllBelow (size two)) (sym is)
-        (All-append (Below (size two)) (take k sum) high
-        (All-take (Below (size two)) k sum (all_below-grown start two (grows-trans start one two g h) sum below)) s.below);
+          (All-append (Below (size two)) (take k sum) high
+          (All-take (Below (size two)) k sum (all_below-grown start two (grows-trans start one two g h) sum below)) s.below);
       long = ap (length {A = Signal}) is ∙ length-append (take k sum) high ∙ omega (arith, front, back, s.long, ap (length {A = Signal}) et);
       value = λ v o.
-        let x = bit (signal_value v by) in
-        let er : number v row ≡ number v a % 2 ^ j * x = r.value v (obeys-back one two h v o) ∙ ap (λ y. y * x) (number-take v a j lj) in
-        let split : number v sum ≡ number v (take k sum) + 2 ^ k * number v (drop k sum) = number-split v sum k lk in
-        ap (number v) is ∙ number-append v (take k sum) high
-        ∙ ap (λ y. number v (take k sum) + 2 ^ y * number v high) front
-        ∙ ap (λ y. number v (take k sum) + 2 ^ k * y)
+          let x = bit (signal_value v by) in
+          let er : number v row ≡ number v a % 2 ^ j * x = r.value v (obeys-back one two h v o) ∙ ap (λ y. y * x) (number-take v a j lj) in
+          let split : number v sum ≡ number v (take k sum) + 2 ^ k * number v (drop k sum) = number-split v sum k lk in
+          ap (number v) is ∙ number-append v (take k sum) high
+          ∙ ap (λ y. number v (take k sum) + 2 ^ y * number v high) front
+          ∙ ap (λ y. number v (take k sum) + 2 ^ k * y)
           (s.value v o ∙ ap (λ xs. (number v xs + number v row + 0) % 2 ^ length xs) et ∙ ap (λ y. (number v (drop k sum) + y + 0) % 2 ^ length (drop k sum)) er ∙ ap (λ y. (number v (drop k sum) + number v a % 2 ^ j * x + 0) % 2 ^ y) back)
-        ∙ row-math k j (number v (take k sum)) (number v (drop k sum)) (number v a) x (number-front v sum k lk)
-        ∙ ap (λ y. (y + 2 ^ k * (number v a * x)) % 2 ^ (j + k)) (sym split)
-        ∙ ap (λ y. (number v sum + 2 ^ k * (number v a * x)) % 2 ^ y) e;
+          ∙ row-math k j (number v (take k sum)) (number v (drop k sum)) (number v a) x (number-front v sum k lk)
+          ∙ ap (λ y. (y + 2 ^ k * (number v a * x)) % 2 ^ (j + k)) (sym split)
+          ∙ ap (λ y. (number v sum + 2 ^ k * (number v a * x)) % 2 ^ y) e;
     }
 
 sum-math : (w A n p x m : ℕ) → m ≡ n + p * x → (A * n % 2 ^ w + p * (A * x)) % 2 ^ w ≡ A * m % 2 ^ w
@@ -95,7 +95,7 @@ product-none b a b' zs is = record {
     below = subst (AllBelow (size b)) (sym is) (All-replicate (Below (size b)) (length a) (Constant false) tt);
     long = ap (length {A = Signal}) is ∙ length-replicate (length a) (Constant false);
     value = λ v o. ap (number v) is ∙ number-zeros v (length a) (Constant false) refl
-      ∙ sym (ap (λ y. y % 2 ^ length a) (omega arith) ∙ mod_low 0 (length a) 0 (pow_pos (length a)));
+        ∙ sym (ap (λ y. y % 2 ^ length a) (omega arith) ∙ mod_low 0 (length a) 0 (pow_pos (length a)));
   };
 }
 
@@ -111,10 +111,10 @@ product-more start old new a b sum ss out i d hi t es g r = record {
     below = r.below;
     long = r.long;
     value = λ v o.
-      r.value v o
-      ∙ ap (λ y. (number v y + 2 ^ i * (number v a * bit (signal_value v (get_or b i d)))) % 2 ^ length a) es
-      ∙ ap (λ y. (y + 2 ^ i * (number v a * bit (signal_value v (get_or b i d)))) % 2 ^ length a) (t.amounts.value v (obeys-back old new g v o))
-      ∙ sum-math (length a) (number v a) (number v (take i b)) (2 ^ i) (bit (signal_value v (get_or b i d))) (number v (take (i + 1) b)) (number-more v b i d hi);
+        r.value v o
+        ∙ ap (λ y. (number v y + 2 ^ i * (number v a * bit (signal_value v (get_or b i d)))) % 2 ^ length a) es
+        ∙ ap (λ y. (y + 2 ^ i * (number v a * bit (signal_value v (get_or b i d)))) % 2 ^ length a) (t.amounts.value v (obeys-back old new g v o))
+        ∙ sum-math (length a) (number v a) (number v (take i b)) (2 ^ i) (bit (signal_value v (get_or b i d))) (number v (take (i + 1) b)) (number-more v b i d hi);
   };
 }
 

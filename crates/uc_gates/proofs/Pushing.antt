@@ -23,8 +23,8 @@ amounts-push old new i meaning ss one s more grown a m is =
       below = All-push (Below (size new)) ss s b.below m.below;
       long = omega (arith, length_push ss s, b.long);
       value = λ v o.
-        number-push v ss s i b.long ∙ ap (λ n. n + 2 ^ i * bit (signal_value v s)) (b.value v o)
-        ∙ ap (λ t. meaning v + 2 ^ i * bit t) (m.value v o) ∙ is v o;
+          number-push v ss s i b.long ∙ ap (λ n. n + 2 ^ i * bit (signal_value v s)) (b.value v o)
+          ∙ ap (λ t. meaning v + 2 ^ i * bit t) (m.value v o) ∙ is v o;
     }
 
 -- signals that stand for one number stand for an equal one

@@ -168,20 +168,20 @@ shift-turn start old new s a amount bits ms out i places d hi power near t is g 
         below = r.below;
         long = r.long ∙ mslong;
         value = λ v o.
-          let x = signal_value v (get_or amount i d) in
-          let A = number v a in
-          let n = number v (take i amount) in
-          let eb : number v bits ≡ shifted v (length a) s A n = t.amounts.value v (obeys-back old new g v o) in
-          let em : number v ms ≡ shifted v (length a) s (shifted v (length a) s A n) (2 ^ i) =
-          ap (number v) is ∙ moved-number v s bits places le
-          ∙ ap (λ w. shifted v w s (number v bits) places) long
-          ∙ ap (λ y. shifted v (length a) s y places) eb
-          ∙ ap (shifted v (length a) s (shifted v (length a) s A n)) power in
-          r.value v o
-          ∙ ap (λ y. cond x y (number v bits)) em
-          ∙ ap (λ y. cond x (shifted v (length a) s (shifted v (length a) s A n) (2 ^ i)) y) eb
-          ∙ chosen v (length a) s A n (2 ^ i) x (number-below v a)
-          ∙ ap (shifted v (length a) s A) (sym (number-more v amount i d hi));
+            let x = signal_value v (get_or amount i d) in
+            let A = number v a in
+            let n = number v (take i amount) in
+            let eb : number v bits ≡ shifted v (length a) s A n = t.amounts.value v (obeys-back old new g v o) in
+            let em : number v ms ≡ shifted v (length a) s (shifted v (length a) s A n) (2 ^ i) =
+            ap (number v) is ∙ moved-number v s bits places le
+            ∙ ap (λ w. shifted v w s (number v bits) places) long
+            ∙ ap (λ y. shifted v (length a) s y places) eb
+            ∙ ap (shifted v (length a) s (shifted v (length a) s A n)) power in
+            r.value v o
+            ∙ ap (λ y. cond x y (number v bits)) em
+            ∙ ap (λ y. cond x (shifted v (length a) s (shifted v (length a) s A n) (2 ^ i)) y) eb
+            ∙ chosen v (length a) s A n (2 ^ i) x (number-below v a)
+            ∙ ap (shifted v (length a) s A) (sym (number-more v amount i d hi));
       };
     }
 
@@ -243,12 +243,12 @@ shift-all one two three s a amount bits bs rest fills near far out within wide l
   below = r.below;
   long = r.long ∙ ap (length {A = Signal}) is ∙ length-replicate (length a) (fill_of s);
   value = λ v o.
-    let o2 = obeys-back two three h v o in
-    r.value v o
-    ∙ ap (λ x. cond (signal_value v far) (number v x) (number v bs)) is
-    ∙ ap (λ x. cond (signal_value v far) (number v (replicate (length a) (fill_of s))) (number v x)) eb
-    ∙ ap (λ x. cond (signal_value v far) (number v (replicate (length a) (fill_of s))) x) (low.value v (obeys-back one two g v o2))
-    ∙ joined v (length a) s (number v a) (number v (take near amount)) (number v (drop near amount)) near (number v amount) (signal_value v far)
+      let o2 = obeys-back two three h v o in
+      r.value v o
+      ∙ ap (λ x. cond (signal_value v far) (number v x) (number v bs)) is
+      ∙ ap (λ x. cond (signal_value v far) (number v (replicate (length a) (fill_of s))) (number v x)) eb
+      ∙ ap (λ x. cond (signal_value v far) (number v (replicate (length a) (fill_of s))) x) (low.value v (obeys-back one two g v o2))
+      ∙ joined v (length a) s (number v a) (number v (take near amount)) (number v (drop near amount)) near (number v amount) (signal_value v far)
       (m.value v o2 ∙ ap (λ xs. nat_lt 0 (number v xs)) er) (number-below v a) wide (number-split v amount near within);
 }
 

@@ -36,12 +36,12 @@ adds b1 b2 b3 x y carry d sum next g h md ms mn = record {
   sum_below = below-grown b2 b3 h sum ms.below;
   next_below = mn.below;
   value = λ v o.
-    let o2 = obeys-back b2 b3 h v o in
-    let o1 = obeys-back b1 b2 g v o2 in
-    let ed = md.value v o1 in
-    ap (λ t. bit t + 2 * bit (signal_value v next)) (ms.value v o2 ∙ ap (λ t. differ t (signal_value v carry)) ed)
-    ∙ ap (λ t. bit (differ (differ (signal_value v x) (signal_value v y)) (signal_value v carry)) + 2 * bit t) (mn.value v o ∙ ap (λ t. cond t (signal_value v carry) (signal_value v x)) ed)
-    ∙ three (signal_value v x) (signal_value v y) (signal_value v carry);
+      let o2 = obeys-back b2 b3 h v o in
+      let o1 = obeys-back b1 b2 g v o2 in
+      let ed = md.value v o1 in
+      ap (λ t. bit t + 2 * bit (signal_value v next)) (ms.value v o2 ∙ ap (λ t. differ t (signal_value v carry)) ed)
+      ∙ ap (λ t. bit (differ (differ (signal_value v x) (signal_value v y)) (signal_value v carry)) + 2 * bit t) (mn.value v o ∙ ap (λ t. cond t (signal_value v carry) (signal_value v x)) ed)
+      ∙ three (signal_value v x) (signal_value v y) (signal_value v carry);
 }
 
 -- the bits so far, with the carry, are worth the sum of the fronts
@@ -75,9 +75,9 @@ adding-more start old new i a b carry last out d e sum next ha hb t grown s = re
   long = omega (arith, length_push out sum, t.long);
   last_below = s.next_below;
   value = λ v o.
-    ap (λ n. n + 2 ^ (i + 1) * bit (signal_value v next)) (number-push v out sum i t.long)
-    ∙ ap (λ p. number v out + 2 ^ i * bit (signal_value v sum) + p * bit (signal_value v next)) (ap (λ k. 2 ^ k) (omega arith) ∙ pow-suc 2 i)
-    ∙ carried (2 ^ i) (number v out) (bit (signal_value v sum)) (bit (signal_value v next)) (bit (signal_value v (get_or a i d))) (bit (signal_value v (get_or b i e)))
+      ap (λ n. n + 2 ^ (i + 1) * bit (signal_value v next)) (number-push v out sum i t.long)
+      ∙ ap (λ p. number v out + 2 ^ i * bit (signal_value v sum) + p * bit (signal_value v next)) (ap (λ k. 2 ^ k) (omega arith) ∙ pow-suc 2 i)
+      ∙ carried (2 ^ i) (number v out) (bit (signal_value v sum)) (bit (signal_value v next)) (bit (signal_value v (get_or a i d))) (bit (signal_value v (get_or b i e)))
       (bit (signal_value v last)) (number v (take i a)) (number v (take i b)) (bit (signal_value v carry)) (number v (take (i + 1) a)) (number v (take (i + 1) b))
       (s.value v o) (t.value v (obeys-back old new grown v o)) (number-more v a i d ha) (number-more v b i e hb);
 }
@@ -94,11 +94,11 @@ adding-all start now a b carry last out i is long t = record {
   below = t.below;
   long = t.long ∙ is;
   value = λ v o.
-    low-part (2 ^ length a) (number v out) (bit (signal_value v last)) (number v a + number v b + bit (signal_value v carry))
-    (subst (λ k. number v out < 2 ^ k) (t.long ∙ is) (number-below v out))
-    (ap (λ k. number v out + 2 ^ k * bit (signal_value v last)) (sym is) ∙ t.value v o
-    ∙ ap (λ xs. number v xs + number v (take i b) + bit (signal_value v carry)) (take_all i a (omega arith))
-    ∙ ap (λ xs. number v a + number v xs + bit (signal_value v carry)) (take_all i b (omega arith)));
+      low-part (2 ^ length a) (number v out) (bit (signal_value v last)) (number v a + number v b + bit (signal_value v carry))
+      (subst (λ k. number v out < 2 ^ k) (t.long ∙ is) (number-below v out))
+      (ap (λ k. number v out + 2 ^ k * bit (signal_value v last)) (sym is) ∙ t.value v o
+      ∙ ap (λ xs. number v xs + number v (take i b) + bit (signal_value v carry)) (take_all i a (omega arith))
+      ∙ ap (λ xs. number v a + number v xs + bit (signal_value v carry)) (take_all i b (omega arith)));
 }
 
 pub sum-plain : (w a b : ℕ) → (a + b + 0) % 2 ^ w ≡ added w a b

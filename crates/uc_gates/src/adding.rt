@@ -11,7 +11,12 @@ use crate::{Gates, Signal, turn_each};
 use std::alloc::{AllocError, Global};
 
 /// The sum of three bits: its low bit and its carry.
-fn add_bits(gates: &mut Gates, a: Signal, b: Signal, carry: Signal) -> Result<(Signal, Signal), AllocError>
+fn add_bits(
+    gates: &mut Gates,
+    a: Signal,
+    b: Signal,
+    carry: Signal,
+) -> Result<(Signal, Signal), AllocError>
     requires a { Below (size gates.old) a }
     requires b { Below (size gates.old) b }
     requires carry { Below (size gates.old) carry }
@@ -50,7 +55,12 @@ pub fn add_each(
 }
 
 /// The sum.
-pub fn add(alloc: Global, gates: &mut Gates, a: &[Signal], b: &[Signal]) -> Result<Vec<Signal>, AllocError>
+pub fn add(
+    alloc: Global,
+    gates: &mut Gates,
+    a: &[Signal],
+    b: &[Signal],
+) -> Result<Vec<Signal>, AllocError>
     requires a { AllBelow (size gates.old) a.now }
     requires b { AllBelow (size gates.old) b.now }
     requires long { length b.now ≡ length a.now }
@@ -61,7 +71,12 @@ pub fn add(alloc: Global, gates: &mut Gates, a: &[Signal], b: &[Signal]) -> Resu
 }
 
 /// The difference: the sum of the first, the second with each bit turned, and 1.
-pub fn subtract(alloc: Global, gates: &mut Gates, a: &[Signal], b: &[Signal]) -> Result<Vec<Signal>, AllocError>
+pub fn subtract(
+    alloc: Global,
+    gates: &mut Gates,
+    a: &[Signal],
+    b: &[Signal],
+) -> Result<Vec<Signal>, AllocError>
     requires a { AllBelow (size gates.old) a.now }
     requires b { AllBelow (size gates.old) b.now }
     requires long { length b.now ≡ length a.now }

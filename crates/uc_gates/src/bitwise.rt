@@ -20,7 +20,12 @@ pub fn turn_each(alloc: Global, a: &[Signal]) -> Result<Vec<Signal>, AllocError>
 }
 
 /// The bits that both have.
-pub fn and_each(alloc: Global, gates: &mut Gates, a: &[Signal], b: &[Signal]) -> Result<Vec<Signal>, AllocError>
+pub fn and_each(
+    alloc: Global,
+    gates: &mut Gates,
+    a: &[Signal],
+    b: &[Signal],
+) -> Result<Vec<Signal>, AllocError>
     requires a { AllBelow (size gates.old) a.now }
     requires b { AllBelow (size gates.old) b.now }
     requires long { length b.now ≡ length a.now }
@@ -35,7 +40,12 @@ pub fn and_each(alloc: Global, gates: &mut Gates, a: &[Signal], b: &[Signal]) ->
 }
 
 /// The bits that one has.
-pub fn or_each(alloc: Global, gates: &mut Gates, a: &[Signal], b: &[Signal]) -> Result<Vec<Signal>, AllocError>
+pub fn or_each(
+    alloc: Global,
+    gates: &mut Gates,
+    a: &[Signal],
+    b: &[Signal],
+) -> Result<Vec<Signal>, AllocError>
     requires a { AllBelow (size gates.old) a.now }
     requires b { AllBelow (size gates.old) b.now }
     requires long { length b.now ≡ length a.now }
@@ -50,7 +60,12 @@ pub fn or_each(alloc: Global, gates: &mut Gates, a: &[Signal], b: &[Signal]) -> 
 }
 
 /// The bits in which they differ.
-pub fn xor_each(alloc: Global, gates: &mut Gates, a: &[Signal], b: &[Signal]) -> Result<Vec<Signal>, AllocError>
+pub fn xor_each(
+    alloc: Global,
+    gates: &mut Gates,
+    a: &[Signal],
+    b: &[Signal],
+) -> Result<Vec<Signal>, AllocError>
     requires a { AllBelow (size gates.old) a.now }
     requires b { AllBelow (size gates.old) b.now }
     requires long { length b.now ≡ length a.now }
@@ -65,7 +80,13 @@ pub fn xor_each(alloc: Global, gates: &mut Gates, a: &[Signal], b: &[Signal]) ->
 }
 
 /// The first signals where the condition is true, and else the second ones.
-pub fn choose_each(alloc: Global, gates: &mut Gates, condition: Signal, a: &[Signal], b: &[Signal]) -> Result<Vec<Signal>, AllocError>
+pub fn choose_each(
+    alloc: Global,
+    gates: &mut Gates,
+    condition: Signal,
+    a: &[Signal],
+    b: &[Signal],
+) -> Result<Vec<Signal>, AllocError>
     requires condition { Below (size gates.old) condition }
     requires a { AllBelow (size gates.old) a.now }
     requires b { AllBelow (size gates.old) b.now }

@@ -181,7 +181,12 @@ impl Gates {
     }
 
     /// The second where the first is true, and else the third.
-    pub fn choose(&mut self, condition: Signal, on_true: Signal, on_false: Signal) -> Result<Signal, AllocError>
+    pub fn choose(
+        &mut self,
+        condition: Signal,
+        on_true: Signal,
+        on_false: Signal,
+    ) -> Result<Signal, AllocError>
         requires condition { Below (size self.old) condition }
         requires on_true { Below (size self.old) on_true }
         requires on_false { Below (size self.old) on_false }
@@ -196,7 +201,12 @@ impl Gates {
     }
 
     /// The first signal where the literal is true, and else the second.
-    fn choose_by(&mut self, condition: Lit, on_true: Signal, on_false: Signal) -> Result<Signal, AllocError>
+    fn choose_by(
+        &mut self,
+        condition: Lit,
+        on_true: Signal,
+        on_false: Signal,
+    ) -> Result<Signal, AllocError>
         requires condition { condition.var < size self.old }
         requires on_true { Below (size self.old) on_true }
         requires on_false { Below (size self.old) on_false }
@@ -210,7 +220,12 @@ impl Gates {
         }
     }
 
-    fn choose_literal(&mut self, condition: Lit, on_true: Lit, on_false: Signal) -> Result<Signal, AllocError>
+    fn choose_literal(
+        &mut self,
+        condition: Lit,
+        on_true: Lit,
+        on_false: Signal,
+    ) -> Result<Signal, AllocError>
         requires condition { condition.var < size self.old }
         requires on_true { on_true.var < size self.old }
         requires on_false { Below (size self.old) on_false }
@@ -224,7 +239,12 @@ impl Gates {
         }
     }
 
-    fn choose_literals(&mut self, condition: Lit, on_true: Lit, on_false: Lit) -> Result<Signal, AllocError>
+    fn choose_literals(
+        &mut self,
+        condition: Lit,
+        on_true: Lit,
+        on_false: Lit,
+    ) -> Result<Signal, AllocError>
         requires condition { condition.var < size self.old }
         requires on_true { on_true.var < size self.old }
         requires on_false { on_false.var < size self.old }

@@ -19,7 +19,12 @@ pub fn concat(alloc: Global, high: &[Signal], low: &[Signal]) -> Result<Vec<Sign
 }
 
 /// The bits from high down to low, both included.
-pub fn extract(alloc: Global, a: &[Signal], high: usize, low: usize) -> Result<Vec<Signal>, AllocError>
+pub fn extract(
+    alloc: Global,
+    a: &[Signal],
+    high: usize,
+    low: usize,
+) -> Result<Vec<Signal>, AllocError>
     requires low { low ≤ high }
     requires high { high < length a.now }
     ensures { IfOk result (λ r. (b : Building) → AllBelow (size b) a.now → Amounts b (high - low + 1) (λ v. extracted high low (number v a.now)) r.items) }

@@ -10,7 +10,12 @@ use crate::{Gates, Signal, add_each};
 use std::alloc::{AllocError, Global};
 
 /// The number where the signal is true, and else 0.
-fn times_bit(alloc: Global, gates: &mut Gates, a: &[Signal], by: Signal) -> Result<Vec<Signal>, AllocError>
+fn times_bit(
+    alloc: Global,
+    gates: &mut Gates,
+    a: &[Signal],
+    by: Signal,
+) -> Result<Vec<Signal>, AllocError>
     requires a { AllBelow (size gates.old) a.now }
     requires by { Below (size gates.old) by }
     ensures grows { Grows gates.old gates.new }
@@ -41,14 +46,25 @@ fn add_row(
     ensures ok { IfOk result (λ r. Amounts gates.new (length a.now) (λ v. (number v sum.now + 2 ^ places * (number v a.now * bit (signal_value v by))) % 2 ^ length a.now) r.items) }
 {
     let row = times_bit(alloc, gates, &a[..a.len() - places], by)?;
-    let high = add_each(alloc, gates, &sum[places..], row.as_slice(), Signal::Constant(false))?;
+    let high = add_each(
+        alloc,
+        gates,
+        &sum[places..],
+        row.as_slice(),
+        Signal::Constant(false),
+    )?;
     let mut bits = Vec::from_slice(alloc, &sum[..places])?;
     bits.extend_from_slice(high.as_slice())?;
     Ok(bits)
 }
 
 /// The product: a row for each bit of the second number, each shorter by one than the row before.
-pub fn multiply(alloc: Global, gates: &mut Gates, a: &[Signal], b: &[Signal]) -> Result<Vec<Signal>, AllocError>
+pub fn multiply(
+    alloc: Global,
+    gates: &mut Gates,
+    a: &[Signal],
+    b: &[Signal],
+) -> Result<Vec<Signal>, AllocError>
     requires a { AllBelow (size gates.old) a.now }
     requires b { AllBelow (size gates.old) b.now }
     requires long { length b.now ≡ length a.now }

@@ -31,7 +31,12 @@ impl Shift {
 }
 
 /// The signals, moved by so many places.
-fn move_by(alloc: Global, shift: Shift, a: &[Signal], places: usize) -> Result<Vec<Signal>, AllocError>
+fn move_by(
+    alloc: Global,
+    shift: Shift,
+    a: &[Signal],
+    places: usize,
+) -> Result<Vec<Signal>, AllocError>
     requires { places ≤ length a.now }
     ensures { IfOk result (λ r. r.items ≡ moved shift a.now places) }
 {

@@ -3,7 +3,6 @@ use Rattle.std.specs.Prelude.{nat_lt}
 use Rattle.uc_gates.specs.Signals.{number}
 use Rattle.uc_gates.specs.Building.{Grows}
 use Rattle.uc_gates.specs.Meanings.{Means}
-
 use Rattle.uc_gates.proofs.comparing.less.Given as goal
 
 abbrev pub invariant-loop-i : goal.invariant-loop-i

@@ -23,8 +23,9 @@ pub loop-i-preserved : goal.loop-i-preserved
 loop-i-preserved c =
     let is : c.as_slice-in-loop-i.result.now ≡ moved c.args.shift c.loop-i.bits.items c.loop-i.places =
     c.as_slice-in-loop-i.ensures.value ∙ c.in_ok-moved.ensures ∙ ap (λ (xs : List Signal). moved c.args.shift xs c.loop-i.places) c.as_slice.ensures.value in
-    let near = c.requires.near c.loop-i.i c.loop-i-test.true in
-    (power-more _ _ c.loop-i.invariant.0,
-    shift-turn _ _ _ c.args.shift c.args.a.now c.args.amount.now c.loop-i.bits.items c.as_slice-in-loop-i.result.now _ c.loop-i.i c.loop-i.places (Constant false)
-    c.loop-i-test.true c.loop-i.invariant.0 (omega (arith, near, c.loop-i.invariant.0)) c.loop-i.invariant.1 is c.choose_each.ensures.grows
-    (subst (λ (xs : List Signal). Amounts c.choose_each.new.gates (length c.as_slice-in-loop-i.result.now) (λ v. cond (signal_value v (get_or c.args.amount.now c.loop-i.i (Constant false))) (number v c.as_slice-in-loop-i.result.now) (number v xs)) c.in_ok-bits-2.bits.items) c.as_slice-in-loop-i-2.ensures.value c.in_ok-bits-2.ensures.ok))
+    let near = c.requires.near c.loop-i.i c.loop-i-test.true in (
+      power-more _ _ c.loop-i.invariant.0,
+      shift-turn _ _ _ c.args.shift c.args.a.now c.args.amount.now c.loop-i.bits.items c.as_slice-in-loop-i.result.now _ c.loop-i.i c.loop-i.places (Constant false)
+          c.loop-i-test.true c.loop-i.invariant.0 (omega (arith, near, c.loop-i.invariant.0)) c.loop-i.invariant.1 is c.choose_each.ensures.grows
+          (subst (λ (xs : List Signal). Amounts c.choose_each.new.gates (length c.as_slice-in-loop-i.result.now) (λ v. cond (signal_value v (get_or c.args.amount.now c.loop-i.i (Constant false))) (number v c.as_slice-in-loop-i.result.now) (number v xs)) c.in_ok-bits-2.bits.items) c.as_slice-in-loop-i-2.ensures.value c.in_ok-bits-2.ensures.ok),
+    )

@@ -1,0 +1,5 @@
+pub mod Tops
+pub mod Ready
+pub mod Giving
+pub mod Mixed
+pub mod Junctions
