@@ -3,3 +3,4 @@ pub mod Ready
 pub mod Giving
 pub mod Mixed
 pub mod Junctions
+pub mod Singles

@@ -1,9 +1,9 @@
 -- What the operations on bit-vectors give on numbers.
-use Rattle.std.specs.Prelude.{ℕ, ◌+◌, ◌-◌, ◌<◌, ◌≤◌, Bool as Truth, true, false, nat_lt, nat_le, int_lt, int_le, bit_and, bit_or, bit_xor, List}
+use Rattle.std.specs.Prelude.{◌≡◌, ℕ, ◌+◌, ◌-◌, ◌<◌, ◌≤◌, Bool as Truth, true, false, nat_lt, nat_le, int_lt, int_le, bit_and, bit_or, bit_xor, List}
 use Rattle.uc_values.specs.Operators.{added, subtracted, multiplied, negated, complemented, shifted_left, shifted_right, shifted_right_signed, extracted, sign_extended, signed}
 use Rattle.uc_values.specs.declared.ty.Ty.{Ty}
 use Rattle.uc_ops.specs.declared.op.Op.{Op}
-use Rattle.uc_ops.specs.declared.op.Op.TheVariants.{Const, Not, And, Or, Eq, Ite, BvAdd, BvSub, BvMul, BvNeg, BvAnd, BvOr, BvXor, BvNot, Concat, Extract, ZeroExt, SignExt, Shl, Lshr, Ashr, Slt, Sle, Ult, Ule}
+use Rattle.uc_ops.specs.declared.op.Op.TheVariants.{Not, And, Or, Eq, Ite, BvAdd, BvSub, BvMul, BvNeg, BvAnd, BvOr, BvXor, BvNot, Concat, Extract, ZeroExt, SignExt, Shl, Lshr, Ashr, Slt, Sle, Ult, Ule}
 use Rattle.uc_ops.specs.Typing.{part_type}
 use Rattle.uc_blast.specs.Words.{is_bits}
 
@@ -75,31 +75,31 @@ abbrev pub SuitsWidth : Op → ℕ → Type 0
 SuitsWidth (Extract high low) width = (low ≤ high) × (high < width)
 SuitsWidth other width = Unit {0}
 
--- The operations that the circuit computes, by the types of their parts. What other operations give is opaque.
-abbrev pub is_through : Op → List Ty → Truth
-is_through (Const ty value) types = is_bits ty
-is_through Not types = true
-is_through And types = true
-is_through Or types = true
-is_through Eq types = is_bits (part_type types 0)
-is_through Ite types = is_bits (part_type types 1)
-is_through BvAdd types = true
-is_through BvSub types = true
-is_through BvMul types = true
-is_through BvNeg types = true
-is_through BvAnd types = true
-is_through BvOr types = true
-is_through BvXor types = true
-is_through BvNot types = true
-is_through Concat types = true
-is_through (Extract high low) types = true
-is_through (ZeroExt more) types = true
-is_through (SignExt more) types = true
-is_through Shl types = true
-is_through Lshr types = true
-is_through Ashr types = true
-is_through Slt types = true
-is_through Sle types = true
-is_through Ult types = true
-is_through Ule types = true
-is_through other types = false
+-- The operations that have a word, by the types of their parts: equality and the conditional of booleans and bit-vectors, and all
+-- others on these but constants.
+abbrev pub IsComputed : Op → List Ty → Type 0
+IsComputed Not types = Unit {0}
+IsComputed And types = Unit {0}
+IsComputed Or types = Unit {0}
+IsComputed Eq types = is_bits (part_type types 0) ≡ true
+IsComputed Ite types = is_bits (part_type types 1) ≡ true
+IsComputed BvAdd types = Unit {0}
+IsComputed BvSub types = Unit {0}
+IsComputed BvMul types = Unit {0}
+IsComputed BvNeg types = Unit {0}
+IsComputed BvAnd types = Unit {0}
+IsComputed BvOr types = Unit {0}
+IsComputed BvXor types = Unit {0}
+IsComputed BvNot types = Unit {0}
+IsComputed Concat types = Unit {0}
+IsComputed (Extract high low) types = Unit {0}
+IsComputed (ZeroExt more) types = Unit {0}
+IsComputed (SignExt more) types = Unit {0}
+IsComputed Shl types = Unit {0}
+IsComputed Lshr types = Unit {0}
+IsComputed Ashr types = Unit {0}
+IsComputed Slt types = Unit {0}
+IsComputed Sle types = Unit {0}
+IsComputed Ult types = Unit {0}
+IsComputed Ule types = Unit {0}
+IsComputed other types = ⊥

@@ -2,11 +2,12 @@
 
 ghost use Rattle.std.specs.Prelude.{◌≡◌, true, IfOk};
 ghost use Rattle.uc_ops.specs.Typing.{Suits, AllValid, part_type, types_at};
-ghost use Rattle.uc_ops.specs.declared.op.Op.TheVariants.{Concat, Not, Eq, Ite};
+ghost use Rattle.uc_ops.specs.declared.op.Op.TheVariants.{And, Concat, Eq, Ite, Not, Or};
 ghost use Rattle.uc_gates.specs.Building.{Grows, size};
 ghost use Rattle.uc_blast.specs.Words.{is_bits, words_at, AreWords, Gives};
 ghost use Rattle.uc_blast.specs.Operations.{IsPair, IsOrder, IsSingle};
 
+use crate::logic::{all_of, any_of};
 use crate::operations::{order, pair_bits, single_bits};
 use crate::words::{truth, word};
 use std::alloc::{AllocError, Global};
@@ -154,4 +155,38 @@ pub(crate) fn choice_word(
     let b = word(words, parts, 2);
     let bits = choose_each(alloc, gates, condition, a, b)?;
     Ok(Items::from_vec(bits))
+}
+
+/// The word of a conjunction.
+pub(crate) fn and_word(
+    alloc: Global,
+    gates: &mut Gates,
+    nodes: &[Node],
+    words: &[Items<Signal>],
+    parts: &[TermId],
+) -> Result<Items<Signal>, AllocError>
+    requires suits { Suits And (types_at nodes.now parts.now) }
+    requires words { AreWords (size gates.old) (types_at nodes.now parts.now) (words_at words.now parts.now) }
+    ensures grows { Grows gates.old gates.new }
+    ensures ok { IfOk result (Gives gates.new And (types_at nodes.now parts.now) (words_at words.now parts.now)) }
+{
+    let all = all_of(gates, words, parts)?;
+    Items::from_slice(alloc, &[all])
+}
+
+/// The word of a disjunction.
+pub(crate) fn or_word(
+    alloc: Global,
+    gates: &mut Gates,
+    nodes: &[Node],
+    words: &[Items<Signal>],
+    parts: &[TermId],
+) -> Result<Items<Signal>, AllocError>
+    requires suits { Suits Or (types_at nodes.now parts.now) }
+    requires words { AreWords (size gates.old) (types_at nodes.now parts.now) (words_at words.now parts.now) }
+    ensures grows { Grows gates.old gates.new }
+    ensures ok { IfOk result (Gives gates.new Or (types_at nodes.now parts.now) (words_at words.now parts.now)) }
+{
+    let any = any_of(gates, words, parts)?;
+    Items::from_slice(alloc, &[any])
 }

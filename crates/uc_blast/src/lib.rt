@@ -1,11 +1,15 @@
-//! Bit-blasting: circuits for boolean terms over booleans and bit-vectors.
+//! Bit-blasting: the signals of operations on booleans and bit-vectors.
 //!
-//! In: a table of terms and a boolean term. Out: a problem, which is a circuit whose inputs stand
-//! for the bits of the terms that it does not see through, and whose goal literal has the value of
-//! the term wherever the inputs have the values of their bits.
+//! In: an operation of terms, and words of its parts, which are the signals of a circuit that stand
+//! for their values. Out: the word of the operation, in the same circuit with more gates. It stands
+//! for the value of the operation on the values of the parts, whatever the inputs are. The walk over
+//! a table of terms is not built yet.
 #![tactic(auto)]
 
 mod computed;
+mod dispatch;
 mod logic;
 mod operations;
 mod words;
+
+pub use dispatch::operation_word;

@@ -1,4 +1,5 @@
-use Rattle.std.proofs.Common.{arith, length-map, get_or, [], length}
+use Rattle.std.proofs.Common.{arith, get_or, [], length}
+use Rattle.std.proofs.lemmas.List.{length-map}
 use Rattle.uc_blast.specs.Words.{words_at}
 use Rattle.uc_blast.proofs.Junctions.{any-turn, any-end, part-below}
 use Rattle.uc_blast.proofs.logic.any_of.Goals as goal
