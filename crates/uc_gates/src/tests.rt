@@ -60,7 +60,12 @@ fn modulus(width: u8) -> u64
 }
 
 /// The signals of an operation on constants.
-fn signals(alloc: Global, operation: Operation, x: &[Signal], y: &[Signal]) -> Result<Vec<Signal>, AllocError>
+fn signals(
+    alloc: Global,
+    operation: Operation,
+    x: &[Signal],
+    y: &[Signal],
+) -> Result<Vec<Signal>, AllocError>
     requires x { AllBelow 0 x.now }
     requires y { AllBelow 0 y.now }
     requires long { length y.now ≡ length x.now }
@@ -79,7 +84,13 @@ fn signals(alloc: Global, operation: Operation, x: &[Signal], y: &[Signal]) -> R
         Operation::Xor => xor_each(alloc, &mut gates, x, y),
         Operation::Choose => choose_each(alloc, &mut gates, x[x.len() - 1], x, y),
         Operation::Left => shift_by(alloc, &mut gates, Shift::Left, x, y),
-        Operation::Right => shift_by(alloc, &mut gates, Shift::Right(Signal::Constant(false)), x, y),
+        Operation::Right => shift_by(
+            alloc,
+            &mut gates,
+            Shift::Right(Signal::Constant(false)),
+            x,
+            y,
+        ),
         Operation::RightSigned => shift_by(alloc, &mut gates, Shift::Right(x[x.len() - 1]), x, y),
         Operation::Concat => concat(alloc, x, y),
         Operation::Lowest => extract(alloc, x, 0, 0),
@@ -98,7 +109,13 @@ fn single(alloc: Global, signal: Result<Signal, AllocError>) -> Result<Vec<Signa
 }
 
 /// What an operation on constants gives.
-fn folded(alloc: Global, operation: Operation, width: u8, a: u64, b: u64) -> Result<Option<u64>, AllocError>
+fn folded(
+    alloc: Global,
+    operation: Operation,
+    width: u8,
+    a: u64,
+    b: u64,
+) -> Result<Option<u64>, AllocError>
     requires some { 1 ≤ width }
     requires narrow { width ≤ 3 }
     requires a { a < 2 ^ width }
