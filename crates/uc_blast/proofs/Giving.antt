@@ -50,8 +50,8 @@ pair-here b op is x y r a =
     let e : type_of op types ≡ Bv (length x) = pair-type op is types in record {
       is_word = subst (λ ty. IsWord (size b) ty r) (sym e) (record { below = a.below; long = a.long });
       value = λ v o m.
-        pair-apply op is m types (length x) (number v x) (number v y)
-        ∙ ap (bits (length x)) (sym (a.value v o)) ∙ sym (ap (λ ty. worth v ty r) e);
+          pair-apply op is m types (length x) (number v x) (number v y)
+          ∙ ap (bits (length x)) (sym (a.value v o)) ∙ sym (ap (λ ty. worth v ty r) e);
     }
 
 pub pair-gives : (n : ℕ) (b : Building) (op : Op) → IsPair op → (types : List Ty) (words : List (List Signal)) (x y r : List Signal) → TwoWords n types words x y
@@ -81,8 +81,8 @@ order-here b op is x y s a =
     let e : type_of op types ≡ Bool = order-type op is types in record {
       is_word = subst (λ ty. IsWord (size b) ty (s ∷ [])) (sym e) (record { below = All-cons (Below (size b)) s [] a.below (All-nil (Below (size b))); long = refl });
       value = λ v o m.
-        order-apply op is m types (length x) (number v x) (number v y)
-        ∙ ap truth (sym (a.value v o)) ∙ sym (ap (λ ty. worth v ty (s ∷ [])) e);
+          order-apply op is m types (length x) (number v x) (number v y)
+          ∙ ap truth (sym (a.value v o)) ∙ sym (ap (λ ty. worth v ty (s ∷ [])) e);
     }
 
 pub order-gives : (n : ℕ) (b : Building) (op : Op) → IsOrder op → (types : List Ty) (words : List (List Signal)) (x y r : List Signal) (s : Signal) → TwoWords n types words x y
@@ -115,8 +115,8 @@ single-here b op is x r a =
     let e : type_of op types ≡ Bv (single_width op (length x)) = single-type op is (length x) in record {
       is_word = subst (λ ty. IsWord (size b) ty r) (sym e) (record { below = a.below; long = a.long });
       value = λ v o m.
-        single-apply op is m types (length x) (number v x)
-        ∙ ap (bits (single_width op (length x))) (sym (a.value v o)) ∙ sym (ap (λ ty. worth v ty r) e);
+          single-apply op is m types (length x) (number v x)
+          ∙ ap (bits (single_width op (length x))) (sym (a.value v o)) ∙ sym (ap (λ ty. worth v ty r) e);
     }
 
 pub single-gives : (n : ℕ) (b : Building) (op : Op) → IsSingle op → (types : List Ty) (words : List (List Signal)) (x r : List Signal) → OneWord n op types words x

@@ -59,10 +59,10 @@ all-turn start old new words parts place word part found next h ew ep t g m =
       record {
         below = m.below;
         value = λ v o.
-          m.value v o
-          ∙ ap (λ b. b && signal_value v part) (t.1.value v (obeys-back old new g v o))
-          ∙ ap (λ s. list_all (first v) (take place ws) && signal_value v s) (ep ∙ ap (λ w. get_or w 0 (Constant false)) ew)
-          ∙ all-more (first v) ws place within;
+            m.value v o
+            ∙ ap (λ b. b && signal_value v part) (t.1.value v (obeys-back old new g v o))
+            ∙ ap (λ s. list_all (first v) (take place ws) && signal_value v s) (ep ∙ ap (λ w. get_or w 0 (Constant false)) ew)
+            ∙ all-more (first v) ws place within;
       },
     )
 
@@ -104,10 +104,10 @@ any-turn start old new words parts place word part found next h ew ep t g m =
       record {
         below = m.below;
         value = λ v o.
-          m.value v o
-          ∙ ap (λ b. b || signal_value v part) (t.1.value v (obeys-back old new g v o))
-          ∙ ap (λ s. list_any (first v) (take place ws) || signal_value v s) (ep ∙ ap (λ w. get_or w 0 (Constant false)) ew)
-          ∙ any-more (first v) ws place within;
+            m.value v o
+            ∙ ap (λ b. b || signal_value v part) (t.1.value v (obeys-back old new g v o))
+            ∙ ap (λ s. list_any (first v) (take place ws) || signal_value v s) (ep ∙ ap (λ w. get_or w 0 (Constant false)) ew)
+            ∙ any-more (first v) ws place within;
       },
     )
 

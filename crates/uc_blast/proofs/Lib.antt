@@ -4,3 +4,4 @@ pub mod Giving
 pub mod Mixed
 pub mod Junctions
 pub mod Singles
+pub mod Plain

@@ -162,7 +162,7 @@ choice-here : (ty : Ty) → is_bits ty ≡ true → (v : ℕ → Truth) (c : Tru
 choice-here Bool is v c x y r lx ly lr e =
     choice-truth c (first v x) (first v y)
     ∙ ap truth (bit-same (cond c (first v x) (first v y)) (first v r)
-      (sym (bit-choice c (first v x) (first v y)) ∙ ap (λ k. cond c k (bit (first v y))) (sym (one-bit v x lx)) ∙ ap (λ k. cond c (number v x) k) (sym (one-bit v y ly)) ∙ sym e ∙ one-bit v r lr))
+    (sym (bit-choice c (first v x) (first v y)) ∙ ap (λ k. cond c k (bit (first v y))) (sym (one-bit v x lx)) ∙ ap (λ k. cond c (number v x) k) (sym (one-bit v y ly)) ∙ sym e ∙ one-bit v r lr))
 choice-here (Bv w) is v c x y r lx ly lr e = choice-bits c w (number v x) (number v y) ∙ ap (bits w) (sym e)
 choice-here _ is v c x y r lx ly lr e = absurd (false≢true is)
 

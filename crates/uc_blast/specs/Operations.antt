@@ -3,7 +3,7 @@ use Rattle.std.specs.Prelude.{◌≡◌, ℕ, ◌+◌, ◌-◌, ◌<◌, ◌≤�
 use Rattle.uc_values.specs.Operators.{added, subtracted, multiplied, negated, complemented, shifted_left, shifted_right, shifted_right_signed, extracted, sign_extended, signed}
 use Rattle.uc_values.specs.declared.ty.Ty.{Ty}
 use Rattle.uc_ops.specs.declared.op.Op.{Op}
-use Rattle.uc_ops.specs.declared.op.Op.TheVariants.{Not, And, Or, Eq, Ite, BvAdd, BvSub, BvMul, BvNeg, BvAnd, BvOr, BvXor, BvNot, Concat, Extract, ZeroExt, SignExt, Shl, Lshr, Ashr, Slt, Sle, Ult, Ule}
+use Rattle.uc_ops.specs.declared.op.Op.TheVariants.{Const, Not, And, Or, Eq, Ite, BvAdd, BvSub, BvMul, BvNeg, BvAnd, BvOr, BvXor, BvNot, Concat, Extract, ZeroExt, SignExt, Shl, Lshr, Ashr, Slt, Sle, Ult, Ule}
 use Rattle.uc_ops.specs.Typing.{part_type}
 use Rattle.uc_blast.specs.Words.{is_bits}
 
@@ -75,9 +75,9 @@ abbrev pub SuitsWidth : Op → ℕ → Type 0
 SuitsWidth (Extract high low) width = (low ≤ high) × (high < width)
 SuitsWidth other width = Unit {0}
 
--- The operations that have a word, by the types of their parts: equality and the conditional of booleans and bit-vectors, and all
--- others on these but constants.
+-- The operations that have a word, by the types of their parts: those on booleans and bit-vectors.
 abbrev pub IsComputed : Op → List Ty → Type 0
+IsComputed (Const ty value) types = is_bits ty ≡ true
 IsComputed Not types = Unit {0}
 IsComputed And types = Unit {0}
 IsComputed Or types = Unit {0}

@@ -7,8 +7,10 @@ ghost use Rattle.uc_blast.specs.Words.{is_bits, words_at, AreWords, Gives};
 ghost use Rattle.uc_blast.specs.Operations.{IsComputed};
 
 use crate::computed::{
-    and_word, choice_word, concat_word, equal_word, not_word, or_word, order_word, pair_word, single_word,
+    and_word, choice_word, concat_word, equal_word, not_word, or_word, order_word, pair_word,
+    single_word,
 };
+use crate::constants::constant_word;
 use std::alloc::{AllocError, Global};
 use uc_gates::{Gates, Signal};
 use uc_items::Items;
@@ -31,6 +33,7 @@ pub fn operation_word(
     ensures ok { IfOk result (Gives gates.new op.now (types_at nodes.now parts.now) (words_at words.now parts.now)) }
 {
     match op {
+        Op::Const(_, value) => constant_word(alloc, value),
         Op::Not => not_word(alloc, gates, nodes, words, parts),
         Op::And => and_word(alloc, gates, nodes, words, parts),
         Op::Or => or_word(alloc, gates, nodes, words, parts),

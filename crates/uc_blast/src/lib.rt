@@ -7,6 +7,7 @@
 #![tactic(auto)]
 
 mod computed;
+mod constants;
 mod dispatch;
 mod logic;
 mod operations;

@@ -15,7 +15,11 @@ use uc_items::Items;
 use uc_ops::TermId;
 
 /// Whether all parts are true.
-pub(crate) fn all_of(gates: &mut Gates, words: &[Items<Signal>], parts: &[TermId]) -> Result<Signal, AllocError>
+pub(crate) fn all_of(
+    gates: &mut Gates,
+    words: &[Items<Signal>],
+    parts: &[TermId],
+) -> Result<Signal, AllocError>
     requires { All (λ w. Below (size gates.old) (slice_index_or w 0 (Constant false))) (words_at words.now parts.now) }
     ensures grows { Grows gates.old gates.new }
     ensures ok { IfOk result (Means gates.new (λ v. list_all (first v) (words_at words.now parts.now))) }
@@ -29,7 +33,11 @@ pub(crate) fn all_of(gates: &mut Gates, words: &[Items<Signal>], parts: &[TermId
 }
 
 /// Whether one of the parts is true.
-pub(crate) fn any_of(gates: &mut Gates, words: &[Items<Signal>], parts: &[TermId]) -> Result<Signal, AllocError>
+pub(crate) fn any_of(
+    gates: &mut Gates,
+    words: &[Items<Signal>],
+    parts: &[TermId],
+) -> Result<Signal, AllocError>
     requires { All (λ w. Below (size gates.old) (slice_index_or w 0 (Constant false))) (words_at words.now parts.now) }
     ensures grows { Grows gates.old gates.new }
     ensures ok { IfOk result (Means gates.new (λ v. list_any (first v) (words_at words.now parts.now))) }

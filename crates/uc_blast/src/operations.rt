@@ -9,8 +9,8 @@ ghost use Rattle.uc_blast.specs.Operations.{IsPair, pair_number, IsOrder, order_
 
 use std::alloc::{AllocError, Global};
 use uc_gates::{
-    Gates, Shift, Signal, add, and_each, at_most, at_most_signed, extract, less, less_signed, multiply,
-    negate, or_each, shift_by, sign_extend, subtract, turn_each, xor_each, zero_extend,
+    Gates, Shift, Signal, add, and_each, at_most, at_most_signed, extract, less, less_signed,
+    multiply, negate, or_each, shift_by, sign_extend, subtract, turn_each, xor_each, zero_extend,
 };
 use uc_ops::Op;
 
@@ -65,7 +65,12 @@ fn shift_signed(
 }
 
 /// A comparison of two bit-vectors of one width.
-pub(crate) fn order(gates: &mut Gates, op: &Op, a: &[Signal], b: &[Signal]) -> Result<Signal, AllocError>
+pub(crate) fn order(
+    gates: &mut Gates,
+    op: &Op,
+    a: &[Signal],
+    b: &[Signal],
+) -> Result<Signal, AllocError>
     requires op { IsOrder op.now }
     requires a { AllBelow (size gates.old) a.now }
     requires b { AllBelow (size gates.old) b.now }
