@@ -2,6 +2,7 @@
 
 ghost use Rattle.std.specs.Prelude.{◌≡◌, ◌<◌, ◌≤◌, ◌^◌, length};
 ghost use Rattle.uc_gates.specs.Signals.{AllBelow};
+ghost use Rattle.uc_gates.specs.Building.{size};
 
 use crate::{
     Gates, Shift, Signal, add, and_each, at_most, at_most_signed, choose_each, concat, constant,
@@ -59,48 +60,42 @@ fn modulus(width: u8) -> u64
     1u64 << width
 }
 
-/// The signals of an operation on constants.
+/// The signals of an operation.
 fn signals(
     alloc: Global,
+    gates: &mut Gates,
     operation: Operation,
     x: &[Signal],
     y: &[Signal],
 ) -> Result<Vec<Signal>, AllocError>
-    requires x { AllBelow 0 x.now }
-    requires y { AllBelow 0 y.now }
+    requires x { AllBelow (size gates.old) x.now }
+    requires y { AllBelow (size gates.old) y.now }
     requires long { length y.now ≡ length x.now }
     requires some { 0 < length x.now }
-    requires narrow { length x.now ≤ 3 }
+    requires narrow { length x.now ≤ 64 }
 {
-    let mut gates = Gates::new(alloc, 0);
     match operation {
-        Operation::Add => add(alloc, &mut gates, x, y),
-        Operation::Subtract => subtract(alloc, &mut gates, x, y),
-        Operation::Multiply => multiply(alloc, &mut gates, x, y),
-        Operation::Negate => negate(alloc, &mut gates, x),
+        Operation::Add => add(alloc, gates, x, y),
+        Operation::Subtract => subtract(alloc, gates, x, y),
+        Operation::Multiply => multiply(alloc, gates, x, y),
+        Operation::Negate => negate(alloc, gates, x),
         Operation::Turn => turn_each(alloc, x),
-        Operation::And => and_each(alloc, &mut gates, x, y),
-        Operation::Or => or_each(alloc, &mut gates, x, y),
-        Operation::Xor => xor_each(alloc, &mut gates, x, y),
-        Operation::Choose => choose_each(alloc, &mut gates, x[x.len() - 1], x, y),
-        Operation::Left => shift_by(alloc, &mut gates, Shift::Left, x, y),
-        Operation::Right => shift_by(
-            alloc,
-            &mut gates,
-            Shift::Right(Signal::Constant(false)),
-            x,
-            y,
-        ),
-        Operation::RightSigned => shift_by(alloc, &mut gates, Shift::Right(x[x.len() - 1]), x, y),
+        Operation::And => and_each(alloc, gates, x, y),
+        Operation::Or => or_each(alloc, gates, x, y),
+        Operation::Xor => xor_each(alloc, gates, x, y),
+        Operation::Choose => choose_each(alloc, gates, x[x.len() - 1], x, y),
+        Operation::Left => shift_by(alloc, gates, Shift::Left, x, y),
+        Operation::Right => shift_by(alloc, gates, Shift::Right(Signal::Constant(false)), x, y),
+        Operation::RightSigned => shift_by(alloc, gates, Shift::Right(x[x.len() - 1]), x, y),
         Operation::Concat => concat(alloc, x, y),
         Operation::Lowest => extract(alloc, x, 0, 0),
         Operation::SignExtend => sign_extend(alloc, x, 2),
         Operation::ZeroExtend => zero_extend(alloc, x, 2),
-        Operation::Equal => single(alloc, equal(&mut gates, x, y)),
-        Operation::Less => single(alloc, less(&mut gates, x, y)),
-        Operation::AtMost => single(alloc, at_most(&mut gates, x, y)),
-        Operation::LessSigned => single(alloc, less_signed(&mut gates, x, y)),
-        Operation::AtMostSigned => single(alloc, at_most_signed(&mut gates, x, y)),
+        Operation::Equal => single(alloc, equal(gates, x, y)),
+        Operation::Less => single(alloc, less(gates, x, y)),
+        Operation::AtMost => single(alloc, at_most(gates, x, y)),
+        Operation::LessSigned => single(alloc, less_signed(gates, x, y)),
+        Operation::AtMostSigned => single(alloc, at_most_signed(gates, x, y)),
     }
 }
 
@@ -123,7 +118,8 @@ fn folded(
 {
     let x = constant(alloc, width, a)?;
     let y = constant(alloc, width, b)?;
-    let bits = signals(alloc, operation, x.as_slice(), y.as_slice())?;
+    let mut gates = Gates::new(alloc, 0);
+    let bits = signals(alloc, &mut gates, operation, x.as_slice(), y.as_slice())?;
     Ok(number_of(bits.as_slice()))
 }
 
