@@ -1,10 +1,9 @@
 -- What an operation gives on words.
-use Rattle.std.specs.Prelude.{◌≡◌, ℕ, Bool as Truth, List, [], ◌∷◌, length}
+use Rattle.std.specs.Prelude.{◌≡◌, ℕ, List, [], ◌∷◌, length}
 use Rattle.std.proofs.Common.{refl, sym, ap, ◌∙◌, subst}
 use Rattle.std.proofs.lemmas.List.Elements.{All-cons, All-nil}
 use Rattle.uc_values.specs.declared.ty.Ty.{Ty}
 use Rattle.uc_values.specs.declared.ty.Ty.TheVariants.{Bool, Bv}
-use Rattle.uc_values.specs.declared.value.Value.{Value}
 use Rattle.uc_values.specs.declared.value.Value.TheVariants.{Bool as truth, Bv as bits}
 use Rattle.uc_ops.specs.declared.model.Model.{Model}
 use Rattle.uc_ops.specs.declared.op.Op.{Op}
@@ -13,9 +12,9 @@ use Rattle.uc_ops.specs.Typing.{type_of, part_type}
 use Rattle.uc_ops.specs.Meaning.{apply}
 use Rattle.uc_gates.specs.declared.signal.Signal.{Signal}
 use Rattle.uc_gates.specs.Signals.{number, Below}
-use Rattle.uc_gates.specs.Building.{Building, size, Obeys}
+use Rattle.uc_gates.specs.Building.{Building, size}
 use Rattle.uc_gates.specs.Meanings.{Means, Amounts}
-use Rattle.uc_blast.specs.Words.{worth, worths, IsWord, Gives}
+use Rattle.uc_blast.specs.Words.{worth, IsWord, Gives}
 use Rattle.uc_blast.specs.Operations.{IsPair, pair_number, IsOrder, order_truth, IsSingle, single_width, single_number}
 use Rattle.uc_blast.proofs.Ready.{TwoWords, OneWord}
 

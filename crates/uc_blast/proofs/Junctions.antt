@@ -12,7 +12,7 @@ use Rattle.uc_ops.specs.declared.op.Op.TheVariants.{And, Or}
 use Rattle.uc_gates.specs.declared.signal.Signal.{Signal}
 use Rattle.uc_gates.specs.declared.signal.Signal.TheVariants.{Constant}
 use Rattle.uc_gates.specs.Signals.{signal_value, Below}
-use Rattle.uc_gates.specs.Building.{Building, Grows, size, Obeys}
+use Rattle.uc_gates.specs.Building.{Building, Grows, size}
 use Rattle.uc_gates.specs.Meanings.{Means}
 use Rattle.uc_gates.proofs.Growing.{grows-trans, below-grown, obeys-back}
 use Rattle.uc_blast.specs.Words.{first, worth, worths, words_at, IsWord, AreWords, Gives}

@@ -1,5 +1,5 @@
 -- Operations on words of several types.
-use Rattle.std.specs.Prelude.{◌≡◌, ℕ, ◌+◌, ◌*◌, ◌<◌, ◌≤◌, Bool as Truth, true, false, not, ◌&&◌, cond, nat_eq, List, [], ◌∷◌, length}
+use Rattle.std.specs.Prelude.{◌≡◌, ℕ, ◌+◌, ◌<◌, Bool as Truth, true, false, ◌&&◌, cond, nat_eq, List, [], ◌∷◌, length}
 use Rattle.std.proofs.Common.{refl, sym, ap, ◌∙◌, arith, subst, get_or}
 use Rattle.std.proofs.lemmas.Bool.{false≢true}
 use Rattle.std.proofs.lemmas.Bool.Decides.{nat_tests}
@@ -9,20 +9,16 @@ use Rattle.uc_values.specs.Values.{same_truth}
 use Rattle.uc_values.specs.Sameness.{same}
 use Rattle.uc_values.proofs.Agreement.{sameness-Bool, sameness-Bv}
 use Rattle.uc_values.specs.declared.ty.Ty.{Ty}
-use Rattle.uc_values.specs.declared.ty.Ty.TheVariants.{Bool, Int, Bv, Enum, Un, Rec, Arr}
-use Rattle.uc_values.specs.declared.value.Value.{Value}
+use Rattle.uc_values.specs.declared.ty.Ty.TheVariants.{Bool, Bv}
 use Rattle.uc_values.specs.declared.value.Value.TheVariants.{Bool as truth, Bv as bits}
-use Rattle.uc_ops.specs.declared.model.Model.{Model}
 use Rattle.uc_ops.specs.declared.op.Op.TheVariants.{Not, Eq, Ite, Concat}
-use Rattle.uc_ops.specs.Typing.{Suits, type_of, part_type}
-use Rattle.uc_ops.specs.Meaning.{apply}
 use Rattle.uc_gates.specs.declared.signal.Signal.{Signal}
 use Rattle.uc_gates.specs.declared.signal.Signal.TheVariants.{Constant}
-use Rattle.uc_gates.specs.Signals.{signal_value, turned, number, bit, Below, AllBelow}
-use Rattle.uc_gates.specs.Building.{Building, size, Obeys}
+use Rattle.uc_gates.specs.Signals.{signal_value, turned, number, bit, Below}
+use Rattle.uc_gates.specs.Building.{Building, size}
 use Rattle.uc_gates.specs.Meanings.{Means, Amounts}
 use Rattle.uc_gates.proofs.Choices.{turned-value, turned-below}
-use Rattle.uc_blast.specs.Words.{is_bits, bit_width, first, worth, worths, IsWord, AreWords, Gives}
+use Rattle.uc_blast.specs.Words.{is_bits, bit_width, first, worth, IsWord, AreWords, Gives}
 
 pub record Words1 (n : ℕ) (s : Ty) (words : List (List Signal)) (x : List Signal) : Type 0 where
   pub words_are : words ≡ x ∷ []

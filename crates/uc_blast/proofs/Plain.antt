@@ -1,5 +1,5 @@
 -- Constants.
-use Rattle.std.specs.Prelude.{◌≡◌, ℕ, ◌<◌, ◌≤◌, ◌^◌, Bool as Truth, true, false, IsTrue, List, [], ◌∷◌, length}
+use Rattle.std.specs.Prelude.{◌≡◌, ℕ, Bool as Truth, true, IsTrue, List, [], ◌∷◌}
 use Rattle.std.proofs.Common.{refl, sym, ap, ◌∙◌, arith, subst}
 use Rattle.std.proofs.lemmas.Bool.{false≢true}
 use Rattle.std.proofs.lemmas.List.Elements.{All-cons, All-nil}
@@ -15,11 +15,11 @@ use Rattle.uc_ops.specs.Typing.{Suits, Valid}
 use Rattle.uc_ops.proofs.Typed.{Bv-small}
 use Rattle.uc_gates.specs.declared.signal.Signal.{Signal}
 use Rattle.uc_gates.specs.declared.signal.Signal.TheVariants.{Constant}
-use Rattle.uc_gates.specs.Signals.{number, Below}
+use Rattle.uc_gates.specs.Signals.{Below}
 use Rattle.uc_gates.specs.Building.{Building, size}
 use Rattle.uc_gates.specs.Meanings.{AreConstant}
 use Rattle.uc_gates.proofs.Growing.{all_below-more}
-use Rattle.uc_blast.specs.Words.{is_bits, worth, worths, IsWord, Gives}
+use Rattle.uc_blast.specs.Words.{is_bits, worth, IsWord, Gives}
 use Rattle.uc_blast.specs.Operations.{IsComputed}
 use Rattle.uc_blast.specs.Constants.{IsPlain, plain_type, StandsForValue}
 

@@ -1,15 +1,15 @@
 -- The words of parts that suit an operation.
-use Rattle.std.specs.Prelude.{◌≡◌, ℕ, ◌+◌, ◌<◌, ◌≤◌, List, [], ◌∷◌, length}
-use Rattle.std.proofs.Common.{refl, sym, ap, ◌∙◌, arith, subst, get_or}
+use Rattle.std.specs.Prelude.{◌≡◌, ℕ, ◌<◌, ◌≤◌, List, [], ◌∷◌, length}
+use Rattle.std.proofs.Common.{sym, ap, ◌∙◌, arith, subst, get_or}
 use Rattle.uc_values.specs.declared.ty.Ty.{Ty}
-use Rattle.uc_values.specs.declared.ty.Ty.TheVariants.{Bool, Bv}
+use Rattle.uc_values.specs.declared.ty.Ty.TheVariants.{Bv}
 use Rattle.uc_ops.specs.declared.op.Op.{Op}
 use Rattle.uc_ops.specs.declared.op.Op.TheVariants.{BvAdd, BvSub, BvMul, BvNeg, BvAnd, BvOr, BvXor, BvNot, Extract, ZeroExt, SignExt, Shl, Lshr, Ashr, Slt, Sle, Ult, Ule}
-use Rattle.uc_ops.specs.Typing.{Suits, AllValid, Pair_of_bits, Bits}
+use Rattle.uc_ops.specs.Typing.{Suits, AllValid, Pair_of_bits}
 use Rattle.uc_ops.proofs.Typed.{Bv-positive, Bv-small, first_valid}
 use Rattle.uc_gates.specs.declared.signal.Signal.{Signal}
 use Rattle.uc_gates.specs.Signals.{AllBelow}
-use Rattle.uc_blast.specs.Words.{IsWord, AreWords}
+use Rattle.uc_blast.specs.Words.{AreWords}
 use Rattle.uc_blast.specs.Operations.{IsPair, IsOrder, IsSingle, SuitsWidth}
 
 -- two words of bit-vectors of one width

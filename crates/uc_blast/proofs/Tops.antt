@@ -1,6 +1,6 @@
 -- The highest bit of a number.
 use Rattle.std.specs.Prelude.{◌≡◌, ℕ, ◌+◌, ◌-◌, ◌*◌, ◌/◌, ◌^◌, ◌<◌, ◌≤◌, Bool, true, false, not, cond, List, length, take, nat_lt}
-use Rattle.std.proofs.Common.{refl, sym, ap, ◌∙◌, arith, get_or}
+use Rattle.std.proofs.Common.{sym, ap, ◌∙◌, arith, get_or}
 use Rattle.std.proofs.lemmas.Bool.Decides.{nat_tests}
 use Rattle.std.proofs.lemmas.List.{take_all}
 use Rattle.uc_values.specs.Operators.{is_low, shifted_right_signed}

@@ -8,7 +8,7 @@ use Rattle.std.proofs.lemmas.List.Elements.{All-map, All-weaker}
 use Rattle.uc_values.specs.Operators.{complemented}
 use Rattle.uc_gates.specs.declared.signal.Signal.{Signal}
 use Rattle.uc_gates.specs.Signals.{signal_value, turned, differ, number, bit, Below, AllBelow}
-use Rattle.uc_gates.proofs.Numbers.{number-more, number-front, number-below}
+use Rattle.uc_gates.proofs.Numbers.{number-more, number-front}
 use Rattle.uc_gates.proofs.Choices.{turned-value, turned-below}
 
 swap : (r p b : ℕ) → r + p * b ≡ b * p + r

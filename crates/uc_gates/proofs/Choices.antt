@@ -1,8 +1,6 @@
 -- Values of turned signals and of simple gates.
-use Rattle.std.specs.Prelude.{◌≡◌, ◌≢◌, ℕ, Bool, true, false, not, ◌&&◌, ◌||◌, if◌then◌else◌, cond}
+use Rattle.std.specs.Prelude.{◌≡◌, ℕ, Bool, true, false, not, ◌&&◌, ◌||◌, cond}
 use Rattle.std.proofs.Common.{refl, sym, ap, ◌∙◌, subst}
-use Rattle.uc_circuit.specs.declared.literal.Lit.{Lit}
-use Rattle.uc_circuit.specs.Literals.{literal_value, negate}
 use Rattle.uc_gates.specs.declared.signal.Signal.{Signal}
 use Rattle.uc_gates.specs.declared.signal.Signal.TheVariants.{Constant, Of}
 use Rattle.uc_gates.specs.Signals.{Below, signal_value, turned}

@@ -1,8 +1,7 @@
 -- The test of two gates decides whether they are equal.
-use Rattle.std.proofs.Common.{◌≡◌, ℕ, Bool, true, false, refl, sym, ap, ◌∙◌}
+use Rattle.std.proofs.Common.{◌≡◌, Bool, true, refl}
 use Rattle.std.specs.Prelude.{◌&&◌}
 use Rattle.std.proofs.lemmas.Bool.{and_parts, and_from}
-use Rattle.uc_circuit.specs.declared.literal.Lit.{Lit}
 use Rattle.uc_circuit.specs.declared.gate.Gate.{Gate}
 use Rattle.uc_circuit.specs.declared.gate.Gate.TheVariants.{And, Xor, Mux}
 use Rattle.uc_circuit.specs.Literals.{same_literal}

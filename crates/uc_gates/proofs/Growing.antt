@@ -1,13 +1,12 @@
 -- What stays true where a circuit grows.
-use Rattle.std.specs.Prelude.{◌≡◌, ℕ, ◌+◌, ◌<◌, ◌≤◌, Bool, List, [], ◌++◌, length, slice_get, Some, All}
-use Rattle.std.proofs.Common.{refl, sym, ap, ◌∙◌, arith, subst, length-append, append-nil, append_assoc}
+use Rattle.std.specs.Prelude.{ℕ, ◌+◌, ◌≤◌, Bool, List, [], ◌++◌, length, slice_get}
+use Rattle.std.proofs.Common.{refl, sym, ap, ◌∙◌, arith, length-append, append-nil, append_assoc}
 use Rattle.std.proofs.lemmas.Option.{slice_get_within}
 use Rattle.std.proofs.lemmas.List.Elements.{All-weaker}
 use Rattle.uc_circuit.specs.declared.gate.Gate.{Gate}
-use Rattle.uc_circuit.specs.Gates.{gate_value}
 use Rattle.uc_gates.specs.declared.signal.Signal.{Signal}
 use Rattle.uc_gates.specs.declared.signal.Signal.TheVariants.{Constant, Of}
-use Rattle.uc_gates.specs.Signals.{Below, AllBelow, number, signal_value}
+use Rattle.uc_gates.specs.Signals.{Below, AllBelow}
 use Rattle.uc_gates.specs.Building.{Building, Grows, size, Obeys}
 use Rattle.uc_gates.specs.Meanings.{Means, Amounts}
 use Rattle.uc_gates.proofs.Sharing.{slice_get-front}

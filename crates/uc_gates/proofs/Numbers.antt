@@ -1,7 +1,7 @@
 -- The numbers that lists of signals stand for.
 use Rattle.std.specs.Prelude.{◌≡◌, ℕ, ◌+◌, ◌*◌, ◌/◌, ◌%◌, ◌^◌, ◌<◌, ◌≤◌, Bool, true, false, List, [], ◌∷◌, ◌++◌, length, take, drop}
-use Rattle.std.proofs.Common.{refl, sym, ap, ◌∙◌, arith, subst, zero, suc, get_or}
-use Rattle.std.proofs.Math.Nat.{pow-suc, mul_assoc, mul_comm, mul-add}
+use Rattle.std.proofs.Common.{sym, ap, ◌∙◌, arith, subst, suc, get_or}
+use Rattle.std.proofs.Math.Nat.{pow-suc, mul_assoc, mul_comm}
 use Rattle.std.proofs.lemmas.Nat.{div-mul-add, mod-mul-add}
 use Rattle.std.proofs.lemmas.List.{take_more, length-take-le, take-append-drop}
 use Rattle.uc_gates.specs.declared.signal.Signal.{Signal}

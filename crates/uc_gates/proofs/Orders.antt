@@ -1,6 +1,6 @@
 -- Comparisons, one bit more.
-use Rattle.std.specs.Prelude.{◌≡◌, ℕ, ◌+◌, ◌-◌, ◌*◌, ◌^◌, ◌<◌, ◌≤◌, Bool, true, false, not, ◌&&◌, cond, List, length, take, nat_eq, nat_lt, nat_le, int_lt, int_le, pos, ◌-ℤ◌}
-use Rattle.std.proofs.Common.{refl, sym, ap, ◌∙◌, arith, subst, get_or}
+use Rattle.std.specs.Prelude.{◌≡◌, ℕ, ◌+◌, ◌-◌, ◌*◌, ◌^◌, ◌<◌, ◌≤◌, Bool, true, false, not, ◌&&◌, cond, List, length, take, nat_eq, nat_lt, int_lt, pos, ◌-ℤ◌}
+use Rattle.std.proofs.Common.{refl, sym, ap, ◌∙◌, arith, get_or}
 use Rattle.std.proofs.lemmas.Bool.Decides.{nat_tests}
 use Rattle.uc_gates.specs.declared.signal.Signal.{Signal}
 use Rattle.std.proofs.Math.Nat.{pow-suc}
@@ -8,7 +8,7 @@ use Rattle.std.proofs.lemmas.Int.{ints}
 use Rattle.std.proofs.lemmas.List.{take_all}
 use Rattle.uc_values.specs.Operators.{signed}
 use Rattle.uc_gates.specs.Signals.{signal_value, turned, differ, number, bit}
-use Rattle.uc_gates.specs.Building.{Building, Grows, Obeys}
+use Rattle.uc_gates.specs.Building.{Building, Grows}
 use Rattle.uc_gates.specs.Meanings.{Means}
 use Rattle.uc_gates.proofs.Growing.{grows-trans, obeys-back}
 use Rattle.uc_gates.proofs.Choices.{turned-value}

@@ -1,5 +1,5 @@
 -- Products.
-use Rattle.std.specs.Prelude.{◌≡◌, ℕ, ◌+◌, ◌-◌, ◌*◌, ◌/◌, ◌%◌, ◌^◌, ◌<◌, ◌≤◌, Bool, true, false, ◌&&◌, cond, List, [], ◌∷◌, ◌++◌, length, take, drop, replicate}
+use Rattle.std.specs.Prelude.{◌≡◌, ℕ, ◌+◌, ◌-◌, ◌*◌, ◌/◌, ◌%◌, ◌^◌, ◌<◌, ◌≤◌, Bool, true, false, ◌&&◌, List, ◌++◌, length, take, drop, replicate}
 use Rattle.std.proofs.Common.{refl, sym, ap, ◌∙◌, arith, subst, get_or}
 use Rattle.std.proofs.Math.Nat.{mul-add, add-mul, mul_assoc, mul_comm, mul-add-mod_self_right}
 use Rattle.std.proofs.lemmas.Nat.{pow_pos, div-add-mod', mod-pow-add, mod_low, shr_high}
@@ -9,10 +9,10 @@ use Rattle.uc_values.specs.Operators.{multiplied}
 use Rattle.uc_gates.specs.declared.signal.Signal.{Signal}
 use Rattle.uc_gates.specs.declared.signal.Signal.TheVariants.{Constant}
 use Rattle.uc_gates.specs.Signals.{signal_value, number, bit, Below, AllBelow}
-use Rattle.uc_gates.specs.Building.{Building, Grows, size, Obeys}
-use Rattle.uc_gates.specs.Meanings.{Means, Amounts}
+use Rattle.uc_gates.specs.Building.{Building, Grows, size}
+use Rattle.uc_gates.specs.Meanings.{Amounts}
 use Rattle.uc_gates.proofs.Growing.{grows-refl, grows-trans, all_below-grown, obeys-back}
-use Rattle.uc_gates.proofs.Numbers.{number-append, number-take, number-drop, number-below, number-more, number-split, number-front}
+use Rattle.uc_gates.proofs.Numbers.{number-append, number-take, number-more, number-split, number-front}
 use Rattle.uc_gates.proofs.Sums.{number-zeros}
 use Rattle.uc_gates.proofs.Turns.{Turn}
 

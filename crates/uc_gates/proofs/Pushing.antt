@@ -1,10 +1,10 @@
 -- A list of signals that gets one signal after another.
-use Rattle.std.specs.Prelude.{◌≡◌, ℕ, ◌+◌, ◌*◌, ◌^◌, Bool, List, [], ◌∷◌, ◌++◌, length, Result, Ok, Err, IfOk}
-use Rattle.std.proofs.Common.{refl, sym, ap, ◌∙◌, arith}
+use Rattle.std.specs.Prelude.{◌≡◌, ℕ, ◌+◌, ◌*◌, ◌^◌, Bool, List, [], ◌∷◌, ◌++◌, Result, Ok, Err, IfOk}
+use Rattle.std.proofs.Common.{refl, ap, ◌∙◌, arith}
 use Rattle.std.proofs.lemmas.List.{length_push}
 use Rattle.std.proofs.lemmas.List.Elements.{All-push, All-nil}
 use Rattle.uc_gates.specs.declared.signal.Signal.{Signal}
-use Rattle.uc_gates.specs.Signals.{Below, AllBelow, number, signal_value, bit}
+use Rattle.uc_gates.specs.Signals.{Below, signal_value, bit}
 use Rattle.uc_gates.specs.Building.{Building, Grows, size, Obeys}
 use Rattle.uc_gates.specs.Meanings.{Means, Amounts}
 use Rattle.uc_gates.proofs.Growing.{amounts-grown}

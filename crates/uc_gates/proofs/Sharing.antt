@@ -1,5 +1,5 @@
 -- What a circuit is after a gate was asked for, where equal gates are shared.
-use Rattle.std.specs.Prelude.{◌≡◌, ℕ, ◌+◌, ◌<◌, ◌≤◌, ◌^◌, Bool, true, false, cond, ◌||◌, List, [], ◌∷◌, ◌++◌, length, slice_get, Some, ◌⊎◌}
+use Rattle.std.specs.Prelude.{◌≡◌, ℕ, ◌+◌, ◌<◌, ◌^◌, Bool, true, false, cond, List, [], ◌∷◌, ◌++◌, length, slice_get, Some, ◌⊎◌}
 use Rattle.std.specs.List.{list_any, IsDistinct, AllByRecursion}
 use Rattle.std.proofs.Common.{refl, sym, ap, ◌∙◌, arith, subst, length-append, inl, inr, zero, suc, append-nil}
 use Rattle.std.proofs.lemmas.Bool.{false≢true}
@@ -8,7 +8,7 @@ use Rattle.uc_circuit.specs.declared.gate.Gate.{Gate}
 use Rattle.uc_circuit.specs.Gates.{OperandsBelow, gate_value}
 use Rattle.uc_circuit.specs.Literals.{positive}
 use Rattle.uc_gates.specs.declared.signal.Signal.TheVariants.{Of}
-use Rattle.uc_gates.specs.Building.{Building, IsBuilding, Grows, NoGateTwice, size, Obeys}
+use Rattle.uc_gates.specs.Building.{IsBuilding, Grows, NoGateTwice}
 use Rattle.uc_gates.specs.Meanings.{Means}
 use Rattle.uc_gates.proofs.GateEquality.{same_gate, exact, itself}
 

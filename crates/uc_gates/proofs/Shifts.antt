@@ -1,9 +1,9 @@
 -- Shifts.
-use Rattle.std.specs.Prelude.{◌≡◌, ℕ, ◌+◌, ◌-◌, ◌*◌, ◌/◌, ◌%◌, ◌^◌, ◌<◌, ◌≤◌, Bool, true, false, not, ◌||◌, cond, List, [], ◌∷◌, ◌++◌, length, take, drop, map, replicate, nat_lt}
+use Rattle.std.specs.Prelude.{◌≡◌, ℕ, ◌+◌, ◌-◌, ◌*◌, ◌/◌, ◌%◌, ◌^◌, ◌<◌, ◌≤◌, Bool, true, false, not, ◌||◌, cond, List, ◌++◌, length, take, drop, map, replicate, nat_lt}
 use Rattle.std.proofs.Common.{refl, sym, ap, ◌∙◌, arith, subst, get_or, zero, suc}
 use Rattle.std.proofs.Math.Nat.{pow-suc, mul_assoc, mul_comm, pow-le-pow_right}
 use Rattle.std.proofs.lemmas.Nat.{pow_pos, pow-add, shl-shr, shr-shr, shr_le, mod-pow-add, mul-mod_first, mod_low, shr_high}
-use Rattle.std.proofs.lemmas.List.{map-append, length-append, length-take-le, length-drop, length-replicate, length-map, take_all, drop-map}
+use Rattle.std.proofs.lemmas.List.{map-append, length-append, length-take-le, length-drop, length-replicate, length-map, drop-map}
 use Rattle.std.proofs.lemmas.List.Elements.{All-append, All-replicate, All-take, All-drop}
 use Rattle.std.proofs.lemmas.Bool.{false≢true}
 use Rattle.std.proofs.lemmas.Bool.Decides.{nat_tests}
@@ -13,10 +13,10 @@ use Rattle.uc_gates.specs.declared.signal.Signal.TheVariants.{Constant}
 use Rattle.uc_gates.specs.declared.shifting.Shift.{Shift}
 use Rattle.uc_gates.specs.declared.shifting.Shift.TheVariants.{Left, Right}
 use Rattle.uc_gates.specs.Signals.{signal_value, turned, number, bit, Below, AllBelow}
-use Rattle.uc_gates.specs.Building.{Building, Grows, size, Obeys}
+use Rattle.uc_gates.specs.Building.{Building, Grows, size}
 use Rattle.uc_gates.specs.Meanings.{Means, Amounts}
 use Rattle.uc_gates.specs.Shifting.{shifted, shifted_down, fill_of, moved}
-use Rattle.uc_gates.proofs.Growing.{grows-trans, below-grown, obeys-back}
+use Rattle.uc_gates.proofs.Growing.{grows-trans, obeys-back}
 use Rattle.uc_gates.proofs.Numbers.{number-append, number-take, number-drop, number-below, number-more, number-split}
 use Rattle.uc_gates.proofs.BitByBit.{number-turned}
 use Rattle.uc_gates.proofs.Choices.{turned-value}

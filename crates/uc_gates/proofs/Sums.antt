@@ -1,9 +1,9 @@
 -- Adders.
-use Rattle.std.specs.Prelude.{◌≡◌, ℕ, ◌+◌, ◌-◌, ◌*◌, ◌/◌, ◌%◌, ◌^◌, ◌<◌, ◌≤◌, Bool, true, false, not, cond, List, [], ◌∷◌, ◌++◌, length, take, map, replicate}
+use Rattle.std.specs.Prelude.{◌≡◌, ℕ, ◌+◌, ◌-◌, ◌*◌, ◌%◌, ◌^◌, ◌<◌, Bool, true, false, cond, List, [], ◌∷◌, ◌++◌, length, take, map, replicate}
 use Rattle.std.proofs.Common.{refl, sym, ap, ◌∙◌, arith, subst, get_or, zero, suc}
 use Rattle.std.proofs.Math.Nat.{pow-suc, mul-add, mul_assoc, mul_comm}
 use Rattle.std.proofs.lemmas.Nat.{mod-mul-add}
-use Rattle.std.proofs.lemmas.List.{length_push, take_all, length-map, length-replicate}
+use Rattle.std.proofs.lemmas.List.{length_push, take_all, length-replicate}
 use Rattle.std.proofs.lemmas.List.Elements.{All-push, All-nil}
 use Rattle.uc_values.specs.Operators.{added, subtracted, negated, complemented}
 use Rattle.uc_gates.specs.declared.signal.Signal.{Signal}
@@ -13,7 +13,7 @@ use Rattle.uc_gates.specs.Building.{Building, Grows, size, Obeys}
 use Rattle.uc_gates.specs.Meanings.{Means, Amounts}
 use Rattle.uc_gates.specs.Adding.{Adds}
 use Rattle.uc_gates.proofs.Growing.{grows-refl, grows-trans, below-grown, all_below-grown, obeys-back}
-use Rattle.uc_gates.proofs.Numbers.{number-more, number-push, number-below, double}
+use Rattle.uc_gates.proofs.Numbers.{number-more, number-push, number-below}
 use Rattle.uc_gates.proofs.BitByBit.{number-turned}
 
 three : (x y c : Bool) → bit (differ (differ x y) c) + 2 * bit (cond (differ x y) c x) ≡ bit x + bit y + bit c

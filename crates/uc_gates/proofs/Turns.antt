@@ -1,6 +1,6 @@
 -- The turns of a loop that adds one signal after another.
 use Rattle.std.specs.Prelude.{◌≡◌, ℕ, ◌+◌, ◌*◌, ◌^◌, ◌<◌, Bool, List, [], ◌∷◌, ◌++◌, length}
-use Rattle.std.proofs.Common.{refl, sym, ap, ◌∙◌, arith, subst, get_or}
+use Rattle.std.proofs.Common.{sym, subst, get_or}
 use Rattle.uc_gates.specs.declared.signal.Signal.{Signal}
 use Rattle.uc_gates.specs.Signals.{Below, AllBelow, bit}
 use Rattle.uc_gates.specs.Building.{Building, Grows, size, Obeys}

@@ -1,4 +1,4 @@
-use Rattle.std.proofs.Common.{◌≡◌, ◌∙◌, sym, ap, subst, true}
+use Rattle.std.proofs.Common.{◌≡◌, ◌∙◌, sym, ap, true}
 use Rattle.uc_gates.proofs.Pushing.{if_ok-weaker}
 use Rattle.uc_ops.specs.Typing.{part_type}
 use Rattle.uc_blast.specs.Words.{is_bits}

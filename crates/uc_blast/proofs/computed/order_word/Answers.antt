@@ -1,5 +1,3 @@
-use Rattle.std.proofs.Common.{sym, subst, ◌≡◌, ◌∙◌}
-use Rattle.uc_blast.specs.Words.{Gives}
 use Rattle.uc_gates.proofs.Pushing.{if_ok-weaker}
 use Rattle.uc_blast.proofs.Ready.{two-words, order-suits}
 use Rattle.uc_blast.proofs.Giving.{order-gives}

@@ -1,6 +1,5 @@
-use Rattle.std.proofs.Common.{sym, subst, ◌≡◌, ◌∙◌}
+use Rattle.std.proofs.Common.{sym, subst}
 use Rattle.uc_blast.specs.Words.{Gives}
-use Rattle.uc_gates.proofs.Pushing.{if_ok-weaker}
 use Rattle.uc_blast.proofs.Ready.{two-words, pair-suits}
 use Rattle.uc_blast.proofs.Giving.{pair-gives}
 use Rattle.uc_blast.proofs.computed.pair_word.Goals as goal

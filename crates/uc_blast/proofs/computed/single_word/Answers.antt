@@ -1,6 +1,5 @@
-use Rattle.std.proofs.Common.{sym, subst, ◌≡◌, ◌∙◌}
+use Rattle.std.proofs.Common.{sym, subst}
 use Rattle.uc_blast.specs.Words.{Gives}
-use Rattle.uc_gates.proofs.Pushing.{if_ok-weaker}
 use Rattle.uc_blast.proofs.Ready.{one-word}
 use Rattle.uc_blast.proofs.Giving.{single-gives}
 use Rattle.uc_blast.proofs.computed.single_word.Goals as goal

@@ -1,4 +1,4 @@
-use Rattle.std.proofs.Common.{arith, get_or, [], length}
+use Rattle.std.proofs.Common.{arith, get_or, []}
 use Rattle.std.proofs.lemmas.List.{length-map}
 use Rattle.uc_blast.specs.Words.{words_at}
 use Rattle.uc_blast.proofs.Junctions.{any-turn, any-end, part-below}

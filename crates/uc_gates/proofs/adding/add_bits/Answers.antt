@@ -1,4 +1,4 @@
-use Rattle.uc_gates.proofs.Sums.{adds, sum-plain, difference, number-zeros}
+use Rattle.uc_gates.proofs.Sums.{adds}
 use Rattle.uc_gates.proofs.adding.add_bits.Goals as goal
 
 pub returns-clause-ok : goal.returns-clause-ok

@@ -1,5 +1,5 @@
 use Rattle.std.proofs.Common.{arith}
-use Rattle.uc_gates.proofs.Sums.{adding-none, adding-more, adding-all}
+use Rattle.uc_gates.proofs.Sums.{adding-more, adding-all}
 use Rattle.uc_gates.proofs.adding.add_each.Goals as goal
 
 pub loop-i-preserved : goal.loop-i-preserved

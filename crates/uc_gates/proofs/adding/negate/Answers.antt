@@ -1,4 +1,4 @@
-use Rattle.std.proofs.Common.{◌≡◌, ◌∙◌}
+use Rattle.std.proofs.Common.{◌∙◌}
 use Rattle.uc_gates.proofs.Pushing.{amounts-same, amounts-width, if_ok-weaker}
 use Rattle.uc_gates.proofs.Sums.{negation, zeros-long}
 use Rattle.uc_gates.proofs.adding.negate.Goals as goal

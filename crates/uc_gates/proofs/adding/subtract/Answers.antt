@@ -1,8 +1,6 @@
-use Rattle.std.proofs.Common.{◌≡◌, ◌∙◌, map, length, List}
-use Rattle.uc_gates.specs.declared.signal.Signal.{Signal}
-use Rattle.uc_gates.specs.Signals.{turned}
+use Rattle.std.proofs.Common.{◌∙◌}
 use Rattle.uc_gates.proofs.Pushing.{amounts-same, if_ok-weaker}
-use Rattle.uc_gates.proofs.BitByBit.{turned-all, turned-long}
+use Rattle.uc_gates.proofs.BitByBit.{turned-all}
 use Rattle.uc_gates.proofs.Sums.{difference}
 use Rattle.uc_gates.proofs.adding.subtract.Goals as goal
 

@@ -1,4 +1,4 @@
-use Rattle.std.proofs.Common.{take, bit_and, bit_or, bit_xor, cond}
+use Rattle.std.proofs.Common.{take, cond}
 use Rattle.uc_gates.specs.Signals.{signal_value, number}
 use Rattle.uc_gates.proofs.Turns.{Turn}
 use Rattle.uc_gates.proofs.bitwise.choose_each.Given as goal

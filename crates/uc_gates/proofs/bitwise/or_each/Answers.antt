@@ -1,5 +1,4 @@
 use Rattle.std.proofs.Common.{arith}
-use Rattle.uc_gates.specs.Signals.{signal_value}
 use Rattle.uc_gates.proofs.Turns.{turn-more}
 use Rattle.uc_gates.proofs.BitByBit.{or-more}
 use Rattle.uc_gates.proofs.bitwise.or_each.Goals as goal

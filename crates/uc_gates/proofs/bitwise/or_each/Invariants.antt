@@ -1,5 +1,5 @@
-use Rattle.std.proofs.Common.{take, bit_and, bit_or, bit_xor, cond}
-use Rattle.uc_gates.specs.Signals.{signal_value, number}
+use Rattle.std.proofs.Common.{take, bit_or}
+use Rattle.uc_gates.specs.Signals.{number}
 use Rattle.uc_gates.proofs.Turns.{Turn}
 use Rattle.uc_gates.proofs.bitwise.or_each.Given as goal
 

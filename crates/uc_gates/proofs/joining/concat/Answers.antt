@@ -1,4 +1,4 @@
-use Rattle.std.proofs.Common.{◌≡◌, refl}
+use Rattle.std.proofs.Common.{refl}
 use Rattle.uc_gates.proofs.Joins.{concats, both-lists}
 use Rattle.uc_gates.proofs.joining.concat.Goals as goal
 

@@ -1,4 +1,4 @@
-use Rattle.std.proofs.Common.{◌≡◌, ◌∙◌, ap, take, ◌-◌, ◌+◌}
+use Rattle.std.proofs.Common.{◌∙◌, ap, take, ◌-◌, ◌+◌}
 use Rattle.std.proofs.lemmas.List.{take_rest}
 use Rattle.uc_gates.proofs.Joins.{extracts}
 use Rattle.uc_gates.proofs.joining.extract.Goals as goal

@@ -1,4 +1,4 @@
-use Rattle.std.proofs.Common.{◌≡◌, ◌∙◌, arith, length, ◌-◌}
+use Rattle.std.proofs.Common.{◌∙◌, arith, length, ◌-◌}
 use Rattle.uc_gates.proofs.Joins.{signs-before, both-lists}
 use Rattle.uc_gates.proofs.joining.sign_extend.Goals as goal
 

@@ -1,4 +1,4 @@
-use Rattle.std.proofs.Common.{◌≡◌, ◌∙◌}
+use Rattle.std.proofs.Common.{◌∙◌}
 use Rattle.uc_gates.proofs.Joins.{zeros-before, both-lists}
 use Rattle.uc_gates.proofs.joining.zero_extend.Goals as goal
 

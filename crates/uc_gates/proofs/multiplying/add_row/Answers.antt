@@ -1,4 +1,4 @@
-use Rattle.std.proofs.Common.{◌≡◌, ◌∙◌, sym, subst, refl}
+use Rattle.std.proofs.Common.{sym, subst, refl}
 use Rattle.std.proofs.lemmas.List.{take_rest}
 use Rattle.uc_gates.specs.Meanings.{Amounts}
 use Rattle.uc_gates.proofs.Joins.{both-lists}

@@ -1,4 +1,4 @@
-use Rattle.std.proofs.Common.{◌≡◌, ◌∙◌, arith, false}
+use Rattle.std.proofs.Common.{arith, false}
 use Rattle.uc_gates.specs.declared.signal.Signal.TheVariants.{Constant}
 use Rattle.uc_gates.proofs.Products.{product-none, product-more, product-all}
 use Rattle.uc_gates.proofs.multiplying.multiply.Goals as goal

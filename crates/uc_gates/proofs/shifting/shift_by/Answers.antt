@@ -1,4 +1,4 @@
-use Rattle.std.proofs.Common.{◌≡◌, ◌∙◌, arith, ap, length, replicate}
+use Rattle.std.proofs.Common.{◌∙◌, arith, ap, length, replicate}
 use Rattle.std.proofs.lemmas.List.{take_rest}
 use Rattle.uc_gates.proofs.Shifts.{shift-all}
 use Rattle.uc_gates.proofs.Pushing.{if_ok-weaker}

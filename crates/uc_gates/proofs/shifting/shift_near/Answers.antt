@@ -1,4 +1,4 @@
-use Rattle.std.proofs.Common.{◌≡◌, ◌∙◌, ◌^◌, sym, ap, subst, refl, arith, false, get_or, List, length, cond}
+use Rattle.std.proofs.Common.{◌≡◌, ◌∙◌, sym, ap, subst, refl, arith, false, get_or, List, length, cond}
 use Rattle.uc_gates.specs.declared.signal.Signal.{Signal}
 use Rattle.uc_gates.specs.declared.signal.Signal.TheVariants.{Constant}
 use Rattle.uc_gates.specs.Signals.{AllBelow, number, signal_value}

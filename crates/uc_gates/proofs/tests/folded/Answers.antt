@@ -1,4 +1,4 @@
-use Rattle.std.proofs.Common.{◌≡◌, ◌∙◌, sym, ap, subst, arith, length}
+use Rattle.std.proofs.Common.{◌∙◌, sym, ap, subst, arith, length}
 use Rattle.uc_gates.specs.declared.signal.Signal.{Signal}
 use Rattle.uc_gates.specs.Signals.{AllBelow}
 use Rattle.uc_gates.proofs.Growing.{all_below-more}

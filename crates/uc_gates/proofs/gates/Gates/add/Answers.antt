@@ -1,15 +1,10 @@
-use Rattle.std.proofs.Common.{arith, ◌≡◌, ◌+◌, ◌^◌, ◌<◌, sym, ap, subst, length}
-use Rattle.uc_circuit.specs.declared.gate.Gate.{Gate}
+use Rattle.std.proofs.Common.{arith, sym, ap, subst}
 use Rattle.uc_circuit.specs.Gates.{OperandsBelow, gate_value}
-use Rattle.uc_circuit.specs.Literals.{positive}
 use Rattle.uc_gates.specs.declared.signal.Signal.TheVariants.{Of}
-use Rattle.uc_gates.specs.Building.{Building, size, Grows}
+use Rattle.uc_gates.specs.Building.{Building, size}
 use Rattle.uc_gates.specs.Meanings.{Means}
 use Rattle.uc_gates.proofs.GateEquality.{same_gate}
 use Rattle.uc_gates.proofs.Sharing.{Shares, shared, gate-means}
-use Rattle.uc_gates.proofs.Numbers.{number-take}
-use Rattle.uc_gates.proofs.Pushing.{amounts-push}
-use Rattle.uc_gates.proofs.Choices.{turned-value}
 use Rattle.uc_gates.proofs.gates.Gates.add.Goals as goal
 
 inside : (c : goal.After-positive) → Shares c.self.inside.inputs c.self.inside.gates.keys c.insert_full.new.self.keys c.args.gate c.in_ok-place.place

@@ -1,5 +1,4 @@
-use Rattle.std.specs.Prelude.{◌≡◌, ◌++◌, List, Option, None, Some, map, replicate, take}
-use Rattle.uc_circuit.specs.declared.gate.Gate.{Gate}
+use Rattle.std.specs.Prelude.{◌≡◌, ◌++◌, None, Some, map, replicate, take}
 use Rattle.uc_gates.proofs.gates.Gates.into_circuit.Given as goal
 
 abbrev pub invariant-loop-input : goal.invariant-loop-input
