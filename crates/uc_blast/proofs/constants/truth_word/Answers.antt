@@ -1,0 +1,6 @@
+use Rattle.uc_gates.proofs.Pushing.{if_ok-weaker}
+use Rattle.uc_blast.proofs.Plain.{truth-stands}
+use Rattle.uc_blast.proofs.constants.truth_word.Goals as goal
+
+pub returns : goal.returns
+returns c = if_ok-weaker _ _ _ (λ r e. truth-stands c.args.truth r e) c.from_slice.ensures

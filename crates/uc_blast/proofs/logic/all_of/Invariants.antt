@@ -1,0 +1,9 @@
+use Rattle.std.proofs.Common.{take}
+use Rattle.std.specs.List.{list_all}
+use Rattle.uc_gates.specs.Building.{Grows}
+use Rattle.uc_gates.specs.Meanings.{Means}
+use Rattle.uc_blast.specs.Words.{words_at, first}
+use Rattle.uc_blast.proofs.logic.all_of.Given as goal
+
+abbrev pub invariant-loop-place : goal.invariant-loop-place
+invariant-loop-place l = Grows l.fn.gates l.gates × Means l.gates (λ v. list_all (first v) (take l.place (words_at l.words l.parts))) l.all
