@@ -79,3 +79,8 @@ sources_more before after all sources i s at so_far e =
 
 pub kept_to_end : (after all : List (List ℕ)) (rest : List Source) → fold with_source after rest ≡ all → KeepNumbers after all
 kept_to_end after all rest e = subst (KeepNumbers after) e (kept_sources after rest)
+
+pub numbers_pushed : (before after : List (List ℕ)) (ns more : List ℕ) (n : ℕ) (files : List (List ℕ)) (i : ℕ) (file : List ℕ) → slice_get files i ≡ Some file → KeepNumbers before after →
+    map (slice_get before) ns ≡ map (λ f. Some f) (take i files) → slice_get after n ≡ Some file → more ≡ ns ++ n ∷ [] →
+    map (slice_get after) more ≡ map (λ f. Some f) (take (i + 1) files)
+numbers_pushed before after ns more n files i file at kept so_far is e = ap (map (slice_get after)) e ∙ numbers_more before after ns n files i file at kept so_far is
