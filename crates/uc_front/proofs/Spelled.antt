@@ -1,5 +1,5 @@
 -- What parsing leads to.
-use Rattle.std.proofs.Common.{◌≡◌, ℕ, zero, suc, ◌+◌, ◌<◌, ◌≤◌, List, [], ◌∷◌, ◌++◌, length, take, drop, fold, slice_get, Option, None, Some, Result, Ok, Err, refl, sym, ap, subst, ◌∙◌, arith, append-nil, append_assoc}
+use Rattle.std.proofs.Common.{◌≡◌, ℕ, zero, suc, ◌+◌, ◌<◌, ◌≤◌, List, [], ◌∷◌, ◌++◌, length, take, drop, fold, slice_get, get_or, Option, None, Some, Result, Ok, Err, refl, sym, ap, subst, ◌∙◌, arith, append-nil, append_assoc}
 use Rattle.uc_syntax.specs.declared.declaration.Module.{Module}
 use Rattle.uc_syntax.specs.Numbering.{KeepNumbers}
 use Rattle.uc_forms.specs.Answer.{Answer, spelled, wrong, too_deep, too_many, IsAnswer}
@@ -15,7 +15,8 @@ use Rattle.uc_front.specs.Denotes.{with_source, HasAnswer, AreSpelled}
 use Rattle.uc_front.specs.Refused.{IsUnspelled, refusal_of}
 use Rattle.uc_front.specs.Errors.{IsTextError}
 use Rattle.uc_front.specs.Turning.{syntactic}
-use Rattle.uc_front.proofs.Lists.{take_next}
+use Rattle.uc_lexer.specs.declared.token.Token.{Token}
+use Rattle.uc_front.proofs.Lists.{take_next, stands}
 use Rattle.uc_front.proofs.Names.{sources_more, kept_to_end}
 
 -- an answer stays that of the words as names are added
@@ -75,3 +76,11 @@ parsed_refused before after all sources i s modules e at names so_far more h = b
     by (parse.Syntax p) more h = refused_as all sources i s modules h.2.0 (parse.Syntax p) at so_far (answer_under after all s h.0 h.2.0 (kept more) h.1 h.2.1) h.2.2
     by (parse.TooDeep p) more h = refused_as all sources i s modules h.2.0 (parse.TooDeep p) at so_far (answer_under after all s h.0 h.2.0 (kept more) h.1 h.2.1) h.2.2
     by (parse.TooManyNames p) more h = refused_as all sources i s modules h.2.0 (parse.TooManyNames p) at so_far (answer_under after all s h.0 h.2.0 (kept more) h.1 h.2.1) h.2.2
+
+-- the source at a place, by its parts
+pub source_at : (sources : List Source) (i : ℕ) (s : Source) (text : List ℕ) (tokens : List Token) → i < length sources → s ≡ get_or sources i s → text ≡ s.text → tokens ≡ s.tokens →
+    slice_get sources i ≡ Some (record { text = text; tokens = tokens })
+source_at sources i s text tokens within is t k =
+    let back : s.text ≡ text = sym t in
+    let again : s.tokens ≡ tokens = sym k in
+    stands sources i s within is ∙ (λ j. Some (record { text = back j; tokens = again j }))
