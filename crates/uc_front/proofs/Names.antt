@@ -1,7 +1,7 @@
 -- Names of files and of tokens, and their numbers.
 use Rattle.std.proofs.Common.{◌≡◌, ℕ, zero, suc, ◌+◌, ◌<◌, ◌≤◌, Bool, true, nat_lt, List, [], ◌∷◌, ◌++◌, length, map, take, drop, fold, slice_get, Option, None, Some, refl, sym, ap, subst, ◌∙◌, arith, take_all}
 use Rattle.std.proofs.lemmas.Bool.{and_from, lt-ltb}
-use Rattle.std.proofs.lemmas.List.{map-append}
+use Rattle.std.proofs.lemmas.List.{map-append, length-map}
 use Rattle.std.proofs.lemmas.Option.{slice_get_within}
 use Rattle.std.specs.List.{list_all}
 use Rattle.uc_lexer.specs.declared.token.Token.{Token}
@@ -84,3 +84,7 @@ pub numbers_pushed : (before after : List (List ℕ)) (ns more : List ℕ) (n : 
     map (slice_get before) ns ≡ map (λ f. Some f) (take i files) → slice_get after n ≡ Some file → more ≡ ns ++ n ∷ [] →
     map (slice_get after) more ≡ map (λ f. Some f) (take (i + 1) files)
 numbers_pushed before after ns more n files i file at kept so_far is e = ap (map (slice_get after)) e ∙ numbers_more before after ns n files i file at kept so_far is
+
+-- as many numbers as names
+pub numbers_count : (names : List (List ℕ)) (ns : List ℕ) (fs : List (List ℕ)) → map (slice_get names) ns ≡ map (λ f. Some f) fs → length ns ≡ length fs
+numbers_count names ns fs e = sym (length-map ns (slice_get names)) ∙ ap length e ∙ length-map fs (λ f. Some f)
