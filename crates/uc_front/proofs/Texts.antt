@@ -109,7 +109,7 @@ texts_more [] s rest texts e = e
 texts_more (x ∷ xs) s rest texts e = ap (λ ts. x.text ∷ ts) (texts_more xs s rest (texts_of xs ++ s.text ∷ rest) refl) ∙ e
 
 -- the text behind those that have tokens stands at their number
-text_at : (sources : List Source) (text : List ℕ) (rest texts : List (List ℕ)) → texts_of sources ++ text ∷ rest ≡ texts → slice_get texts (length sources) ≡ Some text
+pub text_at : (sources : List Source) (text : List ℕ) (rest texts : List (List ℕ)) → texts_of sources ++ text ∷ rest ≡ texts → slice_get texts (length sources) ≡ Some text
 text_at sources text rest texts e =
     let n : length sources ≡ length (texts_of sources) = sym (length-map sources (λ s. s.text)) in
     let back : texts ≡ texts_of sources ++ text ∷ rest = sym e in
