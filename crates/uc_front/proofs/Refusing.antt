@@ -1,5 +1,5 @@
 -- The refusals of the passes as refusals of the whole.
-use Rattle.std.proofs.Common.{◌≡◌, ◌⊎◌, inl, inr, ℕ, List, length, Option, None, Some, sym, ap, subst, ◌∙◌}
+use Rattle.std.proofs.Common.{◌≡◌, inl, inr, ℕ, List, length, Option, None, Some, sym, ap, subst, ◌∙◌}
 use Rattle.uc_lexer.specs.Places.{place_of}
 use Rattle.uc_syntax.specs.declared.declaration.Module.{Module}
 use Rattle.uc_forms.specs.Answer.{Answer, spelled, wrong, too_deep, too_many}

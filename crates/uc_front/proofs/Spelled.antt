@@ -1,5 +1,5 @@
 -- What parsing leads to.
-use Rattle.std.proofs.Common.{◌≡◌, ℕ, zero, suc, ◌+◌, ◌<◌, ◌≤◌, List, [], ◌∷◌, ◌++◌, length, take, drop, fold, slice_get, get_or, Option, None, Some, Result, Ok, Err, refl, sym, ap, subst, ◌∙◌, arith, append-nil, append_assoc}
+use Rattle.std.proofs.Common.{◌≡◌, ℕ, ◌+◌, ◌<◌, List, [], ◌∷◌, ◌++◌, length, take, drop, fold, slice_get, get_or, Some, Result, Ok, Err, refl, sym, ap, subst, ◌∙◌, append-nil, append_assoc}
 use Rattle.uc_syntax.specs.declared.declaration.Module.{Module}
 use Rattle.uc_syntax.specs.Numbering.{KeepNumbers}
 use Rattle.uc_forms.specs.Answer.{Answer, spelled, wrong, too_deep, too_many, IsAnswer}
@@ -12,7 +12,7 @@ use Rattle.uc_parser.specs.declared.error.ParseError.TheVariants as parse
 use Rattle.uc_parser.specs.Verdict.{IsParsedText, AreNamesAfter, said, end_of}
 use Rattle.uc_front.specs.declared.lexing.Source.{Source}
 use Rattle.uc_front.specs.Denotes.{with_source, HasAnswer, AreSpelled}
-use Rattle.uc_front.specs.Refused.{IsUnspelled, refusal_of}
+use Rattle.uc_front.specs.Refused.{IsUnspelled}
 use Rattle.uc_front.specs.Errors.{IsTextError}
 use Rattle.uc_front.specs.Turning.{syntactic}
 use Rattle.uc_lexer.specs.declared.token.Token.{Token}

@@ -12,7 +12,6 @@ use Rattle.uc_lexer.specs.Text.{Tokens, FirstFault, IsLexError}
 use Rattle.uc_front.specs.declared.error.FrontError.{FrontError}
 use Rattle.uc_front.specs.declared.error.FrontError.TheVariants.{NoMemory, ReadFault, Refused}
 use Rattle.uc_front.specs.declared.lexing.Source.{Source}
-use Rattle.uc_front.specs.declared.refusal.Refusal.{Refusal}
 use Rattle.uc_front.specs.declared.refusal.Refusal.TheVariants.{NoFile, TooLong, BadByte, BadNumber, OpenComment, Syntax, TooDeep, TooManyNames, NoMain, NotBuilt}
 use Rattle.uc_front.specs.Sources.{AreTexts, AreLexed, texts_of}
 use Rattle.uc_front.specs.Refused.{IsUnread, IsFirstFault, IsUnlexed}

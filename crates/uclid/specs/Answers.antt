@@ -1,7 +1,6 @@
 -- What a run is to answer to its words and its texts.
 use Rattle.std.specs.Prelude.{◌≡◌, ℕ, Bool, true, false, not, ◌&&◌, nat_le, nat_eq, codes, decimal, IsTrue, List, [], ◌∷◌, ◌++◌, length, slice_get, unwrap_or, Option, Some, None}
 use Rattle.std.specs.List.{list_all}
-use Rattle.uc_meaning.specs.Lookup.{System}
 use Rattle.uc_control.specs.Reports.{status}
 use Rattle.uc_control.specs.Text.{report_text}
 use Rattle.uc_front.specs.declared.refusal.Refusal.{Refusal}

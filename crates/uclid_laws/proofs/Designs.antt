@@ -1,11 +1,11 @@
 -- Texts denote at most one design, and are not both accepted and refused.
-use Rattle.std.proofs.Common.{◌≡◌, ◌⊎◌, inl, inr, ℕ, zero, suc, ◌+◌, ◌<◌, ◌≤◌, List, [], ◌∷◌, ◌++◌, length, map, take, slice_get, Option, Some, None, refl, sym, ap, subst, ◌∙◌, arith, length-append}
+use Rattle.std.proofs.Common.{◌≡◌, inl, inr, ℕ, zero, suc, ◌+◌, ◌<◌, ◌≤◌, List, [], ◌∷◌, ◌++◌, length, map, take, slice_get, Option, Some, None, refl, sym, ap, subst, ◌∙◌, arith, length-append}
 use Rattle.std.specs.List.{concat}
 use Rattle.uc_lexer.specs.declared.token.Token.{Token}
 use Rattle.uc_lexer.specs.declared.fault.LexFault.{LexFault}
 use Rattle.uc_lexer.specs.declared.lexer.TheConstants.{MAX_TEXT}
 use Rattle.uc_lexer.specs.Places.{place_of}
-use Rattle.uc_lexer.specs.Text.{Tokens, FirstFault}
+use Rattle.uc_lexer.specs.Text.{Tokens}
 use Rattle.uc_lexer.proofs.Unique.{one_reading}
 use Rattle.uc_syntax.specs.declared.declaration.Module.{Module}
 use Rattle.uc_syntax.specs.Numbering.{AreDistinct}
@@ -13,7 +13,6 @@ use Rattle.uc_forms.specs.Answer.{Answer, spelled, wrong, too_deep, too_many, Is
 use Rattle.uc_forms.proofs.Every.{one_answer}
 use Rattle.uc_grammar.specs.declared.word.Word.{Word}
 use Rattle.uc_grammar.specs.Language.{grammar}
-use Rattle.uc_words.specs.Words.{AreWords}
 use Rattle.uc_words.proofs.TokenByToken.{one_list}
 use Rattle.uc_meaning.specs.Lookup.{System}
 use Rattle.uc_meaning.specs.Fragment.{InFragment}
@@ -21,7 +20,7 @@ use Rattle.uc_front.specs.declared.lexing.Source.{Source}
 use Rattle.uc_front.specs.declared.refusal.Refusal.{Refusal}
 use Rattle.uc_front.specs.declared.refusal.Refusal.TheVariants.{NoFile, TooLong, BadByte, BadNumber, OpenComment, Syntax, TooDeep, TooManyNames, NoMain, NotBuilt}
 use Rattle.uc_front.specs.Sources.{AreTexts, AreLexed, AreSources, texts_of}
-use Rattle.uc_front.specs.Denotes.{most_levels, most_names, names_of, HasAnswer, AreSpelled, main_in, IsDesignOf, Denotes}
+use Rattle.uc_front.specs.Denotes.{most_levels, most_names, names_of, HasAnswer, AreSpelled, main_in, IsDesignOf}
 use Rattle.uc_front.specs.Refused.{IsUnread, IsFirstFault, IsUnlexed, refusal_of, IsUnspelled, IsUnbuilt}
 use Rattle.uclid_laws.specs.Laws.{OneDesign, NeverBoth}
 use Rattle.uclid_laws.proofs.Distinct.{names_distinct}

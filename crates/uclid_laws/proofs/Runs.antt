@@ -1,9 +1,8 @@
 -- How runs on files end.
-use Rattle.std.proofs.Common.{◌≡◌, ◌⊎◌, inl, inr, ℕ, Bool, true, false, List, [], ◌∷◌, Option, Some, None, refl, subst}
+use Rattle.std.proofs.Common.{◌≡◌, ◌⊎◌, inl, inr, ℕ, Bool, true, false, List, Option, Some, None, refl, subst}
 use Rattle.std.specs.Prelude.{if◌then◌else◌}
 use Rattle.std.specs.List.{list_any}
 use Rattle.uc_io.specs.Faults.{Rose}
-use Rattle.uc_meaning.specs.Lookup.{System}
 use Rattle.uc_control.specs.declared.report.Report.{Report}
 use Rattle.uc_control.specs.Reports.{status, is_failed}
 use Rattle.uclid.specs.declared.answer.Session.{Session}

@@ -1,5 +1,4 @@
 use Rattle.uc_front.specs.Sources.{words_of}
-use Rattle.std.proofs.Common.{◌≡◌, slice_get, Some, ap, ◌∙◌}
 use Rattle.uc_front.proofs.Lists.{word_at}
 use Rattle.uc_front.proofs.Names.{files_more, numbers_pushed}
 use Rattle.uc_front.proofs.parsing.intern_all.Goals as goal

@@ -1,5 +1,4 @@
-use Rattle.std.proofs.Common.{◌≤◌, length, fold, sym, subst, arith}
-use Rattle.uc_lexer.specs.declared.lexer.TheConstants.{MAX_TEXT}
+use Rattle.std.proofs.Common.{fold, sym, subst, arith}
 use Rattle.uc_front.specs.Sources.{texts_of}
 use Rattle.uc_front.specs.Denotes.{with_source}
 use Rattle.uc_front.specs.Refused.{IsUnspelled}
