@@ -1,16 +1,23 @@
 -- What the errors of this crate say.
-use Rattle.std.specs.Prelude.{◌≡◌, ℕ, List, Option}
+use Rattle.std.specs.Prelude.{◌≡◌, ℕ, ◌<◌, List, length, Option, None, IsSomeAnd}
 use Rattle.uc_front.specs.declared.error.FrontError.{FrontError}
 use Rattle.uc_front.specs.declared.error.FrontError.TheVariants.{NoMemory, ReadFault, Refused}
-use Rattle.uc_front.specs.Denotes.{IsTextRefused, IsRefused}
+use Rattle.uc_front.specs.declared.refusal.Refusal.{Refusal}
+use Rattle.uc_front.specs.declared.refusal.Refusal.TheVariants.{NoFile, TooLong}
 
--- a refusal is right for the text
-abbrev pub IsTextError : List ℕ → List ℕ → FrontError → Type 0
-IsTextError file text (Refused r) = IsTextRefused file text r
-IsTextError file text NoMemory = Unit {0}
-IsTextError file text ReadFault = ⊥
+-- a refusal is right
+abbrev pub IsFrontError : (Refusal → Type 0) → FrontError → Type 0
+IsFrontError IsRight (Refused r) = IsRight r
+IsFrontError IsRight other = Unit {0}
 
--- a refusal is right for what is held under the file's name
-abbrev pub IsFrontError : List ℕ → Option (List ℕ) → FrontError → Type 0
-IsFrontError file held (Refused r) = IsRefused file held r
-IsFrontError file held other = Unit {0}
+-- the same of a pass that reads no texts
+abbrev pub IsTextError : (Refusal → Type 0) → FrontError → Type 0
+IsTextError IsRight (Refused r) = IsRight r
+IsTextError IsRight NoMemory = Unit {0}
+IsTextError IsRight ReadFault = ⊥
+
+-- one file is refused, of which this is held, where so many bytes are left of the limit
+abbrev pub IsUnreadFile : Option (List ℕ) → ℕ → ℕ → Refusal → Type 0
+IsUnreadFile held file room (NoFile n) = (n ≡ file) × (held ≡ None)
+IsUnreadFile held file room (TooLong n) = (n ≡ file) × IsSomeAnd held (λ text. room < length text)
+IsUnreadFile held file room other = ⊥

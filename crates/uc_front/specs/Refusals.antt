@@ -4,28 +4,30 @@ use Rattle.uc_lexer.specs.declared.place.Place.{Place}
 use Rattle.uc_front.specs.declared.refusal.Refusal.{Refusal}
 use Rattle.uc_front.specs.declared.refusal.Refusal.TheVariants.{NoFile, TooLong, BadByte, BadNumber, OpenComment, Syntax, TooDeep, TooManyNames, NoMain, NotBuilt}
 
--- the front of the first file
-abbrev pub front : Place
-front = record { file = 0; line = 1; col = 1 }
+-- the front of the file of this number
+abbrev pub front : ℕ → Place
+front file = record { file = file; line = 1; col = 1 }
 
 abbrev pub number_of : Refusal → ℕ
-number_of TooLong = 2
+number_of (TooLong file) = 2
 number_of (BadByte p) = 3
 number_of (BadNumber p) = 4
 number_of (OpenComment p) = 5
 number_of (Syntax p) = 6
 number_of (TooDeep p) = 7
-number_of NoFile = 8
+number_of (NoFile file) = 8
 number_of NoMain = 10
 number_of (TooManyNames p) = 32
 number_of NotBuilt = 33
 
--- the place of the token at fault, or the front where it is none
+-- the place of the token at fault; where it is none, the front of the file at fault, or of the first
 abbrev pub place_of : Refusal → Place
+place_of (NoFile file) = front file
+place_of (TooLong file) = front file
 place_of (BadByte p) = p
 place_of (BadNumber p) = p
 place_of (OpenComment p) = p
 place_of (Syntax p) = p
 place_of (TooDeep p) = p
 place_of (TooManyNames p) = p
-place_of other = front
+place_of other = front 0

@@ -1,4 +1,5 @@
 -- Errors of the passes as errors of reading a design.
+use Rattle.std.specs.Prelude.{ℕ}
 use Rattle.uc_lexer.specs.declared.error.LexError.{LexError}
 use Rattle.uc_lexer.specs.declared.error.LexError.TheVariants as lex
 use Rattle.uc_lexer.specs.declared.fault.LexFault.TheVariants as lex_fault
@@ -22,8 +23,9 @@ syntactic (parse.Syntax p) = Refused (Syntax p)
 syntactic (parse.TooDeep p) = Refused (TooDeep p)
 syntactic (parse.TooManyNames p) = Refused (TooManyNames p)
 
-abbrev pub unread : ReadError → FrontError
-unread reading.NoMemory = NoMemory
-unread reading.ReadFault = ReadFault
-unread reading.NoText = Refused NoFile
-unread reading.TooLong = Refused TooLong
+-- where the file has this number
+abbrev pub unread : ℕ → ReadError → FrontError
+unread file reading.NoMemory = NoMemory
+unread file reading.ReadFault = ReadFault
+unread file reading.NoText = Refused (NoFile file)
+unread file reading.TooLong = Refused (TooLong file)

@@ -1,36 +1,40 @@
-//! From the bytes of a text to its design.
+//! From the sources of all files to their design.
 
-ghost use Rattle.std.specs.Prelude.{◌≡◌, ◌∷◌, [], ◌≤◌, ◌<◌, codes, length, slice_get, unwrap_or, Some, IfOk, IfErr};
-ghost use Rattle.std.specs.List.{position_from};
+ghost use Rattle.std.specs.Prelude.{◌≡◌, ◌∷◌, [], ◌≤◌, ◌<◌, codes, length, map, slice_get, unwrap_or, Some, IfOk, IfErr};
+ghost use Rattle.std.specs.List.{concat, position_from};
 ghost use Rattle.std.specs.Str.{bytes_eq};
-ghost use Rattle.uc_forms.specs.Answer.{spelled};
-ghost use Rattle.uc_syntax.specs.Mentions.{NamesBelow, FilesBelow, modules_mention};
 ghost use Rattle.uc_meaning.specs.Fragment.{InFragment};
-ghost use Rattle.uc_front.specs.Denotes.{HasAnswer, Denotes, is_main, main_in};
+ghost use Rattle.uc_front.specs.Denotes.{AreSpelled, IsDesignOf, names_of, is_main, main_in};
 ghost use Rattle.uc_front.specs.Errors.{IsTextError};
-ghost use Rattle.uc_front.specs.Turning.{lexical, syntactic};
+ghost use Rattle.uc_front.specs.Refused.{IsUnbuilt, IsUnspelled};
+ghost use Rattle.uc_front.specs.Sources.{words_of, AreLexed, texts_of};
 
 use crate::error::FrontError;
+use crate::lexing::Source;
+use crate::parsing::{intern_all, parse_all};
+use crate::reading::MAX_FILES;
 use crate::refusal::Refusal;
 use std::alloc::Global;
 use uc_fragment::is_in_fragment;
-use uc_items::Items;
-use uc_lexer::{LexError, LexFault, MAX_TEXT, tokens};
+use uc_lexer::MAX_TEXT;
 use uc_meaning::Ordered;
-use uc_parser::{ParseError, parse};
 use uc_syntax::{Design, Module, Names};
 
-/// The design that the text of a file denotes.
-pub(crate) fn design_of(alloc: Global, file: &[u8], text: &[u8]) -> Result<Ordered, FrontError>
-    requires { length text.now ≤ MAX_TEXT }
-    ensures denotes { IfOk result (Denotes file.now text.now) }
+/// The design that the sources of these files spell, if it runs today.
+pub(crate) fn design_of(
+    alloc: Global,
+    files: &[&str],
+    sources: &[Source],
+) -> Result<Ordered, FrontError>
+    requires few { length sources.now ≤ MAX_FILES }
+    requires count { length sources.now ≡ length files.now }
+    requires within { length (concat (texts_of sources.now)) ≤ MAX_TEXT }
+    requires lexed { AreLexed 0 sources.now }
+    ensures denotes { IfOk result (IsDesignOf (words_of files.now) sources.now) }
     ensures runs { IfOk result InFragment }
-    ensures refused { IfErr result (IsTextError file.now text.now) }
+    ensures refused { IfErr result (IsTextError (IsUnbuilt (words_of files.now) sources.now)) }
 {
-    let Parsed { names, modules } = read_modules(alloc, file, text)?;
-    let mut files = Items::new(alloc);
-    files.push(0)?;
-    let design = Design::of(alloc, names, files, modules)?;
+    let design = spelled(alloc, files, sources)?;
     let Some(main) = main_in(design.names(), design.modules().as_slice()) else {
         return Err(FrontError::Refused(Refusal::NoMain));
     };
@@ -43,58 +47,21 @@ pub(crate) fn design_of(alloc: Global, file: &[u8], text: &[u8]) -> Result<Order
     Ok(Ordered::of(design, main))
 }
 
-/// Modules with the names that they mention.
-#[derive(Drop)]
-struct Parsed {
-    names: Names,
-    modules: Items<Module>,
-}
-
-/// The modules that the text of a file spells.
-fn read_modules(alloc: Global, file: &[u8], text: &[u8]) -> Result<Parsed, FrontError>
-    requires { length text.now ≤ MAX_TEXT }
-    ensures spelled { IfOk result (λ p. HasAnswer file.now text.now p.names (spelled p.modules)) }
-    ensures names_known { IfOk result (λ p. NamesBelow (length p.names) (modules_mention p.modules)) }
-    ensures files_known { IfOk result (λ p. FilesBelow 1 (modules_mention p.modules)) }
-    ensures file_named { IfOk result (λ p. 0 < length p.names) }
-    ensures refused { IfErr result (IsTextError file.now text.now) }
+/// The design of the modules that the texts spell.
+fn spelled(alloc: Global, files: &[&str], sources: &[Source]) -> Result<Design, FrontError>
+    requires few { length sources.now ≤ MAX_FILES }
+    requires count { length sources.now ≡ length files.now }
+    requires within { length (concat (texts_of sources.now)) ≤ MAX_TEXT }
+    requires lexed { AreLexed 0 sources.now }
+    ensures names { IfOk result (λ d. d.names ≡ names_of (words_of files.now) sources.now) }
+    ensures files { IfOk result (λ d. map (slice_get d.names) d.files ≡ map (λ f. Some f) (words_of files.now)) }
+    ensures modules { IfOk result (λ d. AreSpelled d.names sources.now d.modules) }
+    ensures refused { IfErr result (IsTextError (IsUnspelled (names_of (words_of files.now) sources.now) sources.now)) }
 {
-    let tokens = match tokens(alloc, 0, text) {
-        Ok(tokens) => tokens,
-        Err(error) => return Err(lexical(error)),
-    };
     let mut names = Names::new(alloc);
-    names.intern(alloc, file)?;
-    match parse(alloc, &mut names, 0, text, tokens.as_slice()) {
-        Ok(modules) => Ok(Parsed { names, modules }),
-        Err(error) => Err(syntactic(error)),
-    }
-}
-
-fn lexical(error: LexError) -> FrontError
-    ensures { result ≡ lexical error }
-{
-    match error {
-        LexError::NoMemory => FrontError::NoMemory,
-        LexError::Fault(LexFault::BadByte(place)) => FrontError::Refused(Refusal::BadByte(place)),
-        LexError::Fault(LexFault::BadNumber(place)) => {
-            FrontError::Refused(Refusal::BadNumber(place))
-        }
-        LexError::Fault(LexFault::OpenComment(place)) => {
-            FrontError::Refused(Refusal::OpenComment(place))
-        }
-    }
-}
-
-fn syntactic(error: ParseError) -> FrontError
-    ensures { result ≡ syntactic error }
-{
-    match error {
-        ParseError::NoMemory => FrontError::NoMemory,
-        ParseError::Syntax(place) => FrontError::Refused(Refusal::Syntax(place)),
-        ParseError::TooDeep(place) => FrontError::Refused(Refusal::TooDeep(place)),
-        ParseError::TooManyNames(place) => FrontError::Refused(Refusal::TooManyNames(place)),
-    }
+    let files = intern_all(alloc, &mut names, files)?;
+    let modules = parse_all(alloc, &mut names, sources)?;
+    Ok(Design::of(alloc, names, files, modules)?)
 }
 
 /// The number of the first module that is called `main`.

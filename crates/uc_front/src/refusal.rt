@@ -1,17 +1,17 @@
-//! Why a text is refused.
+//! Why texts are refused.
 
 ghost use Rattle.std.specs.Prelude.{◌≡◌};
-ghost use Rattle.uc_front.specs.Refusals.{number_of, place_of};
+ghost use Rattle.uc_front.specs.Refusals.{front, number_of, place_of};
 
 use uc_lexer::Place;
 
-/// Why the texts are not accepted. Each has a number for users.
+/// Why the texts are not accepted. Each has a number for users. Files are numbered from 0, by their places.
 #[derive(Clone, Copy, Debug, PartialEq, Eq)]
 pub enum Refusal {
-    /// No text has the name.
-    NoFile,
-    /// The text has too many bytes.
-    TooLong,
+    /// No text has the name of the file of this number.
+    NoFile(u16),
+    /// With the text of the file of this number the texts have too many bytes.
+    TooLong(u16),
     /// A byte begins no token.
     BadByte(Place),
     /// A number is too large, or has a letter behind it.
@@ -36,20 +36,20 @@ impl Refusal {
         ensures { result ≡ number_of self }
     {
         match self {
-            Refusal::TooLong => 2,
+            Refusal::TooLong(_) => 2,
             Refusal::BadByte(_) => 3,
             Refusal::BadNumber(_) => 4,
             Refusal::OpenComment(_) => 5,
             Refusal::Syntax(_) => 6,
             Refusal::TooDeep(_) => 7,
-            Refusal::NoFile => 8,
+            Refusal::NoFile(_) => 8,
             Refusal::NoMain => 10,
             Refusal::TooManyNames(_) => 32,
             Refusal::NotBuilt => 33,
         }
     }
 
-    /// Where the text is at fault: the front of the file where no token is.
+    /// Where the texts are at fault: the front of the file at fault, or of the first, where no token is.
     pub fn place(self) -> Place
         ensures { result ≡ place_of self }
     {
@@ -60,11 +60,19 @@ impl Refusal {
             | Refusal::Syntax(place)
             | Refusal::TooDeep(place)
             | Refusal::TooManyNames(place) => place,
-            _ => Place {
-                file: 0,
-                line: 1,
-                col: 1,
-            },
+            Refusal::NoFile(file) | Refusal::TooLong(file) => front(file),
+            Refusal::NoMain | Refusal::NotBuilt => front(0),
         }
+    }
+}
+
+/// The front of the file of this number.
+fn front(file: u16) -> Place
+    ensures { result ≡ front file }
+{
+    Place {
+        file,
+        line: 1,
+        col: 1,
     }
 }

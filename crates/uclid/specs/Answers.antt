@@ -1,24 +1,18 @@
 -- What a run is to answer to its words and its texts.
-use Rattle.std.specs.Prelude.{◌≡◌, ℕ, Bool, true, false, not, ◌&&◌, nat_le, nat_eq, codes, decimal, IsTrue, List, [], ◌∷◌, ◌++◌, map, length, Option, Some, None}
-use Rattle.std.proofs.Common.{Bor}
+use Rattle.std.specs.Prelude.{◌≡◌, ℕ, Bool, true, false, not, ◌&&◌, nat_le, nat_eq, codes, decimal, IsTrue, List, [], ◌∷◌, ◌++◌, length, slice_get, unwrap_or, Option, Some, None}
 use Rattle.std.specs.List.{list_all}
-use Rattle.uc_meaning.specs.Lookup.{System}
 use Rattle.uc_control.specs.Reports.{status}
 use Rattle.uc_control.specs.Text.{report_text}
 use Rattle.uc_front.specs.declared.refusal.Refusal.{Refusal}
-use Rattle.uc_front.specs.declared.refusal.Refusal.TheVariants.{NotBuilt}
 use Rattle.uc_front.specs.Refusals.{number_of, place_of}
-use Rattle.uc_front.specs.Denotes.{IsAccepted, IsRefused}
+use Rattle.uc_front.specs.Denotes.{IsAccepted}
+use Rattle.uc_front.specs.Refused.{IsRefused}
 use Rattle.uc_judge.specs.Reports.{IsReport}
 use Rattle.uclid.specs.declared.answer.Session.{Session}
 use Rattle.uclid.specs.declared.answer.Answer.{Answer}
 use Rattle.uclid.specs.declared.answer.Answer.TheVariants.{Usage, Refused, Reported}
 
 -- ---- words
-
--- the bytes of each word
-abbrev pub words_of : List (Bor (List ℕ)) → List (List ℕ)
-words_of words = map (λ w. w.now) words
 
 abbrev pub begins_with_dash : List ℕ → Bool
 begins_with_dash [] = false
@@ -32,25 +26,21 @@ are_names words = list_all (λ w. not (begins_with_dash w)) words
 abbrev pub is_form : List (List ℕ) → Bool
 is_form words = nat_le 1 (length words) && (nat_le (length words) 256 && are_names words)
 
-abbrev pub first_of : List (List ℕ) → List ℕ
-first_of [] = []
-first_of (w ∷ ws) = w
+-- the word of a number, none where there is none
+abbrev pub word_at : List (List ℕ) → ℕ → List ℕ
+word_at words n = unwrap_or (slice_get words n) []
 
 -- ---- answers
 
--- The answer to one file, given what is held under its name, where this is told.
-abbrev pub IsFileAnswer : Bool → List ℕ → Option (List ℕ) → Answer → Type 0
-IsFileAnswer tells file held Usage = ⊥
-IsFileAnswer tells file held (Refused r) = IsTrue tells → IsRefused file held r
-IsFileAnswer tells file held (Reported s) = IsReport s.design s.report × (IsTrue tells → IsAccepted file held s.design)
+-- The answer to files, given what is held under their names, where this is told.
+abbrev pub IsFilesAnswer : Bool → List (List ℕ) → (List ℕ → Option (List ℕ)) → Answer → Type 0
+IsFilesAnswer tells files held Usage = ⊥
+IsFilesAnswer tells files held (Refused r) = IsTrue tells → IsRefused held files r
+IsFilesAnswer tells files held (Reported s) = IsReport s.design s.report × (IsTrue tells → IsAccepted held files s.design)
 
--- Words that are not of the form are answered with the usage line; several files are not built yet.
-abbrev pub IsFormAnswer : Bool → List (List ℕ) → (List ℕ → Option (List ℕ)) → Answer → Type 0
-IsFormAnswer tells (file ∷ []) held a = IsFileAnswer tells file (held file) a
-IsFormAnswer tells words held a = a ≡ Refused NotBuilt
-
+-- Words that are not of the form are answered with the usage line; else each is the name of a file.
 abbrev pub IsAnswerFor : Bool → Bool → List (List ℕ) → (List ℕ → Option (List ℕ)) → Answer → Type 0
-IsAnswerFor true tells words held a = IsFormAnswer tells words held a
+IsAnswerFor true tells words held a = IsFilesAnswer tells words held a
 IsAnswerFor false tells words held a = a ≡ Usage
 
 abbrev pub IsAnswer : Bool → List (List ℕ) → (List ℕ → Option (List ℕ)) → Answer → Type 0
@@ -70,10 +60,11 @@ session_of other = None
 abbrev pub usage_line : List ℕ
 usage_line = codes "usage: uclid [--main NAME] [--budget N] FILE... or uclid --ring N [--budget N]\n"
 
+-- the line of a refusal, with the name of the file that it is in
 unfoldable pub error_line : List ℕ → Refusal → List ℕ
 error_line file r = codes "error " ++ decimal (number_of r) ++ codes " in " ++ file ++ codes " at line " ++ decimal (place_of r).line ++ codes ", column " ++ decimal (place_of r).col ++ codes "\n"
 
 abbrev pub text_of : List (List ℕ) → Answer → List ℕ
 text_of words Usage = usage_line
-text_of words (Refused r) = error_line (first_of words) r
+text_of words (Refused r) = error_line (word_at words (place_of r).file) r
 text_of words (Reported s) = report_text s.design s.report

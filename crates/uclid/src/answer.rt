@@ -1,14 +1,15 @@
 //! What a run is to answer, before a byte is written.
 
-ghost use Rattle.std.specs.Prelude.{◌≡◌, ◌≤◌, IsTrue, IsErrOf, IfOk};
+ghost use Rattle.std.specs.Prelude.{◌≡◌, ◌≤◌, length, IsTrue, IsErrOf, IfOk};
 ghost use Rattle.uc_io.specs.Faults.{Rose};
+ghost use Rattle.uc_front.specs.Sources.{words_of};
 ghost use Rattle.uc_judge.specs.Reports.{IsReport};
 ghost use Rattle.uclid.specs.declared.answer.Stop.TheVariants.{NoMemory, ReadFault};
-ghost use Rattle.uclid.specs.Answers.{words_of, is_form, are_names, IsAnswer, IsFileAnswer, begins_with_dash, status_of, session_of};
+ghost use Rattle.uclid.specs.Answers.{is_form, are_names, IsAnswer, IsFilesAnswer, begins_with_dash, status_of, session_of};
 
 use std::alloc::Global;
 use uc_control::{Report, status_of};
-use uc_front::{FrontError, Refusal, read_design};
+use uc_front::{FrontError, MAX_FILES, Refusal, read_design};
 use uc_io::Texts;
 use uc_judge::run_control;
 use uc_meaning::{EvalError, Ordered};
@@ -46,8 +47,6 @@ impl From<EvalError> for Stop {
     }
 }
 
-const MOST_FILES: usize = 256;
-
 /// What the words and the texts lead to.
 pub(crate) fn decide<X: Texts>(alloc: Global, words: &[&str], texts: &mut X) -> Result<Answer, Stop>
     ensures answer { IfOk result (IsAnswer (X.tells texts.old) (words_of words.now) (X.held texts.old)) }
@@ -60,22 +59,20 @@ pub(crate) fn decide<X: Texts>(alloc: Global, words: &[&str], texts: &mut X) -> 
     if !is_form(words) {
         return Ok(Answer::Usage);
     }
-    match words {
-        [file] => answer_file(alloc, file, texts),
-        _ => Ok(Answer::Refused(Refusal::NotBuilt)),
-    }
+    answer_files(alloc, words, texts)
 }
 
-/// What the text of one file leads to.
-fn answer_file<X: Texts>(alloc: Global, file: &str, texts: &mut X) -> Result<Answer, Stop>
-    ensures answer { IfOk result (IsFileAnswer (X.tells texts.old) file.now (X.held texts.old file.now)) }
+/// What the texts of files lead to.
+fn answer_files<X: Texts>(alloc: Global, files: &[&str], texts: &mut X) -> Result<Answer, Stop>
+    requires { length files.now ≤ MAX_FILES }
+    ensures answer { IfOk result (IsFilesAnswer (X.tells texts.old) (words_of files.now) (X.held texts.old)) }
     ensures cause { IsErrOf result Stop.ReadFault → Rose (X.faults texts.old) (X.faults texts.new) }
     ensures no_fault { (¬ IsErrOf result Stop.ReadFault) → X.faults texts.new ≡ X.faults texts.old }
     ensures later { X.faults texts.old ≤ X.faults texts.new }
     ensures telling { X.tells texts.new ≡ X.tells texts.old }
     ensures holding { X.held texts.new ≡ X.held texts.old }
 {
-    match read_design(alloc, texts, file) {
+    match read_design(alloc, texts, files) {
         Ok(design) => {
             let report = run_control(alloc, &design)?;
             Ok(Answer::Reported(Session { design, report }))
@@ -90,7 +87,7 @@ fn answer_file<X: Texts>(alloc: Global, file: &str, texts: &mut X) -> Result<Ans
 fn is_form(words: &[&str]) -> bool
     ensures { result ≡ is_form (words_of words.now) }
 {
-    !words.is_empty() && words.len() <= MOST_FILES && are_names(words)
+    !words.is_empty() && words.len() <= MAX_FILES && are_names(words)
 }
 
 /// Whether no word begins with `-`.

@@ -1,4 +1,4 @@
-//! The top call of the verifier: from the words of a command line and the bytes of a file to the bytes of a report.
+//! The top call of the verifier: from the words of a command line and the bytes of files to the bytes of a report.
 #![tactic(auto)]
 
 mod answer;

@@ -1,7 +1,8 @@
 //! The bytes of an answer.
 
 ghost use Rattle.std.specs.Prelude.{◌≡◌, ◌++◌, ◌<◌, decimal, length, IfOk, OnOk};
-ghost use Rattle.uclid.specs.Answers.{words_of, error_line, text_of, first_of};
+ghost use Rattle.uclid.specs.Answers.{error_line, text_of, word_at};
+ghost use Rattle.uc_front.specs.Sources.{words_of};
 ghost use Rattle.uc_control.specs.Text.{report_text};
 
 use crate::answer::{Answer, Session};
@@ -19,18 +20,21 @@ pub(crate) fn text_of(alloc: Global, words: &[&str], answer: &Answer) -> Result<
 {
     match answer {
         Answer::Usage => Vec::from_slice(alloc, USAGE),
-        Answer::Refused(refusal) => error_line(alloc, first(words), *refusal),
+        Answer::Refused(refusal) => {
+            let file = word_at(words, usize::from(refusal.place().file));
+            error_line(alloc, file, *refusal)
+        }
         Answer::Reported(session) => session_text(alloc, session),
     }
 }
 
-/// The first word, none where there is none.
-fn first<'a>(words: &[&'a str]) -> &'a [u8]
-    ensures { result.now ≡ first_of (words_of words.now) }
+/// The word of a number, none where there is none.
+fn word_at<'a>(words: &[&'a str], number: usize) -> &'a [u8]
+    ensures { result.now ≡ word_at (words_of words.now) number }
 {
-    match words {
-        [word, ..] => word.as_bytes(),
-        [] => &[],
+    match words.get(number) {
+        Some(word) => word.as_bytes(),
+        None => &[],
     }
 }
 

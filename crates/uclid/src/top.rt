@@ -1,7 +1,7 @@
 //! The top call.
 
 ghost use Rattle.std.specs.Prelude.{◌≡◌, ◌≤◌, None};
-ghost use Rattle.uclid.specs.Answers.{words_of};
+ghost use Rattle.uc_front.specs.Sources.{words_of};
 ghost use Rattle.uclid.specs.Runs.{Ends, HasWritten};
 
 use crate::answer::{Answer, Session, Stop, decide, session_of, status_of_answer};
@@ -16,9 +16,9 @@ pub struct Outcome {
     pub session: Option<Session>,
 }
 
-/// Reads the file that the words name, judges its design, and writes the report.
+/// Reads the files that the words name, in order, judges their design, and writes the report.
 ///
-/// Statuses: 0 where all lines passed, 1 where one failed, 3 where the text is refused (an error line is written), 4 where the
+/// Statuses: 0 where all lines passed, 1 where one failed, 3 where the texts are refused (an error line is written), 4 where the
 /// words are none (the usage line is written), 5 after a fault of the texts, 6 after a fault of the sink, 7 for want of memory.
 pub fn run<X: Texts, K: Sink>(alloc: Global, words: &[&str], texts: &mut X, out: &mut K) -> Outcome
     ensures ends { Ends (X.tells texts.old) (words_of words.now) (X.held texts.old) (X.faults texts.old) (X.faults texts.new)

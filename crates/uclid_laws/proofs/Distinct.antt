@@ -1,5 +1,5 @@
 -- Names that get their numbers in order are distinct.
-use Rattle.std.proofs.Common.{◌≡◌, ◌⊎◌, inl, inr, ℕ, zero, suc, Bool, true, false, ◌||◌, List, [], ◌∷◌, ◌++◌, slice_get, Option, Some, None, refl, sym, ap, subst, ◌∙◌, true≢false}
+use Rattle.std.proofs.Common.{◌≡◌, ◌⊎◌, inl, inr, ℕ, zero, suc, Bool, true, false, ◌||◌, List, [], ◌∷◌, ◌++◌, fold, slice_get, Option, Some, None, refl, sym, ap, subst, ◌∙◌, true≢false}
 use Rattle.std.specs.Str.{bytes_eq}
 use Rattle.std.specs.List.{list_any}
 use Rattle.std.proofs.lemmas.Slice.Eq.{bytes_eq-Decides}
@@ -9,6 +9,8 @@ use Rattle.uc_syntax.proofs.Numbering.{known_stays, new_at_end}
 use Rattle.uc_grammar.specs.declared.word.Kind.{Kind}
 use Rattle.uc_words.specs.Fixed.{fixed_kind}
 use Rattle.uc_words.specs.Words.{bytes_of, with_kind, with_token, with_tokens}
+use Rattle.uc_front.specs.declared.lexing.Source.{Source}
+use Rattle.uc_front.specs.Denotes.{with_source, names_of}
 
 or_parts : (a b : Bool) → (a || b) ≡ false → (a ≡ false) × (b ≡ false)
 or_parts true b h = cc
@@ -66,11 +68,20 @@ kind_distinct : (kind : Option Kind) (names : List (List ℕ)) (bytes : List ℕ
 kind_distinct (Some fixed) names bytes d = d
 kind_distinct None names bytes d = text_distinct names bytes d
 
-pub tokens_distinct : (names : List (List ℕ)) (text : List ℕ) (tokens : List Token) → AreDistinct names → AreDistinct (with_tokens names text tokens)
+tokens_distinct : (names : List (List ℕ)) (text : List ℕ) (tokens : List Token) → AreDistinct names → AreDistinct (with_tokens names text tokens)
 tokens_distinct names text [] d = d
 tokens_distinct names text (token ∷ tokens) d = tokens_distinct (with_token text names token) text tokens (kind_distinct (fixed_kind token.kind) names (bytes_of text token) d)
 
-pub one_distinct : (name : List ℕ) → AreDistinct (name ∷ [])
-one_distinct name zero zero t a b = refl
-one_distinct name zero (suc j) t a b = absurd cc
-one_distinct name (suc i) j t a b = absurd cc
+files_distinct : (names files : List (List ℕ)) → AreDistinct names → AreDistinct (fold with_text names files)
+files_distinct names [] d = d
+files_distinct names (f ∷ fs) d = files_distinct (with_text names f) fs (text_distinct names f d)
+
+sources_distinct : (names : List (List ℕ)) (sources : List Source) → AreDistinct names → AreDistinct (fold with_source names sources)
+sources_distinct names [] d = d
+sources_distinct names (s ∷ ss) d = sources_distinct (with_source names s) ss (tokens_distinct names s.text s.tokens d)
+
+none_distinct : AreDistinct []
+none_distinct i j t a b = absurd cc
+
+pub names_distinct : (files : List (List ℕ)) (sources : List Source) → AreDistinct (names_of files sources)
+names_distinct files sources = sources_distinct (fold with_text [] files) sources (files_distinct [] files none_distinct)

@@ -1,26 +1,20 @@
--- How runs on one file end.
-use Rattle.std.proofs.Common.{◌≡◌, ◌⊎◌, inl, inr, ℕ, Bool, true, false, List, [], ◌∷◌, Option, Some, None, refl, subst}
+-- How runs on files end.
+use Rattle.std.proofs.Common.{◌≡◌, ◌⊎◌, inl, inr, ℕ, Bool, true, false, List, Option, Some, None, refl, subst}
 use Rattle.std.specs.Prelude.{if◌then◌else◌}
 use Rattle.std.specs.List.{list_any}
 use Rattle.uc_io.specs.Faults.{Rose}
-use Rattle.uc_meaning.specs.Lookup.{System}
 use Rattle.uc_control.specs.declared.report.Report.{Report}
 use Rattle.uc_control.specs.Reports.{status, is_failed}
-use Rattle.uc_front.specs.Denotes.{IsAccepted}
 use Rattle.uclid.specs.declared.answer.Session.{Session}
 use Rattle.uclid.specs.declared.answer.Answer.{Answer}
 use Rattle.uclid.specs.declared.answer.Answer.TheVariants.{Usage, Refused, Reported}
-use Rattle.uclid.specs.Answers.{is_form, IsFileAnswer, IsAnswerFor, status_of, session_of, text_of}
+use Rattle.uclid.specs.Answers.{is_form, IsFilesAnswer, IsAnswerFor, status_of, session_of, text_of}
 use Rattle.uclid.specs.Runs.{Wrote, WroteFront}
 use Rattle.uclid_laws.specs.Laws.{EndedByFault, HasSession, AcceptedRuns, RefusedRuns}
 use Rattle.uclid_laws.proofs.Designs.{one_design, never_both}
 
-file_answer : (file : List ℕ) (held : List ℕ → Option (List ℕ)) (a : Answer) → is_form (file ∷ []) ≡ true → IsAnswerFor (is_form (file ∷ [])) true (file ∷ []) held a → IsFileAnswer true file (held file) a
-file_answer file held a form right = subst (λ b. IsAnswerFor b true (file ∷ []) held a) form right
-
-same_design : (file : List ℕ) (held : Option (List ℕ)) (one other : System) → IsAccepted file held one → IsAccepted file held other → one ≡ other
-same_design file None one other h k = absurd h
-same_design file (Some text) one other h k = one_design file text one other h.1 k.1
+files_answer : (files : List (List ℕ)) (held : List ℕ → Option (List ℕ)) (a : Answer) → is_form files ≡ true → IsAnswerFor (is_form files) true files held a → IsFilesAnswer true files held a
+files_answer files held a form right = subst (λ b. IsAnswerFor b true files held a) form right
 
 status_bit : (b : Bool) (n : ℕ) → n ≡ (if b then 1 else 0) → (n ≡ 0) ⊎ (n ≡ 1)
 status_bit true n e = inr e
@@ -30,44 +24,44 @@ report_status : (r : Report) (n : ℕ) → n ≡ status r → (n ≡ 0) ⊎ (n �
 report_status r n e = status_bit (list_any (λ l. is_failed l.verdict) r.lines) n e
 
 pub accepted_runs : AcceptedRuns
-accepted_runs file held system tf tn st taken now f n o form accepted (inl e) = by e.0 e.1.session e.1.written (file_answer file held e.0 form e.1.right)
+accepted_runs files held system tf tn st taken now f n o form accepted (inl e) = by e.0 e.1.session e.1.written (files_answer files held e.0 form e.1.right)
   where
     Done : Type 0
     Done = (HasSession system o × ((o.status ≡ 0) ⊎ (o.status ≡ 1))) ⊎ EndedByFault tf tn f n o ⊎ (o.status ≡ 7)
 
     Written : Answer → Type 0
-    Written a = ((o.status ≡ status_of a) × Wrote st taken now (text_of (file ∷ []) a)) ⊎ ((o.status ≡ 6) × WroteFront st taken now f n (text_of (file ∷ []) a))
+    Written a = ((o.status ≡ status_of a) × Wrote st taken now (text_of files a)) ⊎ ((o.status ≡ 6) × WroteFront st taken now f n (text_of files a))
 
     ends : (s : Session) → o.session ≡ Some s → s.design ≡ system → ((o.status ≡ status s.report) ⊎ ((o.status ≡ 6) × Rose f n)) → Done
     ends s session same (inl w) = inl ((s, session, same), report_status s.report o.status w)
     ends s session same (inr w) = inr (inl (inr w))
 
-    by : (a : Answer) → o.session ≡ session_of a → Written a → IsFileAnswer true file (held file) a → Done
+    by : (a : Answer) → o.session ≡ session_of a → Written a → IsFilesAnswer true files held a → Done
     by Usage session w right = absurd right
-    by (Refused r) session w right = absurd (never_both file (held file) system r accepted (right refl))
-    by (Reported s) session (inl w) right = ends s session (same_design file (held file) s.design system (right.1 refl) accepted) (inl w.0)
-    by (Reported s) session (inr w) right = ends s session (same_design file (held file) s.design system (right.1 refl) accepted) (inr (w.0, w.1.1))
-accepted_runs file held system tf tn st taken now f n o form accepted (inr e) = by e.status
+    by (Refused r) session w right = absurd (never_both held files system r accepted (right refl))
+    by (Reported s) session (inl w) right = ends s session (one_design held files s.design system (right.1 refl).0 accepted.0) (inl w.0)
+    by (Reported s) session (inr w) right = ends s session (one_design held files s.design system (right.1 refl).0 accepted.0) (inr (w.0, w.1.1))
+accepted_runs files held system tf tn st taken now f n o form accepted (inr e) = by e.status
   where
     by : ((o.status ≡ 5) × Rose tf tn) ⊎ (o.status ≡ 7) → (HasSession system o × ((o.status ≡ 0) ⊎ (o.status ≡ 1))) ⊎ EndedByFault tf tn f n o ⊎ (o.status ≡ 7)
     by (inl w) = inr (inl (inl w))
     by (inr w) = inr (inr w)
 
 pub refused_runs : RefusedRuns
-refused_runs file held refusal tf tn st taken now f n o form refused (inl e) = by e.0 e.1.session e.1.written (file_answer file held e.0 form e.1.right)
+refused_runs files held refusal tf tn st taken now f n o form refused (inl e) = by e.0 e.1.session e.1.written (files_answer files held e.0 form e.1.right)
   where
     Done : Type 0
     Done = (o.session ≡ None) × ((o.status ≡ 3) ⊎ EndedByFault tf tn f n o ⊎ (o.status ≡ 7))
 
     Written : Answer → Type 0
-    Written a = ((o.status ≡ status_of a) × Wrote st taken now (text_of (file ∷ []) a)) ⊎ ((o.status ≡ 6) × WroteFront st taken now f n (text_of (file ∷ []) a))
+    Written a = ((o.status ≡ status_of a) × Wrote st taken now (text_of files a)) ⊎ ((o.status ≡ 6) × WroteFront st taken now f n (text_of files a))
 
-    by : (a : Answer) → o.session ≡ session_of a → Written a → IsFileAnswer true file (held file) a → Done
+    by : (a : Answer) → o.session ≡ session_of a → Written a → IsFilesAnswer true files held a → Done
     by Usage session w right = absurd right
     by (Refused r) session (inl w) right = (session, inl w.0)
     by (Refused r) session (inr w) right = (session, inr (inl (inr (w.0, w.1.1))))
-    by (Reported s) session w right = absurd (never_both file (held file) s.design refusal (right.1 refl) refused)
-refused_runs file held refusal tf tn st taken now f n o form refused (inr e) = (e.session, by e.status)
+    by (Reported s) session w right = absurd (never_both held files s.design refusal (right.1 refl) refused)
+refused_runs files held refusal tf tn st taken now f n o form refused (inr e) = (e.session, by e.status)
   where
     by : ((o.status ≡ 5) × Rose tf tn) ⊎ (o.status ≡ 7) → (o.status ≡ 3) ⊎ EndedByFault tf tn f n o ⊎ (o.status ≡ 7)
     by (inl w) = inr (inl (inl w))

@@ -1,5 +1,5 @@
 -- What the answers of a run mean.
-use Rattle.std.specs.Prelude.{◌≡◌, ◌⊎◌, ℕ, ◌≤◌, Bool, true, List, [], ◌∷◌, ◌++◌, length, Option, Some, None}
+use Rattle.std.specs.Prelude.{◌≡◌, ◌⊎◌, ℕ, ◌≤◌, Bool, true, List, ◌∷◌, ◌++◌, length, Option, Some, None}
 use Rattle.std.specs.List.{list_any, All}
 use Rattle.uc_lexer.specs.declared.place.Place.{Place}
 use Rattle.uc_syntax.specs.declared.place.Identifier.{Identifier}
@@ -13,20 +13,21 @@ use Rattle.uc_control.specs.declared.report.Report.{Report}
 use Rattle.uc_control.specs.Reports.{is_passed}
 use Rattle.uc_judge.specs.Reports.{IsReport}
 use Rattle.uc_front.specs.declared.refusal.Refusal.{Refusal}
-use Rattle.uc_front.specs.Denotes.{Denotes, IsAccepted, IsRefused}
+use Rattle.uc_front.specs.Denotes.{Denotes, IsAccepted}
+use Rattle.uc_front.specs.Refused.{IsRefused}
 use Rattle.uc_io.specs.Faults.{Rose}
 use Rattle.uclid.specs.declared.answer.Session.{Session}
 use Rattle.uclid.specs.declared.top.Outcome.{Outcome}
 use Rattle.uclid.specs.Answers.{is_form}
 use Rattle.uclid.specs.Runs.{Ends}
 
--- the text of a file denotes at most one design
+-- what is held under the files' names denotes at most one design
 abbrev pub OneDesign : Type 0
-OneDesign = (file text : List ℕ) (one other : System) → Denotes file text one → Denotes file text other → one ≡ other
+OneDesign = (held : List ℕ → Option (List ℕ)) (files : List (List ℕ)) (one other : System) → Denotes held files one → Denotes held files other → one ≡ other
 
--- what is held under a file's name is not both accepted and refused
+-- what is held under the files' names is not both accepted and refused
 abbrev pub NeverBoth : Type 0
-NeverBoth = (file : List ℕ) (held : Option (List ℕ)) (system : System) (refusal : Refusal) → IsAccepted file held system → IsRefused file held refusal → ⊥
+NeverBoth = (held : List ℕ → Option (List ℕ)) (files : List (List ℕ)) (system : System) (refusal : Refusal) → IsAccepted held files system → IsRefused held files refusal → ⊥
 
 -- A run ended by a fault: status 5 where the texts counted one, 6 where the sink did.
 abbrev pub EndedByFault : ℕ → ℕ → ℕ → ℕ → Outcome → Type 0
@@ -36,20 +37,20 @@ EndedByFault texts_faults texts_faults_now faults faults_now o = ((o.status ≡ 
 abbrev pub HasSession : System → Outcome → Type 0
 HasSession system o = (s : Session) × (o.session ≡ Some s) × (s.design ≡ system)
 
--- Where the bytes of one file are accepted as a design, a run on it ends with the status of its report and a session of just that design, but for a fault, which was counted, and want of memory.
+-- Where the bytes of the files are accepted as a design, a run on them ends with the status of its report and a session of just that design, but for a fault, which was counted, and want of memory.
 abbrev pub AcceptedRuns : Type 0
 AcceptedRuns =
-    (file : List ℕ) (held : List ℕ → Option (List ℕ)) (system : System) (texts_faults texts_faults_now : ℕ) (sink_tells : Bool) (taken taken_now : List ℕ) (faults faults_now : ℕ) (o : Outcome) →
-    is_form (file ∷ []) ≡ true → IsAccepted file (held file) system →
-    Ends true (file ∷ []) held texts_faults texts_faults_now sink_tells taken taken_now faults faults_now o →
+    (files : List (List ℕ)) (held : List ℕ → Option (List ℕ)) (system : System) (texts_faults texts_faults_now : ℕ) (sink_tells : Bool) (taken taken_now : List ℕ) (faults faults_now : ℕ) (o : Outcome) →
+    is_form files ≡ true → IsAccepted held files system →
+    Ends true files held texts_faults texts_faults_now sink_tells taken taken_now faults faults_now o →
     (HasSession system o × ((o.status ≡ 0) ⊎ (o.status ≡ 1))) ⊎ EndedByFault texts_faults texts_faults_now faults faults_now o ⊎ (o.status ≡ 7)
 
--- Where they are refused, a run on it ends with status 3 and without a session, but for the same.
+-- Where they are refused, a run on them ends with status 3 and without a session, but for the same.
 abbrev pub RefusedRuns : Type 0
 RefusedRuns =
-    (file : List ℕ) (held : List ℕ → Option (List ℕ)) (refusal : Refusal) (texts_faults texts_faults_now : ℕ) (sink_tells : Bool) (taken taken_now : List ℕ) (faults faults_now : ℕ) (o : Outcome) →
-    is_form (file ∷ []) ≡ true → IsRefused file (held file) refusal →
-    Ends true (file ∷ []) held texts_faults texts_faults_now sink_tells taken taken_now faults faults_now o →
+    (files : List (List ℕ)) (held : List ℕ → Option (List ℕ)) (refusal : Refusal) (texts_faults texts_faults_now : ℕ) (sink_tells : Bool) (taken taken_now : List ℕ) (faults faults_now : ℕ) (o : Outcome) →
+    is_form files ≡ true → IsRefused held files refusal →
+    Ends true files held texts_faults texts_faults_now sink_tells taken taken_now faults faults_now o →
     (o.session ≡ None) × ((o.status ≡ 3) ⊎ EndedByFault texts_faults texts_faults_now faults faults_now o ⊎ (o.status ≡ 7))
 
 -- all lines of the command of a number passed

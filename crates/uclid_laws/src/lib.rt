@@ -1,25 +1,25 @@
-//! What the answers of a run mean: a text denotes at most one design and is never both accepted and refused, and lines that
+//! What the answers of a run mean: texts denote at most one design and are never both accepted and refused, and lines that
 //! passed say what holds in all runs.
 #![tactic(auto)]
 
 ghost use Rattle.uclid_laws.specs.Laws.{OneDesign, NeverBoth, AcceptedRuns, RefusedRuns, PassedInduction, PassedUnroll};
 
-/// A text denotes at most one design.
+/// The texts of files denote at most one design.
 pub fn one_design()
     ensures { OneDesign }
 {}
 
-/// No text is both accepted and refused.
+/// No texts are both accepted and refused.
 pub fn never_both()
     ensures { NeverBoth }
 {}
 
-/// Where a text is accepted, a run on it reports its one design.
+/// Where texts are accepted, a run on them reports their one design.
 pub fn accepted_runs()
     ensures { AcceptedRuns }
 {}
 
-/// Where a text is refused, a run on it answers a refusal.
+/// Where texts are refused, a run on them answers a refusal.
 pub fn refused_runs()
     ensures { RefusedRuns }
 {}

@@ -11,16 +11,19 @@ struct Ended {
     written: Vec<u8>,
 }
 
-/// A run on these words. The text stands under the name `m.ucl`. The calls of the texts and of the sink whose numbers are given fail.
+/// A run on these words. The texts stand under the names `m.ucl` and `n.ucl`. The calls of the texts and of the sink whose numbers
+/// are given fail.
 fn finish(
     alloc: Global,
     words: &[&str],
     text: &[u8],
+    second: &[u8],
     failing_reads: &[u64],
     failing_writes: &[u64],
 ) -> Result<Ended, AllocError> {
     let mut files = Vec::new(alloc);
     files.push((String::from_str(alloc, "m.ucl")?, text.to_vec(alloc)?))?;
+    files.push((String::from_str(alloc, "n.ucl")?, second.to_vec(alloc)?))?;
     let mut texts = MemTexts::new(files, 4096, failing_reads.to_vec(alloc)?);
     let mut sink = MemSink::new(alloc, 10, failing_writes.to_vec(alloc)?);
     let outcome = run(alloc, words, &mut texts, &mut sink);
@@ -120,7 +123,7 @@ const DEEP: &[u8] =
 
 fn check_rows(rt: &impl Abort, alloc: Global, rows: &[Row]) -> Result<(), AllocError> {
     for (text, status, written) in rows {
-        let ended = finish(alloc, &["m.ucl"], text, &[], &[])?;
+        let ended = finish(alloc, &["m.ucl"], text, b"", &[], &[])?;
         assert_eq!(rt; ended.status, *status);
         assert_eq!(rt; ended.written.as_slice(), *written);
     }
@@ -150,14 +153,14 @@ fn check_words(
     status: u8,
     written: &[u8],
 ) -> Result<(), AllocError> {
-    let ended = finish(alloc, words, TOGGLE, &[], &[])?;
+    let ended = finish(alloc, words, TOGGLE, b"", &[], &[])?;
     assert_eq!(rt; ended.status, status);
     assert_eq!(rt; ended.written.as_slice(), written);
     Ok(())
 }
 
 #[test]
-fn words_are_one_file(rt: HostRuntime) -> Result<(), Fail> {
+fn words_name_files(rt: HostRuntime) -> Result<(), Fail> {
     let alloc = rt.alloc();
     let many = ["m.ucl"; 257];
     check_words(&rt, alloc, &[], 4, USAGE)?;
@@ -176,7 +179,120 @@ fn words_are_one_file(rt: HostRuntime) -> Result<(), Fail> {
         alloc,
         &["m.ucl", "gone.ucl"],
         3,
+        b"error 8 in gone.ucl at line 1, column 1\n",
+    )?;
+    Ok(())
+}
+
+/// A run on these words ends so, with these texts under the names `m.ucl` and `n.ucl`.
+fn check_files(
+    rt: &impl Abort,
+    alloc: Global,
+    words: &[&str],
+    text: &[u8],
+    second: &[u8],
+    status: u8,
+    written: &[u8],
+) -> Result<(), AllocError> {
+    let ended = finish(alloc, words, text, second, &[], &[])?;
+    assert_eq!(rt; ended.status, status);
+    assert_eq!(rt; ended.written.as_slice(), written);
+    Ok(())
+}
+
+/// A run on two files with these texts is refused with this line.
+fn check_two(
+    rt: &impl Abort,
+    alloc: Global,
+    text: &[u8],
+    second: &[u8],
+    line: &[u8],
+) -> Result<(), AllocError> {
+    check_files(rt, alloc, &["m.ucl", "n.ucl"], text, second, 3, line)
+}
+
+const NOTHING: &[u8] = b"// nothing\n";
+
+const UNENDED: &[u8] = b"module main { var x : boolean }";
+
+const BAD: &[u8] = b"\nmodule #";
+
+#[test]
+fn several_files_are_one_design(rt: HostRuntime) -> Result<(), Fail> {
+    let alloc = rt.alloc();
+    let two = ["m.ucl", "n.ucl"];
+    check_files(&rt, alloc, &two, NOTHING, TOGGLE, 0, TOGGLE_REPORT)?;
+    check_files(&rt, alloc, &two, TOGGLE, NOTHING, 0, TOGGLE_REPORT)?;
+    // A file that is named twice is read twice.
+    let three = ["n.ucl", "m.ucl", "n.ucl"];
+    check_files(&rt, alloc, &three, TOGGLE, NOTHING, 0, TOGGLE_REPORT)?;
+    check_files(
+        &rt,
+        alloc,
+        &["n.ucl", "m.ucl", "m.ucl"],
+        UNENDED,
+        NOTHING,
+        3,
+        b"error 6 in m.ucl at line 1, column 31\n",
+    )?;
+    check_two(
+        &rt,
+        alloc,
+        b"module one { }",
+        TOGGLE,
         b"error 33 in m.ucl at line 1, column 1\n",
+    )?;
+    check_two(
+        &rt,
+        alloc,
+        b"module one { }",
+        b"module two { }",
+        b"error 10 in m.ucl at line 1, column 1\n",
+    )?;
+    Ok(())
+}
+
+#[test]
+fn the_first_pass_that_refuses_wins(rt: HostRuntime) -> Result<(), Fail> {
+    let alloc = rt.alloc();
+    check_two(
+        &rt,
+        alloc,
+        TOGGLE,
+        b"// two\nmodule two { var x : boolean }",
+        b"error 6 in n.ucl at line 2, column 30\n",
+    )?;
+    check_two(
+        &rt,
+        alloc,
+        UNENDED,
+        BAD,
+        b"error 3 in n.ucl at line 2, column 8\n",
+    )?;
+    check_two(
+        &rt,
+        alloc,
+        UNENDED,
+        b"module",
+        b"error 6 in m.ucl at line 1, column 31\n",
+    )?;
+    check_files(
+        &rt,
+        alloc,
+        &["n.ucl", "m.ucl", "gone.ucl"],
+        UNENDED,
+        BAD,
+        3,
+        b"error 8 in gone.ucl at line 1, column 1\n",
+    )?;
+    // Each of the texts is within the limit, and both together are not.
+    let blanks = vec![in alloc; b' '; 9_000_000]?;
+    check_two(
+        &rt,
+        alloc,
+        blanks.as_slice(),
+        blanks.as_slice(),
+        b"error 2 in n.ucl at line 1, column 1\n",
     )?;
     Ok(())
 }
@@ -186,7 +302,7 @@ fn a_fault_of_the_texts_ends_the_run(rt: HostRuntime) -> Result<(), Fail> {
     let alloc = rt.alloc();
     // The text is opened, read, and read to its end.
     for call in 0..3 {
-        let ended = finish(alloc, &["m.ucl"], TOGGLE, &[call], &[])?;
+        let ended = finish(alloc, &["m.ucl"], TOGGLE, b"", &[call], &[])?;
         assert_eq!(rt; ended.status, 5);
         assert_eq!(rt; ended.written.len(), 0);
     }
@@ -198,7 +314,7 @@ fn a_fault_of_the_sink_leaves_a_front(rt: HostRuntime) -> Result<(), Fail> {
     let alloc = rt.alloc();
     // The sink takes ten bytes a call.
     for call in 0..20 {
-        let ended = finish(alloc, &["m.ucl"], TOGGLE, &[], &[call])?;
+        let ended = finish(alloc, &["m.ucl"], TOGGLE, b"", &[], &[call])?;
         let front = (call as usize) * 10;
         assert_eq!(rt; ended.status, 6);
         assert_eq!(rt; Some(ended.written.as_slice()), TOGGLE_REPORT.get(..front));

@@ -1,5 +1,6 @@
 use Rattle.std.proofs.Common.{◌≡◌, drop}
-use Rattle.uclid.specs.Answers.{words_of, are_names}
+use Rattle.uc_front.specs.Sources.{words_of}
+use Rattle.uclid.specs.Answers.{are_names}
 use Rattle.uclid.proofs.answer.are_names.Given as goal
 
 abbrev pub invariant-loop-word : goal.invariant-loop-word

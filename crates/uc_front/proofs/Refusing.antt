@@ -1,0 +1,59 @@
+-- The refusals of the passes as refusals of the whole.
+use Rattle.std.proofs.Common.{◌≡◌, inl, inr, ℕ, List, length, Option, None, Some, sym, ap, subst, ◌∙◌}
+use Rattle.uc_lexer.specs.Places.{place_of}
+use Rattle.uc_syntax.specs.declared.declaration.Module.{Module}
+use Rattle.uc_forms.specs.Answer.{Answer, spelled, wrong, too_deep, too_many}
+use Rattle.uc_grammar.specs.declared.word.Word.{Word}
+use Rattle.uc_front.specs.declared.error.FrontError.{FrontError}
+use Rattle.uc_front.specs.declared.error.FrontError.TheVariants.{NoMemory, ReadFault, Refused}
+use Rattle.uc_front.specs.declared.lexing.Source.{Source}
+use Rattle.uc_front.specs.declared.refusal.Refusal.{Refusal}
+use Rattle.uc_front.specs.declared.refusal.Refusal.TheVariants.{Syntax, TooDeep, TooManyNames, NoMain}
+use Rattle.uc_front.specs.Sources.{AreTexts, AreSources, texts_of}
+use Rattle.uc_front.specs.Denotes.{names_of, AreSpelled, main_in}
+use Rattle.uc_front.specs.Refused.{IsUnread, IsUnlexed, place_at, refusal_of, IsUnspelled, IsUnbuilt, IsRefused}
+use Rattle.uc_front.specs.Errors.{IsFrontError, IsTextError}
+
+unspelled : (files : List (List ℕ)) (sources : List Source) (r : Refusal) → IsUnspelled (names_of files sources) sources r → IsUnbuilt files sources r
+unspelled files sources r h = by h.3 h.7
+  where
+    Wrong : Refusal → Type 0
+    Wrong other = IsUnspelled (names_of files sources) sources other
+
+    by : (a : Answer Word (List Module)) → refusal_of (place_of h.0 h.1.text (length h.1.text)) a ≡ Some r → IsUnbuilt files sources r
+    by (spelled modules) e = absurd cc
+    by (wrong rest) e = let same : Syntax (place_at (place_of h.0 h.1.text (length h.1.text)) rest) ≡ r = cc in subst (IsUnbuilt files sources) same (subst Wrong (sym same) h)
+    by (too_deep rest) e = let same : TooDeep (place_at (place_of h.0 h.1.text (length h.1.text)) rest) ≡ r = cc in subst (IsUnbuilt files sources) same (subst Wrong (sym same) h)
+    by (too_many x) e = let same : TooManyNames x.place ≡ r = cc in subst (IsUnbuilt files sources) same (subst Wrong (sym same) h)
+
+-- of the texts' passes
+pub by_parsing : (files : List (List ℕ)) (sources : List Source) (e : FrontError) → IsTextError (IsUnspelled (names_of files sources) sources) e → IsTextError (IsUnbuilt files sources) e
+by_parsing files sources NoMemory h = tt
+by_parsing files sources ReadFault h = h
+by_parsing files sources (Refused r) h = unspelled files sources r h
+
+pub no_main : (files : List (List ℕ)) (sources : List Source) (names : List (List ℕ)) (modules : List Module) → names ≡ names_of files sources → AreSpelled names sources modules → main_in names modules ≡ None →
+    IsUnbuilt files sources NoMain
+no_main files sources names modules same all none =
+    (modules, subst (λ ns. AreSpelled ns sources modules) same all, ap (λ ns. main_in ns modules) (sym same) ∙ none)
+
+-- of reading a design
+pub by_reading : (held : List ℕ → Option (List ℕ)) (files : List (List ℕ)) (e : FrontError) → IsFrontError (IsUnread held files) e → IsFrontError (IsRefused held files) e
+by_reading held files NoMemory h = tt
+by_reading held files ReadFault h = tt
+by_reading held files (Refused r) h = inl h
+
+pub by_lexing : (held : List ℕ → Option (List ℕ)) (files texts : List (List ℕ)) (e : FrontError) → AreTexts held files texts → IsTextError (IsUnlexed texts) e → IsFrontError (IsRefused held files) e
+by_lexing held files texts NoMemory a h = tt
+by_lexing held files texts ReadFault a h = tt
+by_lexing held files texts (Refused r) a h = inr (inl (texts, a, h))
+
+pub by_building : (held : List ℕ → Option (List ℕ)) (files : List (List ℕ)) (sources : List Source) (e : FrontError) → AreSources held files sources → IsTextError (IsUnbuilt files sources) e →
+    IsFrontError (IsRefused held files) e
+by_building held files sources NoMemory a h = tt
+by_building held files sources ReadFault a h = tt
+by_building held files sources (Refused r) a h = inr (inr (sources, a, h))
+
+-- texts and their tokens are sources
+pub sources_are : (held : List ℕ → Option (List ℕ)) (files texts : List (List ℕ)) (sources : List Source) → AreTexts held files texts → texts_of sources ≡ texts → AreTexts held files (texts_of sources)
+sources_are held files texts sources a e = subst (AreTexts held files) (sym e) a
