@@ -1,0 +1,23 @@
+-- Printed words spell what they were printed of.
+use Rattle.std.specs.Prelude.{◌≡◌, ◌≤◌, ℕ, true, List}
+use Rattle.uc_forms.specs.Spelling.{Spells}
+use Rattle.uc_grammar.specs.declared.word.Word.{Word}
+use Rattle.uc_grammar.specs.Syntax.{F, rule, ty, expr}
+use Rattle.uc_syntax.specs.declared.type_expression.TypeExpr.{TypeExpr}
+use Rattle.uc_syntax.specs.declared.expression.Expr.{Expr}
+use Rattle.uc_printed.specs.Piece.{Shown}
+use Rattle.uc_printed.specs.Printed.{Printed}
+use Rattle.uc_printed.specs.Types.{printed_type, erased_type}
+use Rattle.uc_printed.specs.Expressions.{printed_expr, erased_expr}
+
+-- where the grammar has the tree, and levels enough: whatever words show what is printed, they spell in this form a value of which Q holds
+pub record Prints {A : Type 0} (f : F A) (x : Printed) (Q : A → Type 0) : Type 0 where
+  pub spells : x.is_shaped ≡ true → (m : ℕ) → x.depth ≤ m → (ws : List Word) → Shown x.words ws → (a : A) × Spells rule m f ws a × Q a
+
+-- the words of a type spell this type, places aside
+abbrev pub TypesAreSpelled : Type 0
+TypesAreSpelled = (t : TypeExpr) → Prints ty (printed_type t) (λ u. erased_type u ≡ erased_type t)
+
+-- and so for expressions
+abbrev pub ExpressionsAreSpelled : Type 0
+ExpressionsAreSpelled = (e : Expr) → Prints expr (printed_expr e) (λ u. erased_expr u ≡ erased_expr e)

@@ -1,0 +1,6 @@
+//! The words of a design as it is printed, and that they spell this design again.
+#![tactic(auto)]
+
+mod law;
+
+pub use law::types_are_spelled;
