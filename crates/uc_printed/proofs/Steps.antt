@@ -107,6 +107,9 @@ s_after k p = s_made (λ x. x.1) (λ a q. q.1) (s_both (s_word k k refl) p)
 pub s_before : {A : Type 0} {f : F A} {x : Printed} {Q : A → Type 0} (k : Kind) → Prints f x Q → Prints (before f k) (x <+> sign k) Q
 s_before k p = s_made (λ x. x.0) (λ a q. q.0) (s_both p (s_word k k refl))
 
+pub s_when : {A : Type 0} {f : F A} {x : Printed} {Q : A → Type 0} (b : Bool) → (b ≡ true → Prints f x Q) → Prints f (when b x) Q
+s_when b p = record { spells = λ s m h ws i. (p (both_left _ _ s)).spells (both_right _ _ s) m h ws i }
+
 -- the grammar has no such tree
 pub never : {A : Type 0} (f : F A) (x : Printed) (Q : A → Type 0) → Prints f (when false x) Q
 never f x Q = record { spells = λ s m h ws i. absurd cc }
@@ -163,3 +166,20 @@ s_optional_none = s_made _ (λ y q. q) (s_right {Q = λ y. some_of y ≡ None} (
 
 pub s_optional_some : {A : Type 0} {f : F A} {x : Printed} {Q : Option A → Type 0} → Prints f x (λ a. Q (Some a)) → Prints (optional f) x Q
 s_optional_some {Q = Q} p = s_made _ (λ y q. q) (s_left {Q = λ y. Q (some_of y)} p)
+
+-- ---- where the second word tells
+
+pub s_ahead : {A B : Type 0} {f : F A} {g : F B} {x : Printed} {Q : A → Type 0} {R : (Word × A) ⊎ B → Type 0} {q : Mark} {j k : Kind} {js : List Kind} (p : Piece) → ((i : Kind) → Shows p i → member (code_of i) (codes_of words j js) ≡ true)
+    → ((w : Word) (a : A) → Shows p w.kind → Q a → R (inl (w, a))) → Prints f x Q → Prints (ahead q j js k f g) (piece p <+> (sign k <+> x)) R
+s_ahead {x = x} {k = k} p c r b = record {
+  spells = λ s m h ws i.
+    let o = split (p ∷ []) (fixed k ∷ x.words) ws i in
+    let u = one_word p o.0 o.3 in
+    let v = split (fixed k ∷ []) x.words o.1 o.4 in
+    let w = one_word (fixed k) v.0 v.3 in
+    let a = b.spells s m (omega arith) v.1 v.4 in
+    (inl (u.0, a.0), (w.0, v.1, o.2 ∙ ap (λ z. z ++ o.1) u.1 ∙ ap (λ z. u.0 ∷ z) (v.2 ∙ ap (λ z. z ++ v.1) w.1), c u.0.kind u.2, fixed_code k w.0.kind w.2, a.1), r u.0 a.0 u.2 a.2);
+}
+
+pub s_not_ahead : {A B : Type 0} {f : F A} {g : F B} {x : Printed} {R : (Word × A) ⊎ B → Type 0} {q : Mark} {j k : Kind} {js : List Kind} → Prints g x (λ b. R (inr b)) → Prints (ahead q j js k f g) x R
+s_not_ahead p = record { spells = λ s m h ws i. let b = p.spells s m h ws i in (inr b.0, b.1, b.2) }

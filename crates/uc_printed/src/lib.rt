@@ -3,4 +3,4 @@
 
 mod law;
 
-pub use law::types_are_spelled;
+pub use law::{expressions_are_spelled, types_are_spelled};
