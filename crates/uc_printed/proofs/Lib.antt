@@ -5,3 +5,4 @@ pub mod TypeLaw
 pub mod ExpressionEquations
 pub mod Stand
 pub mod ExpressionLaw
+pub mod StatementLaw

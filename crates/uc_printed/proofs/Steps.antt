@@ -6,9 +6,9 @@ use Rattle.uc_forms.proofs.Run.{own_code}
 use Rattle.uc_forms.specs.Spelling.{SpellWith, SpellAt, SpellUntil, SpellChain}
 use Rattle.uc_grammar.specs.declared.word.Word.{Word}
 use Rattle.uc_grammar.specs.declared.word.Kind.{Kind}
-use Rattle.uc_grammar.specs.declared.word.Kind.TheVariants.{Name, Comma}
+use Rattle.uc_grammar.specs.declared.word.Kind.TheVariants.{Name, Comma, LeftParen, RightParen}
 use Rattle.uc_grammar.specs.Code.{code_of, name_in}
-use Rattle.uc_grammar.specs.Syntax.{words, known, Nested, Value, F, rule, identifier as identifier_of, a_name, id, new_id, listed as listed_form, optional}
+use Rattle.uc_grammar.specs.Syntax.{words, known, Nested, Value, F, rule, identifier as identifier_of, a_name, id, new_id, listed as listed_form, optional, enclosed as enclosed_form}
 use Rattle.uc_syntax.specs.declared.place.Identifier.{Identifier}
 use Rattle.uc_printed.specs.Piece.{Piece, name, applied, fixed, Shows, Shown}
 use Rattle.uc_printed.specs.Printed.{Printed, none, piece, sign, identifier, ◌<+>◌, nested, when, each, behind, joined, listed, has_one, nowhere, erased_identifier}
@@ -183,3 +183,81 @@ s_ahead {x = x} {k = k} p c r b = record {
 
 pub s_not_ahead : {A B : Type 0} {f : F A} {g : F B} {x : Printed} {R : (Word × A) ⊎ B → Type 0} {q : Mark} {j k : Kind} {js : List Kind} → Prints g x (λ b. R (inr b)) → Prints (ahead q j js k f g) x R
 s_not_ahead p = record { spells = λ s m h ws i. let b = p.spells s m h ws i in (inr b.0, b.1, b.2) }
+
+-- ---- in parentheses, and maybe nothing between
+
+abbrev listed_of : {A : Type 0} → Word ⊎ List A → List A
+listed_of (inl w) = []
+listed_of (inr vs) = vs
+
+module _ {A B C : Type 0} (f : F A) (g : A → B) (show : C → Printed) (tree : C → B) (each_is : (c : C) → Prints f (show c) (λ a. g a ≡ tree c)) where
+  pub s_enclosed : (cs : List C) → Prints (enclosed_form (listed_form f)) (sign LeftParen <+> (joined Comma show cs <+> sign RightParen)) (λ vs. map g vs ≡ map tree cs)
+  s_enclosed [] = s_after LeftParen (s_made _ (λ y q. q) (s_left {Q = λ y. map g (listed_of y) ≡ []} (s_weak (λ w q. refl) (s_word RightParen RightParen refl))))
+  s_enclosed (c ∷ cs) = s_after LeftParen (s_made _ (λ y q. q) (s_right {Q = λ y. map g (listed_of y) ≡ map tree (c ∷ cs)} (s_before RightParen (s_joined f g show tree each_is Comma c cs))))
+
+-- ---- up to an end
+
+unit_left : (x : Printed) → none <+> x ≡ x
+unit_left x = equal_parts _ _ _ _ _ _ refl (omega arith) refl
+
+until_none : {A B D : Type 0} {f : F A} {h : F D} {y : Printed} {R : D → Type 0} (g : A → B) → Prints h y R → Prints (until f h) y (λ z. (map g z.0 ≡ []) × R z.1)
+until_none g p = record { spells = λ s m h ws i. let b = p.spells s m h ws i in (([], b.0), b.1, (refl, b.2)) }
+
+until_one : {A B D : Type 0} {f : F A} {h : F D} {x y : Printed} {t : B} {ts : List B} (R : D → Type 0) (g : A → B) → Prints f x (λ a. g a ≡ t) → Prints (until f h) y (λ z. (map g z.0 ≡ ts) × R z.1) → Prints (until f h) (x <+> y) (λ z. (map g z.0 ≡ t ∷ ts) × R z.1)
+until_one {x = x} {y = y} {t = t} R g p q = record {
+  spells = λ s m h ws i.
+    let o = split x.words y.words ws i in
+    let a = p.spells (both_left _ _ s) m (omega arith) o.0 o.3 in
+    let b = q.spells (both_right _ _ s) m (omega arith) o.1 o.4 in
+    ((a.0 ∷ b.0.0, b.0.1), (o.0, o.1, o.2, a.1, b.1), (ap (λ z. z ∷ map g b.0.0) a.2 ∙ ap (λ z. t ∷ z) b.2.0, b.2.1));
+}
+
+module _ {A B C D : Type 0} (f : F A) (h : F D) (g : A → B) (show : C → Printed) (tree : C → B) (each_is : (c : C) → Prints f (show c) (λ a. g a ≡ tree c)) (y : Printed) (R : D → Type 0) (end_is : Prints h y R) where
+  pub s_until : (cs : List C) → Prints (until f h) (each show cs <+> y) (λ z. (map g z.0 ≡ map tree cs) × R z.1)
+  unfolding each
+  s_until [] = same (sym (unit_left y)) (until_none g end_is)
+  s_until (c ∷ cs) = same (sym (assoc (show c) (each show cs) y)) (until_one R g (each_is c) (s_until cs))
+
+-- ---- a chain of turns, and maybe an end
+
+abbrev pub IsLeft : {A B : Type 0} → (A → Type 0) → A ⊎ B → Type 0
+IsLeft P (inl a) = P a
+IsLeft P (inr b) = ⊥
+
+abbrev pub IsRight : {A B : Type 0} → (B → Type 0) → A ⊎ B → Type 0
+IsRight P (inl a) = ⊥
+IsRight P (inr b) = P b
+
+abbrev pub IsSome : {B : Type 0} → (B → Type 0) → Option B → Type 0
+IsSome P None = ⊥
+IsSome P (Some b) = P b
+
+pub s_chain_none : {A B D : Type 0} {f : F (A ⊎ D)} (g : A → B) → Prints (chain f) none (λ z. (map g z.0 ≡ []) × (z.1 ≡ None))
+s_chain_none g = record { spells = λ s m h ws i. (([], None), no_words ws i, (refl, refl)) }
+
+pub s_chain_some : {A B D : Type 0} {f : F (A ⊎ D)} {y : Printed} {R : D → Type 0} (g : A → B) → Prints f y (IsRight R) → Prints (chain f) y (λ z. (map g z.0 ≡ []) × IsSome R z.1)
+s_chain_some {A} {B} {D} {f} {R = R} g p = record { spells = λ s m h ws i. let b = p.spells s m h ws i in last m ws b.0 b.1 b.2 }
+  where
+    last : (m : ℕ) (ws : List Word) (v : A ⊎ D) → SpellWith (SpellAt rule m) f ws v → IsRight R v → (z : List A × Option D) × SpellWith (SpellAt rule m) (chain f) ws z × ((map g z.0 ≡ []) × IsSome R z.1)
+    last m ws (inl a) s q = absurd q
+    last m ws (inr b) s q = (([], Some b), s, (refl, q))
+
+chain_one : {A B D : Type 0} {f : F (A ⊎ D)} {x y : Printed} {t : B} {ts : List B} (R : Option D → Type 0) (g : A → B) → Prints f x (IsLeft (λ a. g a ≡ t)) → Prints (chain f) y (λ z. (map g z.0 ≡ ts) × R z.1) → Prints (chain f) (x <+> y) (λ z. (map g z.0 ≡ t ∷ ts) × R z.1)
+chain_one {A} {B} {D} {f} {x} {y} {t} {ts} R g p q = record {
+  spells = λ s m h ws i.
+    let o = split x.words y.words ws i in
+    let a = p.spells (both_left _ _ s) m (omega arith) o.0 o.3 in
+    let b = q.spells (both_right _ _ s) m (omega arith) o.1 o.4 in
+    turn m ws o.0 o.1 b.0 o.2 b.1 b.2 a.0 a.1 a.2;
+}
+  where
+    turn : (m : ℕ) (ws front back : List Word) (b : List A × Option D) → ws ≡ front ++ back → SpellWith (SpellAt rule m) (chain f) back b → (map g b.0 ≡ ts) × R b.1 → (v : A ⊎ D) → SpellWith (SpellAt rule m) f front v → IsLeft (λ a. g a ≡ t) v
+        → (z : List A × Option D) × SpellWith (SpellAt rule m) (chain f) ws z × ((map g z.0 ≡ t ∷ ts) × R z.1)
+    turn m ws front back b i s r (inl a) u q = ((a ∷ b.0, b.1), (front, back, i, u, s), (ap (λ z. z ∷ map g b.0) q ∙ ap (λ z. t ∷ z) r.0, r.1))
+    turn m ws front back b i s r (inr d) u q = absurd q
+
+module _ {A B C D : Type 0} (f : F (A ⊎ D)) (g : A → B) (show : C → Printed) (tree : C → B) (each_is : (c : C) → Prints f (show c) (IsLeft (λ a. g a ≡ tree c))) (y : Printed) (R : Option D → Type 0) (end_is : Prints (chain f) y (λ z. (map g z.0 ≡ []) × R z.1)) where
+  pub s_chain : (cs : List C) → Prints (chain f) (each show cs <+> y) (λ z. (map g z.0 ≡ map tree cs) × R z.1)
+  unfolding each
+  s_chain [] = same (sym (unit_left y)) end_is
+  s_chain (c ∷ cs) = same (sym (assoc (show c) (each show cs) y)) (chain_one R g (each_is c) (s_chain cs))
