@@ -614,6 +614,7 @@ selected_words p q ss =
     some_over : (ss : List Pick) → has_one (map (each_selection leveled) (map (each_selection tree) ss)) ≡ has_one (map pick_tree ss)
     some_over [] = refl
     some_over (s ∷ ss) = refl
+
     selected_over : (q : Primary Child) (ss : List Pick) → is_selected (primary_piece q) (map (each_selection leveled) (map (each_selection tree) ss)) ≡ is_selected (primary_tree q) (map pick_tree ss)
     selected_over (Truth b) ss = refl
     selected_over (Number n) ss = refl

@@ -6,3 +6,4 @@ pub mod ExpressionEquations
 pub mod Stand
 pub mod ExpressionLaw
 pub mod StatementLaw
+pub mod DeclarationLaw

@@ -80,7 +80,6 @@ s_labelled {Q = Q} q None p = s_made label_of (λ y r. r) (s_not_ahead {R = λ y
 s_labelled {Q = Q} q (Some i) p = s_made label_of (λ y r. r) (s_ahead {R = λ y. (option_map erased_identifier (label_of y).0 ≡ Some (erased_identifier i)) × Q (label_of y).1} (name i.name) (λ k r. name_code k r.0)
     (λ w a r b. (ap (λ z. Some (record { place = nowhere; name = z })) r.1, b)) p)
 
-
 -- ---- statements with what is known of them
 
 abbrev Holds : Stmt → Type 0
@@ -432,3 +431,8 @@ step y = good_at (fold-roll-Stmt Printed stmt_form (layer y)) (fold-roll-Stmt St
 
 pub stmt_spelled : (s : Stmt) → Holds s
 stmt_spelled = ind-Stmt Holds (λ x y is. subst (λ z. Holds (roll-Stmt z)) is (step y))
+
+pub s_statements : (ss : List Stmt) → Prints statements (block_words (map printed_stmt ss)) (λ us. map erased_stmt us ≡ map erased_stmt ss)
+s_statements ss = same (ap (λ z. nested (sign kinds.LeftBrace <+> (z <+> sign kinds.RightBrace))) (sym (each_over printed_stmt (λ x. x) ss)))
+    (s_made _ (λ b q. q) (s_deep block {Q = λ b. map erased_stmt b.1 ≡ map erased_stmt ss} (s_made _ (λ x q. q.1.0)
+    (s_both (s_word kinds.LeftBrace kinds.LeftBrace refl) (s_until statement (word kinds.RightBrace) erased_stmt printed_stmt erased_stmt stmt_spelled (sign kinds.RightBrace) _ (s_word kinds.RightBrace kinds.RightBrace refl) ss)))))

@@ -53,8 +53,8 @@ same {f = f} {Q = Q} e p = subst (λ z. Prints f z Q) e p
 pub s_any : (q : Mark) (j : Kind) (js : List Kind) (k : Kind) → member (code_of k) (codes_of words j js) ≡ true → Prints (any q j js) (sign k) (λ w. Shows (fixed k) w.kind)
 s_any q j js k c = record {
   spells = λ s m h ws i.
-    let o = one_word (fixed k) ws i in
-    (o.0, (o.1, subst (λ (d : ℕ). member d (codes_of words j js) ≡ true) (sym (fixed_code k o.0.kind o.2)) c), o.2);
+      let o = one_word (fixed k) ws i in
+      (o.0, (o.1, subst (λ (d : ℕ). member d (codes_of words j js) ≡ true) (sym (fixed_code k o.0.kind o.2)) c), o.2);
 }
 
 pub s_word : (j k : Kind) → code_of k ≡ code_of j → Prints (word j) (sign k) (λ w. Shows (fixed k) w.kind)
@@ -76,10 +76,10 @@ s_none q = record { spells = λ s m h ws i. (tt, no_words ws i, q) }
 pub s_both : {A B : Type 0} {f : F A} {g : F B} {x y : Printed} {Q : A → Type 0} {R : B → Type 0} → Prints f x Q → Prints g y R → Prints (both f g) (x <+> y) (λ z. Q z.0 × R z.1)
 s_both {x = x} {y = y} p q = record {
   spells = λ s m h ws i.
-    let o = split x.words y.words ws i in
-    let a = p.spells (both_left _ _ s) m (omega arith) o.0 o.3 in
-    let b = q.spells (both_right _ _ s) m (omega arith) o.1 o.4 in
-    ((a.0, b.0), (o.0, o.1, o.2, a.1, b.1), (a.2, b.2));
+      let o = split x.words y.words ws i in
+      let a = p.spells (both_left _ _ s) m (omega arith) o.0 o.3 in
+      let b = q.spells (both_right _ _ s) m (omega arith) o.1 o.4 in
+      ((a.0, b.0), (o.0, o.1, o.2, a.1, b.1), (a.2, b.2));
 }
 
 pub s_left : {A B : Type 0} {f : F A} {g : F B} {x : Printed} {Q : A ⊎ B → Type 0} → Prints f x (λ a. Q (inl a)) → Prints (either f g) x Q
@@ -135,10 +135,10 @@ many_none g = record { spells = λ s m h ws i. ([], (([], None), refl, no_words 
 pub many_one : {A B : Type 0} {f : F A} {x y : Printed} {t : B} {ts : List B} (g : A → B) → Prints f x (λ a. g a ≡ t) → Prints (many f) y (λ vs. map g vs ≡ ts) → Prints (many f) (x <+> y) (λ vs. map g vs ≡ t ∷ ts)
 many_one {x = x} {y = y} {t = t} g p q = record {
   spells = λ s m h ws i.
-    let o = split x.words y.words ws i in
-    let a = p.spells (both_left _ _ s) m (omega arith) o.0 o.3 in
-    let b = q.spells (both_right _ _ s) m (omega arith) o.1 o.4 in
-    (a.0 ∷ b.0, ((a.0 ∷ b.1.0.0, b.1.0.1), ap (λ z. a.0 ∷ z) b.1.1, (o.0, o.1, o.2, (a.0, refl, a.1), b.1.2)), ap (λ z. z ∷ map g b.0) a.2 ∙ ap (λ z. t ∷ z) b.2);
+      let o = split x.words y.words ws i in
+      let a = p.spells (both_left _ _ s) m (omega arith) o.0 o.3 in
+      let b = q.spells (both_right _ _ s) m (omega arith) o.1 o.4 in
+      (a.0 ∷ b.0, ((a.0 ∷ b.1.0.0, b.1.0.1), ap (λ z. a.0 ∷ z) b.1.1, (o.0, o.1, o.2, (a.0, refl, a.1), b.1.2)), ap (λ z. z ∷ map g b.0) a.2 ∙ ap (λ z. t ∷ z) b.2);
 }
 
 module _ {A B C : Type 0} (f : F A) (g : A → B) (show : C → Printed) (tree : C → B) (each_is : (c : C) → Prints f (show c) (λ a. g a ≡ tree c)) where
@@ -173,12 +173,12 @@ pub s_ahead : {A B : Type 0} {f : F A} {g : F B} {x : Printed} {Q : A → Type 0
     → ((w : Word) (a : A) → Shows p w.kind → Q a → R (inl (w, a))) → Prints f x Q → Prints (ahead q j js k f g) (piece p <+> (sign k <+> x)) R
 s_ahead {x = x} {k = k} p c r b = record {
   spells = λ s m h ws i.
-    let o = split (p ∷ []) (fixed k ∷ x.words) ws i in
-    let u = one_word p o.0 o.3 in
-    let v = split (fixed k ∷ []) x.words o.1 o.4 in
-    let w = one_word (fixed k) v.0 v.3 in
-    let a = b.spells s m (omega arith) v.1 v.4 in
-    (inl (u.0, a.0), (w.0, v.1, o.2 ∙ ap (λ z. z ++ o.1) u.1 ∙ ap (λ z. u.0 ∷ z) (v.2 ∙ ap (λ z. z ++ v.1) w.1), c u.0.kind u.2, fixed_code k w.0.kind w.2, a.1), r u.0 a.0 u.2 a.2);
+      let o = split (p ∷ []) (fixed k ∷ x.words) ws i in
+      let u = one_word p o.0 o.3 in
+      let v = split (fixed k ∷ []) x.words o.1 o.4 in
+      let w = one_word (fixed k) v.0 v.3 in
+      let a = b.spells s m (omega arith) v.1 v.4 in
+      (inl (u.0, a.0), (w.0, v.1, o.2 ∙ ap (λ z. z ++ o.1) u.1 ∙ ap (λ z. u.0 ∷ z) (v.2 ∙ ap (λ z. z ++ v.1) w.1), c u.0.kind u.2, fixed_code k w.0.kind w.2, a.1), r u.0 a.0 u.2 a.2);
 }
 
 pub s_not_ahead : {A B : Type 0} {f : F A} {g : F B} {x : Printed} {R : (Word × A) ⊎ B → Type 0} {q : Mark} {j k : Kind} {js : List Kind} → Prints g x (λ b. R (inr b)) → Prints (ahead q j js k f g) x R
@@ -197,7 +197,7 @@ module _ {A B C : Type 0} (f : F A) (g : A → B) (show : C → Printed) (tree :
 
 -- ---- up to an end
 
-unit_left : (x : Printed) → none <+> x ≡ x
+pub unit_left : (x : Printed) → none <+> x ≡ x
 unit_left x = equal_parts _ _ _ _ _ _ refl (omega arith) refl
 
 until_none : {A B D : Type 0} {f : F A} {h : F D} {y : Printed} {R : D → Type 0} (g : A → B) → Prints h y R → Prints (until f h) y (λ z. (map g z.0 ≡ []) × R z.1)
@@ -206,10 +206,10 @@ until_none g p = record { spells = λ s m h ws i. let b = p.spells s m h ws i in
 until_one : {A B D : Type 0} {f : F A} {h : F D} {x y : Printed} {t : B} {ts : List B} (R : D → Type 0) (g : A → B) → Prints f x (λ a. g a ≡ t) → Prints (until f h) y (λ z. (map g z.0 ≡ ts) × R z.1) → Prints (until f h) (x <+> y) (λ z. (map g z.0 ≡ t ∷ ts) × R z.1)
 until_one {x = x} {y = y} {t = t} R g p q = record {
   spells = λ s m h ws i.
-    let o = split x.words y.words ws i in
-    let a = p.spells (both_left _ _ s) m (omega arith) o.0 o.3 in
-    let b = q.spells (both_right _ _ s) m (omega arith) o.1 o.4 in
-    ((a.0 ∷ b.0.0, b.0.1), (o.0, o.1, o.2, a.1, b.1), (ap (λ z. z ∷ map g b.0.0) a.2 ∙ ap (λ z. t ∷ z) b.2.0, b.2.1));
+      let o = split x.words y.words ws i in
+      let a = p.spells (both_left _ _ s) m (omega arith) o.0 o.3 in
+      let b = q.spells (both_right _ _ s) m (omega arith) o.1 o.4 in
+      ((a.0 ∷ b.0.0, b.0.1), (o.0, o.1, o.2, a.1, b.1), (ap (λ z. z ∷ map g b.0.0) a.2 ∙ ap (λ z. t ∷ z) b.2.0, b.2.1));
 }
 
 module _ {A B C D : Type 0} (f : F A) (h : F D) (g : A → B) (show : C → Printed) (tree : C → B) (each_is : (c : C) → Prints f (show c) (λ a. g a ≡ tree c)) (y : Printed) (R : D → Type 0) (end_is : Prints h y R) where
@@ -245,10 +245,10 @@ s_chain_some {A} {B} {D} {f} {R = R} g p = record { spells = λ s m h ws i. let 
 chain_one : {A B D : Type 0} {f : F (A ⊎ D)} {x y : Printed} {t : B} {ts : List B} (R : Option D → Type 0) (g : A → B) → Prints f x (IsLeft (λ a. g a ≡ t)) → Prints (chain f) y (λ z. (map g z.0 ≡ ts) × R z.1) → Prints (chain f) (x <+> y) (λ z. (map g z.0 ≡ t ∷ ts) × R z.1)
 chain_one {A} {B} {D} {f} {x} {y} {t} {ts} R g p q = record {
   spells = λ s m h ws i.
-    let o = split x.words y.words ws i in
-    let a = p.spells (both_left _ _ s) m (omega arith) o.0 o.3 in
-    let b = q.spells (both_right _ _ s) m (omega arith) o.1 o.4 in
-    turn m ws o.0 o.1 b.0 o.2 b.1 b.2 a.0 a.1 a.2;
+      let o = split x.words y.words ws i in
+      let a = p.spells (both_left _ _ s) m (omega arith) o.0 o.3 in
+      let b = q.spells (both_right _ _ s) m (omega arith) o.1 o.4 in
+      turn m ws o.0 o.1 b.0 o.2 b.1 b.2 a.0 a.1 a.2;
 }
   where
     turn : (m : ℕ) (ws front back : List Word) (b : List A × Option D) → ws ≡ front ++ back → SpellWith (SpellAt rule m) (chain f) back b → (map g b.0 ≡ ts) × R b.1 → (v : A ⊎ D) → SpellWith (SpellAt rule m) f front v → IsLeft (λ a. g a ≡ t) v

@@ -113,7 +113,7 @@ good_array : (x y : Printed) (t u : TypeExpr) → Good x t → Good y u → Good
 unfolding ty
 good_array x y t u p q = s_next (s_next (s_next (s_next (s_next (s_first (s_deep array
     (s_made _ (λ z r. erased_array z.0.place z.1.0 z.1.1 ∙ ap (λ v. type_views.Array nowhere v (erased_type z.1.1)) r.1.0 ∙ ap (λ v. type_views.Array nowhere t v) r.1.1)
-    (s_both (s_word kinds.LeftBracket kinds.LeftBracket refl) (s_both (s_before kinds.RightBracket p) q))))))))) 
+    (s_both (s_word kinds.LeftBracket kinds.LeftBracket refl) (s_both (s_before kinds.RightBracket p) q)))))))))
 
 good_named : (n : ℕ) → Good (piece (name n)) (types.Named nowhere n)
 unfolding ty

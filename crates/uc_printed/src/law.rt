@@ -1,4 +1,4 @@
-ghost use Rattle.uc_printed.specs.Law.{TypesAreSpelled, ExpressionsAreSpelled};
+ghost use Rattle.uc_printed.specs.Law.{TypesAreSpelled, ExpressionsAreSpelled, StatementsAreSpelled, ModulesAreSpelled};
 
 /// A law of the definitions: the printed words of a type spell it, places aside.
 pub fn types_are_spelled()
@@ -8,4 +8,14 @@ pub fn types_are_spelled()
 /// A law of the definitions: the printed words of an expression spell it, places aside.
 pub fn expressions_are_spelled()
     ensures { ExpressionsAreSpelled }
+{}
+
+/// A law of the definitions: the printed words of a statement spell it, places aside.
+pub fn statements_are_spelled()
+    ensures { StatementsAreSpelled }
+{}
+
+/// A law of the definitions: the printed words of modules spell them, places aside.
+pub fn modules_are_spelled()
+    ensures { ModulesAreSpelled }
 {}
