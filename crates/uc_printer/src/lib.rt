@@ -1,0 +1,5 @@
+//! Prints a design as a text.
+#![tactic(auto)]
+
+mod page;
+mod words;
