@@ -1,7 +1,7 @@
 -- The printed words of commands, declarations and modules spell them.
 use Rattle.std.specs.Option.{option_map}
 use Rattle.std.proofs.Common.{◌≡◌, ℕ, Bool, true, false, List, [], ◌∷◌, ◌++◌, Option, Some, None, map, refl, sym, ap, subst, ◌∙◌, inl, inr, ◌⊎◌, arith}
-use Rattle.uc_forms.specs.Form.{quiet, declares, restarts, both, either, until, made, deep, many, word, one_of, after, before, joined_by, member, codes_of}
+use Rattle.uc_forms.specs.Form.{quiet, declares, restarts, both, either, made, deep, word, one_of, after, before, joined_by, member, codes_of}
 use Rattle.uc_forms.specs.Spelling.{SpellWith, SpellAt}
 use Rattle.uc_lexer.specs.declared.place.Place.{Place}
 use Rattle.uc_grammar.specs.declared.word.Word.{Word}
@@ -9,7 +9,7 @@ use Rattle.uc_grammar.specs.declared.word.Kind.{Kind}
 use Rattle.uc_grammar.specs.declared.word.Kind.TheVariants as kinds
 use Rattle.uc_grammar.specs.declared.word.Kind.TheVariants.{Name, OnBits, Range, Unroll, Induction, Verify, Check, PrintResults, PrintCex}
 use Rattle.uc_grammar.specs.Code.{code_of, name_in, value_in}
-use Rattle.uc_grammar.specs.Syntax.{words, F, rule, listed as listed_form, optional, flat, ty, parameter as parameter_form, a_name, id, new_id, expr, statements, in_name, in_number, maybe_number, paths, control_braces, params, results, binds, bind_value, hyper_number, module_braces, run, counterexample, Ending, command_of, led, named_command, command, clause, variable_kind as variable_of, type_of, type_declaration, results_of, procedure_of, procedure, hyper_of, declaration, module_form, text}
+use Rattle.uc_grammar.specs.Syntax.{words, F, rule, listed as listed_form, optional, flat, ty, parameter as parameter_form, id, new_id, in_name, in_number, maybe_number, paths, control_braces, params, results, binds, bind_value, hyper_number, module_braces, run, counterexample, Ending, command_of, led, named_command, command, clause, variable_kind as variable_of, type_of, type_declaration, results_of, procedure_of, procedure, hyper_of, declaration, module_form, text}
 use Rattle.uc_syntax.specs.declared.expression.BitFunction.TheVariants.{ZeroExtend}
 use Rattle.uc_syntax.specs.declared.place.Identifier.{Identifier}
 use Rattle.uc_syntax.specs.declared.type_expression.TypeExpr.{TypeExpr}
@@ -29,12 +29,12 @@ use Rattle.uc_syntax.specs.declared.declaration.Command.TheVariants as commands
 use Rattle.uc_syntax.specs.declared.declaration.Decl.{Decl}
 use Rattle.uc_syntax.specs.declared.declaration.Decl.TheVariants as decls
 use Rattle.uc_syntax.specs.declared.declaration.Module.{Module}
-use Rattle.uc_printed.specs.Piece.{name, fixed, Shows, is_name}
-use Rattle.uc_printed.specs.Printed.{Printed, none, piece, sign, identifier, ◌<+>◌, nested, when, each, joined, listed, has_one, in_parens, nowhere, erased_identifier}
+use Rattle.uc_printed.specs.Piece.{name, is_name}
+use Rattle.uc_printed.specs.Printed.{Printed, none, sign, identifier, ◌<+>◌, nested, listed, in_parens, nowhere, erased_identifier}
 use Rattle.uc_printed.specs.Types.{printed_type, erased_type}
-use Rattle.uc_printed.specs.Expressions.{printed_expr, erased_expr, enclosed}
-use Rattle.uc_printed.specs.Statements.{labelled, block_words, printed_stmt, erased_stmt}
-use Rattle.uc_printed.specs.Declarations.{run_words, path_words, paths_words, counterexample_words, command_words, parameter_words, code_words, clause_words, results_words, procedure_words, binding_words, variable_kind, decl_words, module_words, modules_words, erased_run, erased_identifiers, erased_command, erased_parameter, erased_clause, erased_procedure, erased_binding, erased_decl, erased_module, erased_modules}
+use Rattle.uc_printed.specs.Expressions.{erased_expr, enclosed}
+use Rattle.uc_printed.specs.Statements.{erased_stmt}
+use Rattle.uc_printed.specs.Declarations.{run_words, path_words, paths_words, counterexample_words, command_words, parameter_words, clause_words, results_words, procedure_words, binding_words, variable_kind, decl_words, module_words, modules_words, erased_run, erased_identifiers, erased_command, erased_parameter, erased_clause, erased_procedure, erased_binding, erased_decl, erased_module, erased_modules}
 use Rattle.uc_printed.specs.Law.{Prints}
 use Rattle.uc_printed.proofs.Words.{name_code, split, one_word}
 use Rattle.uc_printed.proofs.Steps.{unit, unit_left, s_any, s_first, s_next, s_a_name, s_optional_none, s_optional_some, assoc, s_word, s_both, s_left, s_right, s_made, s_weak, s_after, s_before, s_deep, s_id, s_each, s_joined, s_listed, s_enclosed, s_until, same, never}

@@ -1,13 +1,12 @@
 -- The printed words of an expression spell it.
-use Rattle.std.specs.Prelude.{if◌then◌else◌, ◌&&◌}
-use Rattle.std.proofs.Common.{◌≡◌, ℕ, zero, suc, Bool, true, false, List, [], ◌∷◌, Option, Some, None, map, refl, sym, ap, subst, ◌∙◌, inl, inr, ◌⊎◌}
-use Rattle.uc_forms.specs.Form.{quiet, both, either, made, deep, many, word, one_of, after, before, nothing, ahead, member}
+use Rattle.std.proofs.Common.{◌≡◌, ℕ, Bool, true, false, List, [], ◌∷◌, Option, Some, None, map, refl, sym, ap, subst, ◌∙◌, inl, inr, ◌⊎◌}
+use Rattle.uc_forms.specs.Form.{quiet, both, either, deep, many, word, one_of, after, before, nothing, ahead, member}
 use Rattle.uc_lexer.specs.declared.place.Place.{Place}
 use Rattle.uc_grammar.specs.declared.word.Word.{Word}
 use Rattle.uc_grammar.specs.declared.word.Kind.{Kind}
 use Rattle.uc_grammar.specs.declared.word.Kind.TheVariants as kinds
 use Rattle.uc_grammar.specs.Code.{code_of, name_in, value_in, width_in}
-use Rattle.uc_grammar.specs.Syntax.{F, Placed, Head, head, rule, enclosed as enclosed_form, listed as listed_form, parens, in_name, arguments, brackets, sign_operand, if_expression, a_name, id, applied as applied_of, named, primary, selection, selected_of, chain_of, level, sum_sign, sum_of, comparison, compared_of, unary, product, summed, concatenated, bit_and, bit_xor, bit_or, compared, conjunction, disjunction, implication, equivalence, expression, bare, expr, branch, unary_operator}
+use Rattle.uc_grammar.specs.Syntax.{F, Placed, Head, rule, in_name, arguments, brackets, sign_operand, if_expression, id, applied as applied_of, named, primary, selection, selected_of, chain_of, level, sum_sign, sum_of, comparison, compared_of, unary, product, summed, concatenated, bit_and, bit_xor, bit_or, compared, conjunction, disjunction, implication, equivalence, expression, expr, branch, unary_operator}
 use Rattle.uc_syntax.specs.declared.place.Identifier.{Identifier}
 use Rattle.uc_syntax.specs.declared.expression.UnaryOperator.{UnaryOperator}
 use Rattle.uc_syntax.specs.declared.expression.UnaryOperator.TheVariants as unary_operators
@@ -28,13 +27,13 @@ use Rattle.uc_syntax.specs.declared.expression.Expr.TheViews.{roll-Expr}
 use Rattle.uc_syntax.specs.declared.expression.Expr.TheFolds.{map-Expr, fold-roll-Expr, ind-Expr}
 use Rattle.uc_printed.specs.Piece.{Piece, name, applied, fixed, Shows, is_on_bits}
 use Rattle.uc_printed.specs.Printed.{Printed, none, piece, sign, identifier, ◌<+>◌, nested, when, each, behind, joined, has_one, in_parens, nowhere, erased_identifier}
-use Rattle.uc_printed.specs.Expressions.{Leveled, place_for, at, whole, is_marked, is_chain, chain, sum_kind, terms, sum_words, comparison_kind, enclosed, prime, primary_words, is_selected, selection_words, branch_words, unary_kind, expr_form, leveled, each_branch, branch_nowhere, each_selection, selection_nowhere, each_primary, primary_nowhere, marks_nowhere, sign_nowhere, erase_form, erased_expr}
+use Rattle.uc_printed.specs.Expressions.{Leveled, place_for, at, whole, is_marked, is_chain, chain, sum_kind, terms, sum_words, comparison_kind, enclosed, prime, primary_words, is_selected, selection_words, branch_words, unary_kind, expr_form, leveled, each_branch, branch_nowhere, each_selection, selection_nowhere, each_primary, marks_nowhere, sign_nowhere, erase_form, erased_expr}
 use Rattle.uc_printed.specs.Law.{Prints}
 use Rattle.uc_printed.proofs.Words.{name_codes, name_code}
-use Rattle.uc_printed.proofs.Steps.{s_when, s_ahead, s_not_ahead, s_any, s_first, s_next, s_a_name, s_optional_none, s_optional_some, unit, assoc, s_word, s_name, s_none, s_both, s_left, s_right, s_made, s_weak, s_after, s_before, s_deep, s_id, s_each, s_behind, s_joined, many_none, many_one, same, never}
-use Rattle.uc_printed.proofs.Maps.{map_twice, each_over, behind_over, joined_over}
+use Rattle.uc_printed.proofs.Steps.{s_when, s_ahead, s_not_ahead, s_any, s_first, s_next, s_a_name, s_optional_some, assoc, s_word, s_none, s_both, s_left, s_right, s_made, s_weak, s_after, s_before, s_deep, s_id, s_each, s_joined, many_none, many_one, same, never}
+use Rattle.uc_printed.proofs.Maps.{map_twice, each_over, joined_over}
 use Rattle.uc_printed.proofs.ExpressionEquations.{map_selected, map_if, erased_branch, erased_selection, erased_primary, erased_if, erased_iff, erased_implies, erased_or, erased_and, erased_bit_or, erased_bit_xor, erased_bit_and, erased_concat, erased_product, erased_sum, erased_compare, erased_unary, erased_selected}
-use Rattle.uc_printed.proofs.Stand.{Is, IsExpr, IsHead, Good, s_bare, s_whole, s_group, s_at}
+use Rattle.uc_printed.proofs.Stand.{Is, IsExpr, IsHead, Good, s_whole, s_group, s_at}
 
 -- ---- expressions with what is known of them
 

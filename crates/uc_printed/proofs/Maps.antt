@@ -1,7 +1,7 @@
 -- Lists of parts that were changed one by one.
-use Rattle.std.proofs.Common.{◌≡◌, List, [], ◌∷◌, map, true, refl, ap, ◌∙◌}
+use Rattle.std.proofs.Common.{◌≡◌, List, [], ◌∷◌, map, true, refl, ap}
 use Rattle.uc_grammar.specs.declared.word.Kind.{Kind}
-use Rattle.uc_printed.specs.Printed.{Printed, sign, ◌<+>◌, each, behind, joined, listed, when, has_one}
+use Rattle.uc_printed.specs.Printed.{Printed, sign, ◌<+>◌, each, behind, joined, listed, when}
 
 pub map_twice : {A B C : Type 0} (f : A → B) (g : B → C) (xs : List A) → map g (map f xs) ≡ map (λ x. g (f x)) xs
 map_twice f g [] = refl

@@ -1,18 +1,17 @@
 -- An expression that may stand somewhere may stand wherever looser ones may, and in parentheses everywhere.
 use Rattle.std.specs.Prelude.{nat_le, if◌then◌else◌}
-use Rattle.std.proofs.Common.{◌≡◌, ℕ, zero, suc, ◌+◌, ◌-◌, ◌≤◌, Bool, true, false, List, [], ◌∷◌, Option, Some, None, map, refl, sym, ap, subst, ◌∙◌, arith, inl, inr, ◌⊎◌}
+use Rattle.std.proofs.Common.{◌≡◌, ℕ, zero, suc, ◌+◌, ◌-◌, ◌≤◌, Bool, true, false, List, [], ◌∷◌, Option, Some, None, map, refl, subst, arith, inl, inr}
 use Rattle.std.proofs.lemmas.Bool.{leb-true}
 use Rattle.uc_lexer.specs.declared.place.Place.{Place}
-use Rattle.uc_forms.specs.Form.{both, made, deep, many, word}
+use Rattle.uc_forms.specs.Form.{many}
 use Rattle.uc_grammar.specs.declared.word.Word.{Word}
 use Rattle.uc_grammar.specs.declared.word.Kind.{Kind}
 use Rattle.uc_grammar.specs.declared.word.Kind.TheVariants as kinds
-use Rattle.uc_grammar.specs.Syntax.{F, Placed, Head, head, parens, rule, primary, selection, selected_of, chain_of, level, sum_of, compared_of, unary, product, summed, concatenated, bit_and, bit_xor, bit_or, compared, conjunction, disjunction, implication, equivalence, expression, bare, expr}
+use Rattle.uc_grammar.specs.Syntax.{F, Placed, Head, parens, rule, primary, selected_of, chain_of, level, sum_of, compared_of, unary, product, summed, concatenated, bit_and, bit_xor, bit_or, compared, conjunction, disjunction, implication, equivalence, expression, bare, expr}
 use Rattle.uc_syntax.specs.declared.expression.Expr.{Expr}
 use Rattle.uc_syntax.specs.declared.expression.Expr.TheViews as exprs
 use Rattle.uc_syntax.specs.declared.expression.Selection.{Selection}
-use Rattle.uc_syntax.specs.declared.expression.Primary.{Primary}
-use Rattle.uc_printed.specs.Printed.{Printed, none, sign, ◌<+>◌, nested, in_parens}
+use Rattle.uc_printed.specs.Printed.{Printed, none, sign, ◌<+>◌, in_parens}
 use Rattle.uc_printed.specs.Expressions.{Leveled, place_for, at, whole, erased_expr}
 use Rattle.uc_printed.specs.Law.{Prints}
 use Rattle.uc_printed.proofs.Steps.{unit, same, s_word, s_both, s_made, s_first, s_next, s_before, s_deep, s_optional_none, many_none}

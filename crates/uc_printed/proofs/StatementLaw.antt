@@ -1,16 +1,14 @@
 -- The printed words of a statement spell it.
 use Rattle.std.specs.Option.{option_map}
-use Rattle.std.proofs.Common.{◌≡◌, ℕ, Bool, true, false, List, [], ◌∷◌, Option, Some, None, map, refl, sym, ap, subst, ◌∙◌, inl, inr, ◌⊎◌}
-use Rattle.uc_forms.specs.Form.{quiet, Mark, both, either, chain, until, made, deep, many, word, one_of, after, before, nothing, joined_by}
+use Rattle.std.proofs.Common.{◌≡◌, ℕ, Bool, true, false, List, [], ◌∷◌, Option, Some, None, map, refl, sym, ap, subst, ◌∙◌, ◌⊎◌}
+use Rattle.uc_forms.specs.Form.{quiet, Mark, both, either, chain, made, deep, word, after, before}
 use Rattle.uc_lexer.specs.declared.place.Place.{Place}
 use Rattle.uc_grammar.specs.declared.word.Word.{Word}
-use Rattle.uc_grammar.specs.declared.word.Kind.{Kind}
 use Rattle.uc_grammar.specs.declared.word.Kind.TheVariants as kinds
-use Rattle.uc_grammar.specs.Code.{name_in, value_in, width_in}
-use Rattle.uc_grammar.specs.Syntax.{F, rule, listed as listed_form, optional, has, ty, parameter as parameter_form, identifier as identifier_of, a_name, id, new_id, expr, in_name, arguments, target_index, negative_bound, block, typed_name, range_bounds, call_targets, enclosed as enclosed_form, label_of, labelled as labelled_form, target_of, target_part, target, targets, bound, statements, arm, if_statement, default_block, case_statement, loop_variable, for_statement, called_targets, call_statement, place_of, statement}
+use Rattle.uc_grammar.specs.Code.{value_in, width_in}
+use Rattle.uc_grammar.specs.Syntax.{F, rule, listed as listed_form, optional, has, new_id, expr, arguments, target_index, negative_bound, block, typed_name, range_bounds, call_targets, label_of, labelled as labelled_form, target_of, target_part, target, targets, bound, statements, arm, if_statement, default_block, case_statement, loop_variable, for_statement, called_targets, call_statement, place_of, statement}
 use Rattle.uc_syntax.specs.declared.place.Identifier.{Identifier}
 use Rattle.uc_syntax.specs.declared.type_expression.TypeExpr.{TypeExpr}
-use Rattle.uc_syntax.specs.declared.type_expression.Parameter.{Parameter}
 use Rattle.uc_syntax.specs.declared.expression.Expr.{Expr}
 use Rattle.uc_syntax.specs.declared.statement.Arm.{Arm}
 use Rattle.uc_syntax.specs.declared.statement.Target.{Target}
@@ -25,16 +23,16 @@ use Rattle.uc_syntax.specs.declared.statement.Stmt.TheVariants as stmts
 use Rattle.uc_syntax.specs.declared.statement.Stmt.TheViews as stmt_views
 use Rattle.uc_syntax.specs.declared.statement.Stmt.TheViews.{roll-Stmt}
 use Rattle.uc_syntax.specs.declared.statement.Stmt.TheFolds.{map-Stmt, fold-roll-Stmt, ind-Stmt}
-use Rattle.uc_printed.specs.Piece.{name, fixed, Shows}
-use Rattle.uc_printed.specs.Printed.{Printed, none, piece, sign, identifier, ◌<+>◌, nested, when, each, joined, listed, has_one, in_parens, nowhere, erased_identifier}
+use Rattle.uc_printed.specs.Piece.{name}
+use Rattle.uc_printed.specs.Printed.{Printed, none, sign, identifier, ◌<+>◌, nested, when, each, listed, has_one, in_parens, nowhere, erased_identifier}
 use Rattle.uc_printed.specs.Types.{printed_type, erased_type}
 use Rattle.uc_printed.specs.Expressions.{printed_expr, erased_expr, enclosed, prime}
 use Rattle.uc_printed.specs.Statements.{part_words, target_words, bound_words, block_words, labelled, arm_words, further_words, else_words, choice_words, case_words, default_words, variable_words, called_words, stmt_form, printed_stmt, erased_part, erased_target, erased_bound, each_arm, arm_nowhere, erase_stmt_form, erased_stmt}
 use Rattle.uc_printed.specs.Law.{Prints}
 use Rattle.uc_printed.proofs.Words.{name_code}
-use Rattle.uc_printed.proofs.Steps.{s_ahead, s_not_ahead, s_any, s_first, s_next, s_a_name, s_optional_none, s_optional_some, unit, assoc, s_word, s_none, s_both, s_left, s_right, s_made, s_weak, s_after, s_before, s_deep, s_id, s_each, s_joined, s_listed, s_enclosed, s_until, s_chain, s_chain_some, s_chain_none, IsLeft, IsRight, IsSome, same, never}
+use Rattle.uc_printed.proofs.Steps.{s_ahead, s_not_ahead, s_first, s_next, s_a_name, s_optional_none, s_optional_some, s_word, s_both, s_left, s_right, s_made, s_weak, s_after, s_before, s_deep, s_id, s_each, s_listed, s_enclosed, s_until, s_chain, s_chain_some, s_chain_none, IsLeft, IsRight, IsSome, same, never}
 use Rattle.uc_printed.proofs.Maps.{map_twice, each_over}
-use Rattle.uc_printed.proofs.TypeLaw.{type_spelled, s_new_id, s_parameter, erased_parameter}
+use Rattle.uc_printed.proofs.TypeLaw.{type_spelled, s_new_id, s_parameter}
 use Rattle.uc_printed.proofs.ExpressionLaw.{expr_spelled, s_deep_name}
 
 -- ---- targets and bounds

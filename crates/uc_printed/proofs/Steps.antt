@@ -1,17 +1,17 @@
 -- Printed words spell a form: one step for each shape of form.
-use Rattle.std.specs.Prelude.{max, ◌&&◌}
+use Rattle.std.specs.Prelude.{◌&&◌}
 use Rattle.std.proofs.Common.{◌≡◌, ℕ, zero, suc, ◌≤◌, Bool, true, false, List, [], ◌∷◌, ◌++◌, Option, Some, None, map, refl, sym, ap, subst, ◌∙◌, append_assoc, append-nil, arith, inl, inr, ◌⊎◌}
-use Rattle.uc_forms.specs.Form.{Mark, quiet, any, nothing, both, either, chain, until, made, ahead, deep, word, one_of, declared, after, before, many, joined_by, goes_on_with, merged, ◌<|>◌, member, codes_of}
+use Rattle.uc_forms.specs.Form.{Mark, quiet, any, nothing, both, either, chain, until, made, ahead, deep, word, after, before, many, joined_by, merged, ◌<|>◌, member, codes_of}
 use Rattle.uc_forms.proofs.Run.{own_code}
-use Rattle.uc_forms.specs.Spelling.{SpellWith, SpellAt, SpellUntil, SpellChain}
+use Rattle.uc_forms.specs.Spelling.{SpellWith, SpellAt}
 use Rattle.uc_grammar.specs.declared.word.Word.{Word}
 use Rattle.uc_grammar.specs.declared.word.Kind.{Kind}
 use Rattle.uc_grammar.specs.declared.word.Kind.TheVariants.{Name, Comma, LeftParen, RightParen}
-use Rattle.uc_grammar.specs.Code.{code_of, name_in}
-use Rattle.uc_grammar.specs.Syntax.{words, known, Nested, Value, F, rule, identifier as identifier_of, a_name, id, new_id, listed as listed_form, optional, enclosed as enclosed_form}
+use Rattle.uc_grammar.specs.Code.{code_of}
+use Rattle.uc_grammar.specs.Syntax.{words, known, Nested, Value, F, rule, identifier as identifier_of, a_name, id, listed as listed_form, optional, enclosed as enclosed_form}
 use Rattle.uc_syntax.specs.declared.place.Identifier.{Identifier}
-use Rattle.uc_printed.specs.Piece.{Piece, name, applied, fixed, Shows, Shown}
-use Rattle.uc_printed.specs.Printed.{Printed, none, piece, sign, identifier, ◌<+>◌, nested, when, each, behind, joined, listed, has_one, nowhere, erased_identifier}
+use Rattle.uc_printed.specs.Piece.{Piece, name, fixed, Shows, Shown}
+use Rattle.uc_printed.specs.Printed.{Printed, none, piece, sign, identifier, ◌<+>◌, nested, when, each, behind, joined, listed, nowhere, erased_identifier}
 use Rattle.uc_printed.specs.Law.{Prints}
 use Rattle.uc_printed.proofs.Words.{fixed_code, name_codes, name_code, split, no_words, one_word}
 

@@ -1,11 +1,11 @@
 -- The printed words of a type spell it.
-use Rattle.std.proofs.Common.{◌≡◌, ℕ, List, [], ◌∷◌, Option, Some, None, map, refl, sym, ap, subst, ◌∙◌, inl, inr}
-use Rattle.uc_forms.specs.Form.{quiet, declares}
+use Rattle.std.proofs.Common.{◌≡◌, ℕ, List, [], ◌∷◌, Option, Some, None, map, refl, sym, ap, subst, ◌∙◌}
+use Rattle.uc_forms.specs.Form.{declares}
 use Rattle.uc_lexer.specs.declared.place.Place.{Place}
 use Rattle.uc_grammar.specs.declared.word.Kind.TheVariants as kinds
 use Rattle.uc_grammar.specs.declared.word.Word.{Word}
 use Rattle.uc_grammar.specs.Code.{width_in, name_in}
-use Rattle.uc_grammar.specs.Syntax.{F, rule, ty, parameter as parameter_form, identifier as identifier_of, new_id, array, enum_braces, record_braces, named_type}
+use Rattle.uc_grammar.specs.Syntax.{rule, ty, parameter as parameter_form, identifier as identifier_of, new_id, array, enum_braces, record_braces, named_type}
 use Rattle.uc_syntax.specs.declared.place.Identifier.{Identifier}
 use Rattle.uc_syntax.specs.declared.type_expression.Parameter.{Parameter}
 use Rattle.uc_syntax.specs.declared.type_expression.TypeExpr.{TypeExpr}
@@ -20,7 +20,7 @@ use Rattle.uc_printed.specs.Printed.{Printed, piece, sign, identifier, ◌<+>◌
 use Rattle.uc_printed.specs.Types.{parameter, type_form, printed_type, each_parameter, parameter_nowhere, erase_type_form, erased_type}
 use Rattle.uc_printed.specs.Law.{Prints, TypesAreSpelled}
 use Rattle.uc_printed.proofs.Words.{name_code}
-use Rattle.uc_printed.proofs.Steps.{s_a_name, s_optional_none, s_optional_some, unit, s_any, s_first, s_next, s_word, s_name, s_none, s_both, s_left, s_right, s_made, s_weak, s_after, s_before, s_deep, s_listed, s_id, same}
+use Rattle.uc_printed.proofs.Steps.{s_a_name, s_optional_none, s_optional_some, unit, s_first, s_next, s_word, s_name, s_both, s_made, s_after, s_before, s_deep, s_listed, s_id, same}
 use Rattle.uc_printed.proofs.Maps.{map_twice, listed_over}
 
 -- ---- a layer with each part changed

@@ -1,12 +1,12 @@
 -- Words that show given pieces, and the codes of their kinds.
-use Rattle.std.proofs.Common.{◌≡◌, ℕ, Bool, true, false, List, [], ◌∷◌, ◌++◌, refl, sym, ap, subst, ◌∙◌}
+use Rattle.std.proofs.Common.{◌≡◌, ℕ, true, List, [], ◌∷◌, ◌++◌, refl, ap, ◌∙◌}
 use Rattle.uc_forms.specs.Form.{member, codes_of}
 use Rattle.uc_grammar.specs.declared.word.Word.{Word}
 use Rattle.uc_grammar.specs.declared.word.Kind.{Kind}
 use Rattle.uc_grammar.specs.declared.word.Kind.TheVariants.{Name, OnBits, Range, Unroll, Induction, Verify, Check, PrintResults, PrintCex}
-use Rattle.uc_grammar.specs.Code.{code_of, name_in}
+use Rattle.uc_grammar.specs.Code.{code_of}
 use Rattle.uc_grammar.specs.Syntax.{words, known}
-use Rattle.uc_printed.specs.Piece.{Piece, name, applied, fixed, is_name, is_on_bits, numbered, Shows, Shown}
+use Rattle.uc_printed.specs.Piece.{Piece, fixed, is_name, numbered, Shows, Shown}
 
 pub numbered_code : (k : Kind) (m : ℕ) → code_of (numbered k m) ≡ code_of k
 numbered_code (OnBits f n) m = refl

@@ -20,7 +20,7 @@ use Rattle.uc_syntax.specs.declared.expression.Expr.TheOpen.Expr-F.{If, Iff, Imp
 use Rattle.uc_syntax.specs.declared.expression.Expr.TheViews as exprs
 use Rattle.uc_syntax.specs.declared.expression.Expr.TheFolds.{fold-Expr}
 use Rattle.uc_printed.specs.Piece.{name, applied}
-use Rattle.uc_printed.specs.Printed.{Printed, none, piece, sign, identifier, ◌<+>◌, nested, when, each, joined, listed, has_one, in_parens, nowhere, erased_identifier}
+use Rattle.uc_printed.specs.Printed.{Printed, none, piece, sign, identifier, ◌<+>◌, nested, when, each, joined, has_one, in_parens, nowhere, erased_identifier}
 
 -- An expression binds the more loosely the higher it is: unary forms and selections are lowest, then come the levels of chains, and `if` is highest.
 pub record Leveled : Type 0 where

@@ -33,3 +33,7 @@ StatementsAreSpelled = (s : Stmt) → Prints statement (printed_stmt s) (λ u. e
 -- and for the modules of a text, or of a whole design
 abbrev pub ModulesAreSpelled : Type 0
 ModulesAreSpelled = (ms : List Module) → Prints text (modules_words ms) (λ ns. erased_modules ns ≡ erased_modules ms)
+
+-- So whatever list of modules the printed words of a shaped list spell, it is that list, places aside.
+abbrev pub PrintedIsReadBack : Type 0
+PrintedIsReadBack = (ms : List Module) (m : ℕ) (ws : List Word) (ns : List Module) → (modules_words ms).is_shaped ≡ true → (modules_words ms).depth ≤ m → Shown (modules_words ms).words ws → Spells rule m text ws ns → erased_modules ns ≡ erased_modules ms

@@ -1,10 +1,9 @@
 -- The words of statements.
-use Rattle.std.specs.Prelude.{Bool, true, false, List, [], ◌∷◌, map, Option, Some, None}
+use Rattle.std.specs.Prelude.{true, false, List, [], ◌∷◌, map, Option, Some, None}
 use Rattle.std.specs.Option.{option_map}
 use Rattle.uc_grammar.specs.declared.word.Kind.TheVariants as kinds
 use Rattle.uc_syntax.specs.declared.place.Identifier.{Identifier}
 use Rattle.uc_syntax.specs.declared.type_expression.TypeExpr.{TypeExpr}
-use Rattle.uc_syntax.specs.declared.expression.Expr.{Expr}
 use Rattle.uc_syntax.specs.declared.statement.Arm.{Arm}
 use Rattle.uc_syntax.specs.declared.statement.Target.{Target}
 use Rattle.uc_syntax.specs.declared.statement.TargetPart.{TargetPart}

@@ -1,5 +1,5 @@
 -- The words of types.
-use Rattle.std.specs.Prelude.{List, map}
+use Rattle.std.specs.Prelude.{map}
 use Rattle.uc_grammar.specs.declared.word.Kind.TheVariants.{BvType, LeftBrace, RightBrace, LeftBracket, RightBracket, Colon, Dot, KwBoolean, KwInteger, KwEnum, KwRecord}
 use Rattle.uc_syntax.specs.declared.type_expression.Parameter.{Parameter}
 use Rattle.uc_syntax.specs.declared.type_expression.TypeExpr.{TypeExpr}

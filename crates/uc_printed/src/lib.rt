@@ -8,5 +8,6 @@
 mod law;
 
 pub use law::{
-    expressions_are_spelled, modules_are_spelled, statements_are_spelled, types_are_spelled,
+    expressions_are_spelled, modules_are_spelled, printed_is_read_back, statements_are_spelled,
+    types_are_spelled,
 };
