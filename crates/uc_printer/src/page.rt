@@ -8,7 +8,7 @@ use std::marker::Model;
 
 /// The bytes of a text.
 #[derive(Drop)]
-pub(crate) struct Page {
+pub struct Page {
     bytes: Vec<u8>,
 }
 
@@ -21,7 +21,7 @@ impl Model for Page {
 }
 
 impl Page {
-    pub(crate) fn new(alloc: Global) -> Page
+    pub fn new(alloc: Global) -> Page
         ensures { result ≡ [] }
     {
         Page {
@@ -29,7 +29,7 @@ impl Page {
         }
     }
 
-    pub(crate) fn into_bytes(self) -> Vec<u8>
+    pub fn into_bytes(self) -> Vec<u8>
         ensures { result.items ≡ self }
     {
         let Page { bytes } = self;
@@ -37,7 +37,7 @@ impl Page {
     }
 
     /// Puts bytes as they are.
-    pub(crate) fn put(&mut self, bytes: &[u8]) -> Result<(), AllocError>
+    pub fn put(&mut self, bytes: &[u8]) -> Result<(), AllocError>
         ensures { OnOk result (self.new ≡ self.old ++ bytes.now) }
     {
         self.bytes.extend_from_slice(bytes)?;
@@ -46,7 +46,7 @@ impl Page {
 
     /// Puts a word behind a blank.
     #[tactic(auto, unfolding(crate::specs::Text::with_word))]
-    pub(crate) fn word(&mut self, word: &[u8]) -> Result<(), AllocError>
+    pub fn word(&mut self, word: &[u8]) -> Result<(), AllocError>
         ensures { OnOk result (self.new ≡ with_word self.old word.now) }
     {
         self.bytes.push(b' ')?;
@@ -56,7 +56,7 @@ impl Page {
 
     /// Puts a word of three parts behind a blank.
     #[tactic(auto, unfolding(crate::specs::Text::with_word))]
-    pub(crate) fn word_of(
+    pub fn word_of(
         &mut self,
         first: &[u8],
         second: &[u8],

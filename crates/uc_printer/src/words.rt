@@ -20,7 +20,7 @@ fn name_text(names: &Names, number: u32) -> &[u8]
 }
 
 /// Puts the text of a name.
-pub(crate) fn put_name(page: &mut Page, names: &Names, number: u32) -> Result<(), AllocError>
+pub fn put_name(page: &mut Page, names: &Names, number: u32) -> Result<(), AllocError>
     ensures { OnOk result (page.new ≡ with_word page.old (name_text names.now number)) }
 {
     page.word(name_text(names, number))
@@ -62,7 +62,7 @@ fn put_literal(page: &mut Page, value: u128, width: u32) -> Result<(), AllocErro
 }
 
 /// Puts a word that is no name of the design.
-pub(crate) fn put_sign(page: &mut Page, kind: Kind) -> Result<(), AllocError>
+pub fn put_sign(page: &mut Page, kind: Kind) -> Result<(), AllocError>
     ensures { OnOk result (page.new ≡ with_word page.old (kind_text kind)) }
 {
     match kind {
