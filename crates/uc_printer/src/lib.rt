@@ -41,7 +41,10 @@ mod tests {
         put_type(&mut page, &names, &ty)?;
         put_sign(&mut page, Kind::BvLit(5, 8))?;
         let bytes = page.into_bytes();
-        assert_eq!(rt; bytes.as_slice(), b"type red [ bv8 ] enum { red } 5bv8".as_slice());
+        assert_eq!(rt;
+            bytes.as_slice(),
+            b"type red [ bv8 ] enum { red } 5bv8".as_slice()
+        );
         Ok(())
     }
 }

@@ -56,12 +56,7 @@ impl Page {
 
     /// Puts a word of three parts behind a blank.
     #[tactic(auto, unfolding(crate::specs::Text::with_word))]
-    pub fn word_of(
-        &mut self,
-        first: &[u8],
-        second: &[u8],
-        third: &[u8],
-    ) -> Result<(), AllocError>
+    pub fn word_of(&mut self, first: &[u8], second: &[u8], third: &[u8]) -> Result<(), AllocError>
         ensures { OnOk result (self.new ≡ with_word self.old (first.now ++ (second.now ++ third.now))) }
     {
         self.bytes.push(b' ')?;
