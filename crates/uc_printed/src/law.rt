@@ -26,17 +26,3 @@ pub fn printed_is_read_back()
 {
     uc_grammar::spells_one_list();
 }
-
-#[cfg(test)]
-mod tests {
-    use super::*;
-
-    #[test]
-    fn laws_hold(_rt: HostRuntime) {
-        types_are_spelled();
-        expressions_are_spelled();
-        statements_are_spelled();
-        modules_are_spelled();
-        printed_is_read_back();
-    }
-}
