@@ -1,2 +1,4 @@
 pub mod Features
 pub mod Standing
+pub mod Steps
+pub mod Folds

@@ -3,6 +3,9 @@
 
 mod building;
 mod copying;
+mod folding;
+mod rebuild;
 mod simplifier;
+mod step;
 
 pub use simplifier::simplify;

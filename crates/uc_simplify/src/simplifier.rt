@@ -9,8 +9,8 @@ ghost use Rattle.uc_simplify.specs.Features.{BringsNoMore};
 ghost use Rattle.uc_simplify.specs.Simplified.{Grows, StandsFor};
 ghost use Rattle.uc_simplify.specs.Walking.{PartsAnswered};
 
-use crate::building::build;
 use crate::copying::copy_op;
+use crate::rebuild::rebuild;
 use std::alloc::{AllocError, Global};
 use uc_terms::{TermId, Terms, subterms};
 
@@ -64,7 +64,7 @@ fn simplified(
     let node = terms.node(place);
     let op = copy_op(alloc, &node.op)?;
     let parts = answered(alloc, node.parts.as_slice(), answers)?;
-    build(alloc, terms, op, &parts)
+    rebuild(alloc, terms, op, parts)
 }
 
 /// The answers at the numbers of the parts.

@@ -1,0 +1,107 @@
+//! An operation on parts that are simplified.
+
+ghost use Rattle.std.specs.Prelude.{◌≡◌, ℕ, ◌<◌, [], ◌∷◌, length, IfOk, IfSome, All};
+ghost use Rattle.uc_ops.specs.Typing.{Suits, types_at, type_at};
+ghost use Rattle.uc_terms.specs.Tables.{WellTyped};
+ghost use Rattle.uc_simplify.specs.Simplified.{Rebuilds, Grows};
+ghost use Rattle.uc_simplify.specs.Steps.{IsRight};
+
+use crate::building::build;
+use crate::folding::{folded_one, folded_two};
+use crate::step::Step;
+use std::alloc::{AllocError, Global};
+use uc_items::Items;
+use uc_terms::{Op, TermId, Terms};
+
+/// How many steps are taken at one operation, at most.
+const STEPS: u32 = 16;
+
+/// What stands for the operation on the parts.
+pub(crate) fn rebuild(
+    alloc: Global,
+    terms: &mut Terms,
+    op: Op,
+    parts: Vec<TermId>,
+) -> Result<TermId, AllocError>
+    requires there { All (λ p. p < length terms.old) parts.items }
+    requires suits { Suits op (types_at terms.old parts.items) }
+    ensures rebuilt { IfOk result (λ r. Rebuilds terms.new r terms.old op parts.items) }
+    ensures grown { Grows terms.old terms.new }
+    ensures well { WellTyped terms.new }
+{
+    let _count = terms.len();
+    match settled(alloc, terms, op, Items::from_vec(parts), STEPS)? {
+        Step::Known(t) => Ok(t),
+        Step::Other(op, parts) => build(alloc, terms, op, parts.as_slice()),
+    }
+}
+
+/// What is left after as many steps as there are rules that fit, up to a bound.
+fn settled(
+    alloc: Global,
+    terms: &Terms,
+    op: Op,
+    parts: Items<TermId>,
+    steps: u32,
+) -> Result<Step, AllocError>
+    requires there { All (λ p. p < length terms.now) parts }
+    requires suits { Suits op (types_at terms.now parts) }
+    ensures { IfOk result (IsRight terms.now op parts) }
+{
+    if steps == 0 {
+        return Ok(Step::Other(op, parts));
+    }
+    match step(alloc, terms, &op, parts.as_slice())? {
+        Some(Step::Other(next, own)) => settled(alloc, terms, next, own, steps - 1),
+        Some(known) => Ok(known),
+        None => Ok(Step::Other(op, parts)),
+    }
+}
+
+/// The first rule that fits.
+fn step(
+    alloc: Global,
+    terms: &Terms,
+    op: &Op,
+    parts: &[TermId],
+) -> Result<Option<Step>, AllocError>
+    requires there { All (λ p. p < length terms.now) parts.now }
+    requires suits { Suits op.now (types_at terms.now parts.now) }
+    ensures { IfOk result (λ o. IfSome o (IsRight terms.now op.now parts.now)) }
+{
+    match parts {
+        [a] => step_one(alloc, terms, op, *a),
+        [a, b] => step_two(alloc, terms, op, *a, *b),
+        _ => Ok(None),
+    }
+}
+
+/// A rule for one part.
+fn step_one(
+    alloc: Global,
+    terms: &Terms,
+    op: &Op,
+    a: TermId,
+) -> Result<Option<Step>, AllocError>
+    requires there { a < length terms.now }
+    requires suits { Suits op.now (type_at terms.now a ∷ []) }
+    ensures { IfOk result (λ o. IfSome o (IsRight terms.now op.now (a ∷ []))) }
+{
+    folded_one(alloc, terms, op, a)
+}
+
+/// A rule for two parts.
+fn step_two(
+    alloc: Global,
+    terms: &Terms,
+    op: &Op,
+    a: TermId,
+    b: TermId,
+) -> Result<Option<Step>, AllocError>
+    requires left { a < length terms.now }
+    requires right { b < length terms.now }
+    requires suits { Suits op.now (type_at terms.now a ∷ type_at terms.now b ∷ []) }
+    ensures { IfOk result (λ o. IfSome o (IsRight terms.now op.now (a ∷ b ∷ []))) }
+{
+    folded_two(alloc, terms, op, a, b)
+}
