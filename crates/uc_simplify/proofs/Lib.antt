@@ -2,3 +2,4 @@ pub mod Features
 pub mod Standing
 pub mod Steps
 pub mod Folds
+pub mod Booleans

@@ -1,8 +1,10 @@
 -- By what an operation on parts may be replaced.
-use Rattle.std.specs.Prelude.{◌≡◌, ◌⊎◌, ℕ, ◌<◌, Bool as Truth, true, false, IsTrue, List, [], ◌∷◌, length, All, Contains}
-use Rattle.uc_values.specs.Values.{fits}
+use Rattle.std.specs.Prelude.{◌≡◌, ◌⊎◌, ℕ, ◌<◌, Bool as Truth, true, false, not, IsTrue, List, [], ◌∷◌, length, All, Contains}
+use Rattle.uc_values.specs.Values.{fits, truth_of}
 use Rattle.uc_values.specs.declared.ty.Ty.{Ty}
+use Rattle.uc_values.specs.declared.ty.Ty.TheVariants.{Bool as Boolean}
 use Rattle.uc_values.specs.declared.value.Value.{Value}
+use Rattle.uc_values.specs.declared.value.Value.TheVariants.{Bool as Holds}
 use Rattle.uc_ops.specs.declared.model.Model.{Model}
 use Rattle.uc_ops.specs.declared.op.Op.{Op}
 use Rattle.uc_ops.specs.declared.op.Op.TheVariants.{Not, Scale, Le, BvAdd, BvSub, BvMul, BvNeg, BvAnd, BvOr, BvXor, BvNot, Concat, Extract, ZeroExt, SignExt, Shl, Lshr, Ashr, Slt, Sle, Ult, Ule}
@@ -10,7 +12,7 @@ use Rattle.uc_ops.specs.declared.node.Node.{Node}
 use Rattle.uc_ops.specs.Typing.{Suits, is_constant, type_of, type_at, types_at}
 use Rattle.uc_ops.specs.Meaning.{apply}
 use Rattle.uc_terms.specs.Values.{value, values_at}
-use Rattle.uc_terms.specs.Subterms.{IsBelow}
+use Rattle.uc_terms.specs.Subterms.{IsSubterm, IsBelow}
 use Rattle.uc_simplify.specs.Features.{Feature, Shows, OneBrings}
 use Rattle.uc_simplify.specs.declared.step.Step.{Step}
 use Rattle.uc_simplify.specs.declared.step.Step.TheVariants.{Known, Other}
@@ -68,3 +70,15 @@ is_evaluated Sle = true
 is_evaluated Ult = true
 is_evaluated Ule = true
 is_evaluated other = false
+
+-- the term is a constant of this truth
+abbrev pub IsTruth : List Node → ℕ → Truth → Type 0
+IsTruth nodes t b = (m : Model) → value m nodes t ≡ Holds b
+
+-- the term is the negation of the other, which is below it
+pub record IsNegation (nodes : List Node) (t part : ℕ) : Type 0 where
+  pub there : part < length nodes
+  pub ty : type_at nodes part ≡ Boolean
+  pub own : type_at nodes t ≡ Boolean
+  pub below : IsSubterm nodes t part
+  pub same : (m : Model) → value m nodes t ≡ Holds (not (truth_of (value m nodes part)))

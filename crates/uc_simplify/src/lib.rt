@@ -7,5 +7,6 @@ mod folding;
 mod rebuild;
 mod simplifier;
 mod step;
+mod truths;
 
 pub use simplifier::simplify;

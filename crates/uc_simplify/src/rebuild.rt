@@ -1,6 +1,7 @@
 //! An operation on parts that are simplified.
 
 ghost use Rattle.std.specs.Prelude.{◌≡◌, ℕ, ◌<◌, [], ◌∷◌, length, IfOk, IfSome, All};
+ghost use Rattle.uc_ops.specs.declared.op.Op.TheVariants.{Ite};
 ghost use Rattle.uc_ops.specs.Typing.{Suits, types_at, type_at};
 ghost use Rattle.uc_terms.specs.Tables.{WellTyped};
 ghost use Rattle.uc_simplify.specs.Simplified.{Rebuilds, Grows};
@@ -9,6 +10,7 @@ ghost use Rattle.uc_simplify.specs.Steps.{IsRight};
 use crate::building::build;
 use crate::folding::{folded_one, folded_two};
 use crate::step::Step;
+use crate::truths::{chosen, condition_itself, condition_negated, turned, twice_negated, unchosen};
 use std::alloc::{AllocError, Global};
 use uc_items::Items;
 use uc_terms::{Op, TermId, Terms};
@@ -72,6 +74,7 @@ fn step(
     match parts {
         [a] => step_one(alloc, terms, op, *a),
         [a, b] => step_two(alloc, terms, op, *a, *b),
+        [a, b, c] => step_three(alloc, terms, op, *a, *b, *c),
         _ => Ok(None),
     }
 }
@@ -87,6 +90,11 @@ fn step_one(
     requires suits { Suits op.now (type_at terms.now a ∷ []) }
     ensures { IfOk result (λ o. IfSome o (IsRight terms.now op.now (a ∷ []))) }
 {
+    if let Op::Not = op {
+        if let Some(step) = twice_negated(terms, a) {
+            return Ok(Some(step));
+        }
+    }
     folded_one(alloc, terms, op, a)
 }
 
@@ -104,4 +112,54 @@ fn step_two(
     ensures { IfOk result (λ o. IfSome o (IsRight terms.now op.now (a ∷ b ∷ []))) }
 {
     folded_two(alloc, terms, op, a, b)
+}
+
+/// A rule for three parts.
+fn step_three(
+    alloc: Global,
+    terms: &Terms,
+    op: &Op,
+    a: TermId,
+    b: TermId,
+    c: TermId,
+) -> Result<Option<Step>, AllocError>
+    requires first { a < length terms.now }
+    requires second { b < length terms.now }
+    requires third { c < length terms.now }
+    requires suits { Suits op.now (type_at terms.now a ∷ type_at terms.now b ∷ type_at terms.now c ∷ []) }
+    ensures { IfOk result (λ o. IfSome o (IsRight terms.now op.now (a ∷ b ∷ c ∷ []))) }
+{
+    match op {
+        Op::Ite => conditional(alloc, terms, a, b, c),
+        _ => Ok(None),
+    }
+}
+
+/// A rule for a conditional.
+fn conditional(
+    alloc: Global,
+    terms: &Terms,
+    a: TermId,
+    b: TermId,
+    c: TermId,
+) -> Result<Option<Step>, AllocError>
+    requires first { a < length terms.now }
+    requires second { b < length terms.now }
+    requires third { c < length terms.now }
+    requires suits { Suits Ite (type_at terms.now a ∷ type_at terms.now b ∷ type_at terms.now c ∷ []) }
+    ensures { IfOk result (λ o. IfSome o (IsRight terms.now Ite (a ∷ b ∷ c ∷ []))) }
+{
+    if let Some(step) = chosen(terms, a, b, c) {
+        return Ok(Some(step));
+    }
+    if let Some(step) = unchosen(terms, a, b, c) {
+        return Ok(Some(step));
+    }
+    if let Some(step) = turned(alloc, terms, a, b, c)? {
+        return Ok(Some(step));
+    }
+    if let Some(step) = condition_itself(terms, a, b, c) {
+        return Ok(Some(step));
+    }
+    condition_negated(alloc, terms, a, b, c)
 }
