@@ -3,3 +3,4 @@ pub mod Standing
 pub mod Steps
 pub mod Folds
 pub mod Booleans
+pub mod Twos

@@ -1,5 +1,5 @@
 -- By what an operation on parts may be replaced.
-use Rattle.std.specs.Prelude.{◌≡◌, ◌⊎◌, ℕ, ◌<◌, Bool as Truth, true, false, not, IsTrue, List, [], ◌∷◌, length, All, Contains}
+use Rattle.std.specs.Prelude.{◌≡◌, ◌⊎◌, ℕ, ◌<◌, Bool as Truth, true, false, not, IsTrue, List, [], ◌∷◌, length, All, Contains, Option, Some, None, nat_eq}
 use Rattle.uc_values.specs.Values.{fits, truth_of}
 use Rattle.uc_values.specs.declared.ty.Ty.{Ty}
 use Rattle.uc_values.specs.declared.ty.Ty.TheVariants.{Bool as Boolean}
@@ -7,7 +7,7 @@ use Rattle.uc_values.specs.declared.value.Value.{Value}
 use Rattle.uc_values.specs.declared.value.Value.TheVariants.{Bool as Holds}
 use Rattle.uc_ops.specs.declared.model.Model.{Model}
 use Rattle.uc_ops.specs.declared.op.Op.{Op}
-use Rattle.uc_ops.specs.declared.op.Op.TheVariants.{Not, Scale, Le, BvAdd, BvSub, BvMul, BvNeg, BvAnd, BvOr, BvXor, BvNot, Concat, Extract, ZeroExt, SignExt, Shl, Lshr, Ashr, Slt, Sle, Ult, Ule}
+use Rattle.uc_ops.specs.declared.op.Op.TheVariants.{Not, Eq as Equal, Scale, Le, BvAdd, BvSub, BvMul, BvNeg, BvAnd, BvOr, BvXor, BvNot, Concat, Extract, ZeroExt, SignExt, Shl, Lshr, Ashr, Slt, Sle, Ult, Ule}
 use Rattle.uc_ops.specs.declared.node.Node.{Node}
 use Rattle.uc_ops.specs.Typing.{Suits, is_constant, type_of, type_at, types_at}
 use Rattle.uc_ops.specs.Meaning.{apply}
@@ -82,3 +82,23 @@ pub record IsNegation (nodes : List Node) (t part : ℕ) : Type 0 where
   pub own : type_at nodes t ≡ Boolean
   pub below : IsSubterm nodes t part
   pub same : (m : Model) → value m nodes t ≡ Holds (not (truth_of (value m nodes part)))
+
+-- what the operation says of two equal values, where it always says the same
+abbrev pub of_equals : Op → Option Truth
+of_equals Equal = Some true
+of_equals Le = Some true
+of_equals Sle = Some true
+of_equals Ule = Some true
+of_equals Slt = Some false
+of_equals Ult = Some false
+of_equals other = None
+
+-- the operation leaves a first value as it is, where the second has these bits
+abbrev pub is_neutral : Op → ℕ → Truth
+is_neutral BvAdd bits = nat_eq bits 0
+is_neutral BvOr bits = nat_eq bits 0
+is_neutral BvXor bits = nat_eq bits 0
+is_neutral Shl bits = nat_eq bits 0
+is_neutral Lshr bits = nat_eq bits 0
+is_neutral BvMul bits = nat_eq bits 1
+is_neutral other bits = false

@@ -4,6 +4,7 @@
 mod building;
 mod copying;
 mod folding;
+mod pairs;
 mod rebuild;
 mod simplifier;
 mod step;

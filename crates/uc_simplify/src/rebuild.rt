@@ -1,7 +1,7 @@
 //! An operation on parts that are simplified.
 
 ghost use Rattle.std.specs.Prelude.{◌≡◌, ℕ, ◌<◌, [], ◌∷◌, length, IfOk, IfSome, All};
-ghost use Rattle.uc_ops.specs.declared.op.Op.TheVariants.{Ite};
+ghost use Rattle.uc_ops.specs.declared.op.Op.TheVariants.{Ite, Eq as Equal};
 ghost use Rattle.uc_ops.specs.Typing.{Suits, types_at, type_at};
 ghost use Rattle.uc_terms.specs.Tables.{WellTyped};
 ghost use Rattle.uc_simplify.specs.Simplified.{Rebuilds, Grows};
@@ -9,6 +9,9 @@ ghost use Rattle.uc_simplify.specs.Steps.{IsRight};
 
 use crate::building::build;
 use crate::folding::{folded_one, folded_two};
+use crate::pairs::{
+    compared_constants, compared_to_false, compared_to_itself, compared_to_true, unchanged,
+};
 use crate::step::Step;
 use crate::truths::{chosen, condition_itself, condition_negated, turned, twice_negated, unchosen};
 use std::alloc::{AllocError, Global};
@@ -111,7 +114,40 @@ fn step_two(
     requires suits { Suits op.now (type_at terms.now a ∷ type_at terms.now b ∷ []) }
     ensures { IfOk result (λ o. IfSome o (IsRight terms.now op.now (a ∷ b ∷ []))) }
 {
-    folded_two(alloc, terms, op, a, b)
+    if let Some(step) = folded_two(alloc, terms, op, a, b)? {
+        return Ok(Some(step));
+    }
+    if let Some(step) = compared_to_itself(alloc, terms, op, a, b) {
+        return Ok(Some(step));
+    }
+    if let Some(step) = unchanged(terms, op, a, b) {
+        return Ok(Some(step));
+    }
+    match op {
+        Op::Eq => equality(alloc, terms, a, b),
+        _ => Ok(None),
+    }
+}
+
+/// A rule for an equality.
+fn equality(
+    alloc: Global,
+    terms: &Terms,
+    a: TermId,
+    b: TermId,
+) -> Result<Option<Step>, AllocError>
+    requires left { a < length terms.now }
+    requires right { b < length terms.now }
+    requires suits { Suits Equal (type_at terms.now a ∷ type_at terms.now b ∷ []) }
+    ensures { IfOk result (λ o. IfSome o (IsRight terms.now Equal (a ∷ b ∷ []))) }
+{
+    if let Some(step) = compared_constants(alloc, terms, a, b) {
+        return Ok(Some(step));
+    }
+    if let Some(step) = compared_to_true(terms, a, b) {
+        return Ok(Some(step));
+    }
+    compared_to_false(alloc, terms, a, b)
 }
 
 /// A rule for three parts.

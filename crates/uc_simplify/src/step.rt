@@ -1,11 +1,16 @@
 //! Steps: what an operation on parts may be replaced by.
 
 ghost use Rattle.std.specs.Prelude.{◌≡◌, [], ◌<◌, length, IfSome};
+ghost use Rattle.uc_values.specs.declared.ty.Ty.TheVariants.{Bool as Boolean};
+ghost use Rattle.uc_values.specs.declared.value.Value.TheVariants.{Bool as Holds};
+ghost use Rattle.uc_ops.specs.declared.op.Op.TheVariants.{Const};
 ghost use Rattle.uc_simplify.specs.Steps.{IsConstant};
+ghost use Rattle.uc_simplify.specs.declared.step.Step.TheVariants.{Other};
 
+use std::alloc::Global;
 use uc_items::Items;
 use uc_terms::{Op, TermId, Terms};
-use uc_values::Value;
+use uc_values::{Ty, Value};
 
 /// What an operation on parts may be replaced by.
 #[derive(Drop)]
@@ -25,4 +30,11 @@ pub(crate) fn constant(terms: &Terms, t: TermId) -> Option<&Value>
         Op::Const(_, value) => Some(value),
         _ => None,
     }
+}
+
+/// A truth.
+pub(crate) fn boolean(alloc: Global, truth: bool) -> Step
+    ensures { result ≡ Other (Const Boolean (Holds truth)) [] }
+{
+    Step::Other(Op::Const(Ty::Bool, Value::Bool(truth)), Items::new(alloc))
 }
