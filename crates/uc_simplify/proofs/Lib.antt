@@ -4,3 +4,4 @@ pub mod Steps
 pub mod Folds
 pub mod Booleans
 pub mod Twos
+pub mod Joins

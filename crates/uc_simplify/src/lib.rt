@@ -4,6 +4,7 @@
 mod building;
 mod copying;
 mod folding;
+mod junctions;
 mod pairs;
 mod rebuild;
 mod simplifier;

@@ -9,6 +9,7 @@ ghost use Rattle.uc_simplify.specs.Steps.{IsRight};
 
 use crate::building::build;
 use crate::folding::{folded_one, folded_two};
+use crate::junctions::{conjunct_alone, disjunct_alone, granted, refuted};
 use crate::pairs::{
     compared_constants, compared_to_false, compared_to_itself, compared_to_true, unchanged,
 };
@@ -74,11 +75,26 @@ fn step(
     requires suits { Suits op.now (types_at terms.now parts.now) }
     ensures { IfOk result (λ o. IfSome o (IsRight terms.now op.now parts.now)) }
 {
+    if let Some(step) = absorbed(alloc, terms, op, parts) {
+        return Ok(Some(step));
+    }
     match parts {
         [a] => step_one(alloc, terms, op, *a),
         [a, b] => step_two(alloc, terms, op, *a, *b),
         [a, b, c] => step_three(alloc, terms, op, *a, *b, *c),
         _ => Ok(None),
+    }
+}
+
+/// A rule for a conjunction or a disjunction.
+fn absorbed(alloc: Global, terms: &Terms, op: &Op, parts: &[TermId]) -> Option<Step>
+    requires { All (λ p. p < length terms.now) parts.now }
+    ensures { IfSome result (IsRight terms.now op.now parts.now) }
+{
+    match op {
+        Op::And => refuted(alloc, terms, parts),
+        Op::Or => granted(alloc, terms, parts),
+        _ => None,
     }
 }
 
@@ -93,12 +109,17 @@ fn step_one(
     requires suits { Suits op.now (type_at terms.now a ∷ []) }
     ensures { IfOk result (λ o. IfSome o (IsRight terms.now op.now (a ∷ []))) }
 {
-    if let Op::Not = op {
-        if let Some(step) = twice_negated(terms, a) {
-            return Ok(Some(step));
+    match op {
+        Op::Not => {
+            if let Some(step) = twice_negated(terms, a) {
+                return Ok(Some(step));
+            }
+            folded_one(alloc, terms, op, a)
         }
+        Op::And => Ok(Some(conjunct_alone(terms, a))),
+        Op::Or => Ok(Some(disjunct_alone(terms, a))),
+        _ => folded_one(alloc, terms, op, a),
     }
-    folded_one(alloc, terms, op, a)
 }
 
 /// A rule for two parts.
