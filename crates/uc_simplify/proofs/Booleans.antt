@@ -1,5 +1,5 @@
 -- Negations and conditionals.
-use Rattle.std.specs.Prelude.{◌≡◌, ◌⊎◌, ℕ, ◌<◌, Bool, true, false, not, cond, IsTrue, List, [], ◌∷◌, length, slice_get, Some, All, Contains}
+use Rattle.std.specs.Prelude.{◌≡◌, ℕ, ◌<◌, Bool, true, false, not, cond, IsTrue, List, [], ◌∷◌, length, All, Contains}
 use Rattle.std.proofs.Common.{refl, sym, ap, ◌∙◌, arith, subst, get_or}
 use Rattle.std.proofs.lemmas.List.Elements.{All-nil, All-cons, All-head}
 use Rattle.uc_values.specs.Values.{fits, truth_of}
@@ -7,17 +7,15 @@ use Rattle.uc_values.specs.declared.ty.Ty.{Ty}
 use Rattle.uc_values.specs.declared.ty.Ty.TheVariants.{Bool as Boolean}
 use Rattle.uc_values.specs.declared.value.Value.{Value}
 use Rattle.uc_values.specs.declared.value.Value.TheVariants.{Bool as Holds}
-use Rattle.uc_values.proofs.Fitting.{IsBoolean, IsBoolean-fits}
+use Rattle.uc_values.proofs.Fitting.{IsBoolean-fits}
 use Rattle.uc_ops.specs.declared.model.Model.{Model}
-use Rattle.uc_ops.specs.declared.op.Op.{Op}
 use Rattle.uc_ops.specs.declared.op.Op.TheVariants.{Not, Ite}
 use Rattle.uc_ops.specs.declared.node.Node.{Node}
 use Rattle.uc_ops.specs.Typing.{Suits, type_of, type_at, types_at}
 use Rattle.uc_ops.specs.Meaning.{apply}
-use Rattle.uc_ops.proofs.Lists.{slice_get-within}
 use Rattle.uc_terms.specs.Tables.{WellTyped, HasOp, parts_at}
 use Rattle.uc_terms.specs.Values.{value, values_at}
-use Rattle.uc_terms.specs.Subterms.{IsSubterm, itself, deeper, IsBelow}
+use Rattle.uc_terms.specs.Subterms.{itself, deeper, IsBelow}
 use Rattle.uc_terms.proofs.Grown.{type-node, parts-node}
 use Rattle.uc_terms.proofs.Values.{value-node}
 use Rattle.uc_terms.proofs.Fitting.{value-fits}

@@ -1,20 +1,18 @@
 -- Subterms, and what they bring, where a table grows and where a term is made.
-use Rattle.std.specs.Prelude.{◌≡◌, ◌⊎◌, ℕ, ◌<◌, ◌≤◌, List, [], ◌∷◌, ◌++◌, length, slice_get, Option, Some, None, All, Contains}
+use Rattle.std.specs.Prelude.{◌≡◌, ◌⊎◌, ℕ, ◌<◌, ◌≤◌, List, ◌++◌, length, slice_get, Option, Some, None, All, Contains}
 use Rattle.std.specs.Option.{option_map}
-use Rattle.std.proofs.Common.{refl, sym, ap, ◌∙◌, arith, subst, inl, inr, length-append}
+use Rattle.std.proofs.Common.{refl, sym, ap, ◌∙◌, arith, subst, inl, inr}
 use Rattle.std.proofs.lemmas.List.Elements.{All-contains}
 use Rattle.uc_values.specs.declared.ty.Ty.{Ty}
 use Rattle.uc_ops.specs.declared.op.Op.{Op}
 use Rattle.uc_ops.specs.declared.op.Op.TheVariants.{Symbol, App}
 use Rattle.uc_ops.specs.declared.node.Node.{Node}
 use Rattle.uc_ops.specs.Typing.{type_of, types_at}
-use Rattle.uc_ops.proofs.Lists.{at_place, slice_get-within}
+use Rattle.uc_ops.proofs.Lists.{at_place}
 use Rattle.uc_terms.specs.Tables.{WellTyped, Makes, HasOp, parts_at, parts_in, node_of}
 use Rattle.uc_terms.specs.Subterms.{IsSubterm, itself, deeper, IsBelow, EvenlyTyped}
 use Rattle.uc_terms.proofs.Grown.{slice_get-front, types-keep, parts-node}
-use Rattle.uc_terms.proofs.Values.{within_all}
-use Rattle.uc_simplify.specs.Features.{Feature, symbol, function, integer, array, difference, Shows, Bears, Brings, OneBrings, BringsNoMore}
-use Rattle.uc_simplify.specs.Simplified.{Grows, StandsFor}
+use Rattle.uc_simplify.specs.Features.{Feature, symbol, function, Shows, Bears, Brings, OneBrings, BringsNoMore}
 
 -- the parts of a term that is there stand before it
 pub part_before : (nodes : List Node) (k p : ℕ) → WellTyped nodes → k < length nodes → Contains (parts_at nodes k) p → p < k

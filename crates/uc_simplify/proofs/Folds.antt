@@ -1,5 +1,5 @@
 -- Operations on constants.
-use Rattle.std.specs.Prelude.{◌≡◌, ℕ, ◌<◌, true, false, IsTrue, List, [], ◌∷◌, map, length, All}
+use Rattle.std.specs.Prelude.{◌≡◌, ℕ, ◌<◌, IsTrue, List, [], ◌∷◌, map, length, All}
 use Rattle.std.proofs.Common.{refl, sym, ap, ◌∙◌, arith, subst, take}
 use Rattle.std.proofs.lemmas.List.Elements.{All-nil, All-cons}
 use Rattle.uc_values.specs.Values.{fits}
@@ -12,14 +12,14 @@ use Rattle.uc_ops.specs.declared.model.Model.{Model}
 use Rattle.uc_ops.specs.declared.op.Op.{Op}
 use Rattle.uc_ops.specs.declared.op.Op.TheVariants.{Const, Not, Scale, Le, BvAdd, BvSub, BvMul, BvNeg, BvAnd, BvOr, BvXor, BvNot, Concat, Extract, ZeroExt, SignExt, Shl, Lshr, Ashr, Slt, Sle, Ult, Ule}
 use Rattle.uc_ops.specs.declared.node.Node.{Node}
-use Rattle.uc_ops.specs.Typing.{Suits, AllValid, is_constant, part_type, type_of, type_at, types_at}
+use Rattle.uc_ops.specs.Typing.{Suits, AllValid, is_constant, part_type, type_of, types_at}
 use Rattle.uc_ops.specs.Meaning.{part, apply}
 use Rattle.uc_ops.specs.Met.{Sound}
 use Rattle.uc_ops.proofs.Soundness.{op-sound}
 use Rattle.uc_ops.proofs.Typed.{type_of-valid}
 use Rattle.uc_ops.proofs.Fitting.{Fits, apply-fits}
 use Rattle.uc_terms.specs.Tables.{WellTyped}
-use Rattle.uc_terms.specs.Values.{value, values_at}
+use Rattle.uc_terms.specs.Values.{values_at}
 use Rattle.uc_terms.proofs.Grown.{types-valid}
 use Rattle.uc_simplify.specs.Steps.{Replaces, IsConstant, is_evaluated}
 use Rattle.uc_simplify.proofs.Steps.{constant_replaces}

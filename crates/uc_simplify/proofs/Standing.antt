@@ -3,7 +3,7 @@ use Rattle.std.specs.Prelude.{◌≡◌, ◌⊎◌, ℕ, ◌+◌, ◌<◌, ◌�
 use Rattle.std.proofs.Common.{refl, sym, ap, ◌∙◌, arith, subst, inl, inr, length-append, get_or, append_assoc, append-nil, zero, suc}
 use Rattle.std.proofs.lemmas.Bool.Decides.{leb_tells}
 use Rattle.std.proofs.lemmas.List.{get_or_default}
-use Rattle.std.proofs.lemmas.List.Elements.{All-contains, All-head, All-tail, All-weaker, All-nil, All-cons}
+use Rattle.std.proofs.lemmas.List.Elements.{All-head, All-tail, All-weaker, All-nil, All-cons}
 use Rattle.std.proofs.Math.ListN.{get_or-append}
 use Rattle.std.proofs.Math.Seq.{get_or-append_seam}
 use Rattle.uc_ops.specs.declared.op.Op.{Op}
@@ -11,15 +11,14 @@ use Rattle.uc_ops.specs.declared.model.Model.{Model}
 use Rattle.uc_ops.specs.declared.node.Node.{Node}
 use Rattle.uc_ops.specs.Typing.{Suits, type_of, type_at, types_at}
 use Rattle.uc_ops.specs.Meaning.{apply}
-use Rattle.uc_ops.proofs.Lists.{same_map, slice_get-within}
 use Rattle.uc_terms.specs.Tables.{WellTyped, parts_at}
 use Rattle.uc_terms.specs.Values.{value, values_at}
 use Rattle.uc_terms.specs.Laws.{KeepsValues}
-use Rattle.uc_terms.specs.Subterms.{IsSubterm, itself, deeper, IsBelow, Marked, AreSubterms}
+use Rattle.uc_terms.specs.Subterms.{itself, deeper, Marked, AreSubterms}
 use Rattle.uc_terms.proofs.Grown.{type-keeps, type-node, parts-node}
-use Rattle.uc_terms.proofs.Values.{value-keeps, value-node, within_all}
+use Rattle.uc_terms.proofs.Values.{value-keeps, value-node}
 use Rattle.uc_terms.proofs.Walk.{marked_within}
-use Rattle.uc_simplify.specs.Features.{Feature, Shows, Bears, Brings, OneBrings, BringsNoMore}
+use Rattle.uc_simplify.specs.Features.{Feature, Shows, Brings, OneBrings}
 use Rattle.uc_simplify.specs.Simplified.{Grows, StandsFor, Rebuilds}
 use Rattle.uc_simplify.specs.Walking.{PartsAnswered, Answered}
 use Rattle.uc_simplify.proofs.Features.{part_before, parts-keep, brings-keeps, brings-grows, brings-below}
@@ -196,11 +195,11 @@ parts_known old now roots marks answers place w a h b =
     let same : parts_at now place ≡ parts_at old place = ap (λ ns. parts_at ns place) b.grown.is ∙ parts-keep old b.grown.more place within in
     subst (All (Fine now answers)) (sym same)
     (λ k d l.
-        let p = get_or (parts_at old place) k d in
-        let c : Contains (parts_at old place) p = (k, l, get_or_default (parts_at old place) k p d l) in
-        let before = part_before old place p w within c in
-        let stands = b.each p before (a.complete p (record { root = r.root; listed = r.listed; below = deeper place p r.below c })) in
-        (omega (arith, before, b.size), StandsFor-later old now now (slice_index answers p) p w b.grown (omega (arith, before, within)) stands))
+    let p = get_or (parts_at old place) k d in
+    let c : Contains (parts_at old place) p = (k, l, get_or_default (parts_at old place) k p d l) in
+    let before = part_before old place p w within c in
+    let stands = b.each p before (a.complete p (record { root = r.root; listed = r.listed; below = deeper place p r.below c })) in
+    (omega (arith, before, b.size), StandsFor-later old now now (slice_index answers p) p w b.grown (omega (arith, before, within)) stands))
 
 -- the last answer stands for the root
 pub root_stands : (old now : List Node) (t : ℕ) (marks : List Bool) (answers : List ℕ) (place : ℕ) → AreSubterms old (t ∷ []) marks → length marks ≤ place → Answered old now marks answers place

@@ -1,8 +1,8 @@
 -- Steps after one another, and what is made of them.
-use Rattle.std.specs.Prelude.{◌≡◌, ◌⊎◌, ℕ, ◌<◌, ◌≤◌, true, false, IsTrue, List, [], ◌∷◌, ◌++◌, length, slice_get, Some, All, Contains, Result, Ok, Err, IfOk}
-use Rattle.std.proofs.Common.{refl, sym, ap, ◌∙◌, arith, subst, inl, inr, get_or}
+use Rattle.std.specs.Prelude.{◌≡◌, ℕ, ◌<◌, IsTrue, List, [], length, All, Result, Ok, Err, IfOk}
+use Rattle.std.proofs.Common.{refl, sym, ap, ◌∙◌, subst, inl, inr, get_or}
 use Rattle.std.proofs.lemmas.List.{get_or_default}
-use Rattle.std.proofs.lemmas.List.Elements.{All-contains, All-nil, All-cons}
+use Rattle.std.proofs.lemmas.List.Elements.{All-contains, All-nil}
 use Rattle.uc_values.specs.Values.{fits}
 use Rattle.uc_values.specs.declared.ty.Ty.{Ty}
 use Rattle.uc_values.specs.declared.value.Value.{Value}
@@ -12,13 +12,12 @@ use Rattle.uc_ops.specs.declared.op.Op.TheVariants.{Const, Symbol, App, Diff}
 use Rattle.uc_ops.specs.declared.node.Node.{Node}
 use Rattle.uc_ops.specs.Typing.{Suits, Valid, is_constant, type_of, type_at, types_at}
 use Rattle.uc_ops.specs.Meaning.{apply}
-use Rattle.uc_ops.proofs.Lists.{at_place, slice_get-within}
 use Rattle.uc_terms.specs.Tables.{WellTyped, HasOp}
-use Rattle.uc_terms.specs.Values.{value, values_at}
-use Rattle.uc_terms.specs.Subterms.{IsSubterm, itself, deeper, IsBelow}
+use Rattle.uc_terms.specs.Values.{values_at}
+use Rattle.uc_terms.specs.Subterms.{itself, IsBelow}
 use Rattle.uc_terms.proofs.Grown.{type-node}
 use Rattle.uc_terms.proofs.Values.{value-node}
-use Rattle.uc_simplify.specs.Features.{Feature, symbol, function, integer, array, difference, Shows, Brings, OneBrings}
+use Rattle.uc_simplify.specs.Features.{Feature, symbol, function, integer, array, difference, Shows, OneBrings}
 use Rattle.uc_simplify.specs.Simplified.{Rebuilds}
 use Rattle.uc_simplify.specs.Steps.{IsKnown, Replaces, IsRight, IsConstant}
 use Rattle.uc_simplify.specs.declared.step.Step.{Step}

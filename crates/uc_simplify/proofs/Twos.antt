@@ -1,12 +1,11 @@
 -- Rules for two parts.
-use Rattle.std.specs.Prelude.{◌≡◌, ℕ, ℤ, pos, negsuc, ◌<◌, ◌^◌, ◌*◌, ◌/◌, ◌%◌, Bool, true, false, not, ◌&&◌, nat_eq, nat_lt, nat_le, int_lt, int_le, bit_or, bit_xor, IsTrue, List, [], ◌∷◌, length, Option, Some, None, All}
-use Rattle.std.specs.Ordering.{int_eq}
-use Rattle.std.proofs.Common.{refl, sym, ap, ◌∙◌, arith, subst, eq-eqb, eqb-true, add-zero, div-one, rules}
+use Rattle.std.specs.Prelude.{◌≡◌, ℕ, ℤ, pos, negsuc, ◌<◌, ◌^◌, ◌%◌, Bool, true, false, not, ◌&&◌, nat_eq, nat_lt, nat_le, int_lt, int_le, bit_or, bit_xor, IsTrue, List, [], ◌∷◌, length, Some}
+use Rattle.std.proofs.Common.{refl, sym, ap, ◌∙◌, arith, subst, eq-eqb, eqb-true, add-zero, div-one}
 use Rattle.std.specs.Int.Bits.{or_zero_r, xor_zero_r}
 use Rattle.std.proofs.Math.Nat.{mod-eq_of_lt, mul-one}
 use Rattle.std.proofs.lemmas.Bool.Decides.{nat_tests, Decides-int_eq}
 use Rattle.std.proofs.lemmas.List.Elements.{All-nil, All-cons}
-use Rattle.uc_values.specs.Values.{fits, truth_of, number_of, bits_of, width_in, same_scalar, same_truth}
+use Rattle.uc_values.specs.Values.{fits, truth_of, number_of, bits_of, same_scalar, same_truth}
 use Rattle.uc_values.specs.Sameness.{same}
 use Rattle.uc_values.specs.Operators.{signed_of, added, multiplied, shifted_left, shifted_right}
 use Rattle.uc_values.specs.declared.ty.Ty.{Ty}

@@ -9,7 +9,7 @@ use Rattle.uc_values.specs.declared.ty.Ty.TheOpen.Ty-F.{Int as integer_type, Rec
 use Rattle.uc_ops.specs.declared.op.Op.{Op}
 use Rattle.uc_ops.specs.declared.op.Op.TheVariants.{Symbol, App, Diff}
 use Rattle.uc_ops.specs.declared.node.Node.{Node}
-use Rattle.uc_ops.specs.Typing.{type_of, types_at}
+use Rattle.uc_ops.specs.Typing.{types_at}
 use Rattle.uc_terms.specs.Subterms.{IsSubterm}
 
 abbrev pub integer_form : Ty-F Bool → Bool

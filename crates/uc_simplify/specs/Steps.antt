@@ -1,7 +1,6 @@
 -- By what an operation on parts may be replaced.
-use Rattle.std.specs.Prelude.{◌≡◌, ◌⊎◌, ℕ, ◌<◌, Bool as Truth, true, false, not, IsTrue, List, [], ◌∷◌, length, All, Contains, Option, Some, None, nat_eq}
+use Rattle.std.specs.Prelude.{◌≡◌, ◌⊎◌, ℕ, ◌<◌, Bool as Truth, true, false, not, IsTrue, List, length, All, Option, Some, None, nat_eq}
 use Rattle.uc_values.specs.Values.{fits, truth_of}
-use Rattle.uc_values.specs.declared.ty.Ty.{Ty}
 use Rattle.uc_values.specs.declared.ty.Ty.TheVariants.{Bool as Boolean}
 use Rattle.uc_values.specs.declared.value.Value.{Value}
 use Rattle.uc_values.specs.declared.value.Value.TheVariants.{Bool as Holds}

@@ -54,12 +54,7 @@ fn of_equals(op: &Op) -> Option<bool>
 }
 
 /// Whether two constants are equal.
-pub(crate) fn compared_constants(
-    alloc: Global,
-    terms: &Terms,
-    a: TermId,
-    b: TermId,
-) -> Option<Step>
+pub(crate) fn compared_constants(alloc: Global, terms: &Terms, a: TermId, b: TermId) -> Option<Step>
     requires left { a < length terms.now }
     requires right { b < length terms.now }
     requires suits { Suits Equal (type_at terms.now a ∷ type_at terms.now b ∷ []) }

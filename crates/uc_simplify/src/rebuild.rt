@@ -65,12 +65,7 @@ fn settled(
 }
 
 /// The first rule that fits.
-fn step(
-    alloc: Global,
-    terms: &Terms,
-    op: &Op,
-    parts: &[TermId],
-) -> Result<Option<Step>, AllocError>
+fn step(alloc: Global, terms: &Terms, op: &Op, parts: &[TermId]) -> Result<Option<Step>, AllocError>
     requires there { All (λ p. p < length terms.now) parts.now }
     requires suits { Suits op.now (types_at terms.now parts.now) }
     ensures { IfOk result (λ o. IfSome o (IsRight terms.now op.now parts.now)) }
@@ -99,12 +94,7 @@ fn absorbed(alloc: Global, terms: &Terms, op: &Op, parts: &[TermId]) -> Option<S
 }
 
 /// A rule for one part.
-fn step_one(
-    alloc: Global,
-    terms: &Terms,
-    op: &Op,
-    a: TermId,
-) -> Result<Option<Step>, AllocError>
+fn step_one(alloc: Global, terms: &Terms, op: &Op, a: TermId) -> Result<Option<Step>, AllocError>
     requires there { a < length terms.now }
     requires suits { Suits op.now (type_at terms.now a ∷ []) }
     ensures { IfOk result (λ o. IfSome o (IsRight terms.now op.now (a ∷ []))) }
@@ -151,12 +141,7 @@ fn step_two(
 }
 
 /// A rule for an equality.
-fn equality(
-    alloc: Global,
-    terms: &Terms,
-    a: TermId,
-    b: TermId,
-) -> Result<Option<Step>, AllocError>
+fn equality(alloc: Global, terms: &Terms, a: TermId, b: TermId) -> Result<Option<Step>, AllocError>
     requires left { a < length terms.now }
     requires right { b < length terms.now }
     requires suits { Suits Equal (type_at terms.now a ∷ type_at terms.now b ∷ []) }

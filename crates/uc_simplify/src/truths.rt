@@ -46,12 +46,7 @@ pub(crate) fn twice_negated(terms: &Terms, a: TermId) -> Option<Step>
 }
 
 /// A conditional whose condition is known.
-pub(crate) fn chosen(
-    terms: &Terms,
-    condition: TermId,
-    then: TermId,
-    other: TermId,
-) -> Option<Step>
+pub(crate) fn chosen(terms: &Terms, condition: TermId, then: TermId, other: TermId) -> Option<Step>
     requires condition { condition < length terms.now }
     requires taken { then < length terms.now }
     requires other { other < length terms.now }

@@ -1,5 +1,4 @@
-use Rattle.std.proofs.Common.{[], sym, subst}
-use Rattle.uc_ops.specs.Typing.{types_at}
+use Rattle.std.proofs.Common.{sym, subst}
 use Rattle.uc_ops.specs.Met.{Sound}
 use Rattle.uc_simplify.proofs.Folds.{few_given, evaluated_on}
 use Rattle.uc_simplify.proofs.folding.evaluated.Goals as goal

@@ -1,4 +1,4 @@
-use Rattle.std.proofs.Common.{◌≡◌, [], ◌∷◌, rules, sym, ap, ◌∙◌, subst, List}
+use Rattle.std.proofs.Common.{[], ◌∷◌, rules, sym, subst}
 use Rattle.uc_terms.specs.Tables.{WellTyped}
 use Rattle.uc_terms.proofs.Grown.{types-valid}
 use Rattle.uc_simplify.proofs.Folds.{two_constants, two_there, constants_sound, constants_fold}

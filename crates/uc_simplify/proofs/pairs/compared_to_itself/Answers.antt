@@ -1,5 +1,5 @@
-use Rattle.std.proofs.Common.{◌≡◌, IsTrue, sym, ap, ◌∙◌, rules, subst}
-use Rattle.uc_ops.specs.Typing.{is_constant, type_at}
+use Rattle.std.proofs.Common.{◌≡◌, sym, ap, ◌∙◌, rules}
+use Rattle.uc_ops.specs.Typing.{is_constant}
 use Rattle.uc_simplify.proofs.Twos.{itself_right}
 use Rattle.uc_simplify.proofs.pairs.compared_to_itself.Goals as goal
 

@@ -1,4 +1,4 @@
-use Rattle.std.proofs.Common.{◌≡◌, ◌∙◌, sym, subst, true, ap, rules, arith}
+use Rattle.std.proofs.Common.{◌≡◌, ◌∙◌, sym, true, ap}
 use Rattle.uc_simplify.specs.Steps.{is_neutral}
 use Rattle.uc_simplify.proofs.Twos.{unchanged_known}
 use Rattle.uc_simplify.proofs.pairs.unchanged.Goals as goal

@@ -1,7 +1,6 @@
-use Rattle.std.proofs.Common.{◌≡◌, Some, Option, subst, sym}
+use Rattle.std.proofs.Common.{◌≡◌, Some, subst}
 use Rattle.std.specs.Prelude.{IfSome}
-use Rattle.uc_simplify.specs.declared.step.Step.{Step}
-use Rattle.uc_simplify.specs.declared.step.Step.TheVariants.{Known, Other}
+use Rattle.uc_simplify.specs.declared.step.Step.TheVariants.{Other}
 use Rattle.uc_simplify.specs.Steps.{Replaces, IsRight}
 use Rattle.uc_simplify.proofs.Steps.{Replaces-itself, after_call}
 use Rattle.uc_simplify.proofs.rebuild.+settled.Goals as goal

@@ -1,5 +1,4 @@
-use Rattle.std.proofs.Common.{◌≡◌, subst}
-use Rattle.uc_simplify.specs.declared.step.Step.TheVariants.{Known, Other}
+use Rattle.std.proofs.Common.{subst}
 use Rattle.uc_simplify.specs.Steps.{IsKnown, Replaces, IsRight}
 use Rattle.uc_simplify.proofs.Steps.{known_rebuilds, call_rebuilds}
 use Rattle.uc_simplify.proofs.rebuild.rebuild.Goals as goal

@@ -1,4 +1,4 @@
-use Rattle.std.proofs.Common.{rules, [], ◌∷◌, slice_index, ◌≡◌, ◌∙◌, ◌<◌, ◌≤◌, length, false, true, sym, ap, subst, arith}
+use Rattle.std.proofs.Common.{rules, [], ◌∷◌, slice_index, ◌∙◌, ◌<◌, length, false, sym, ap, subst, arith}
 use Rattle.std.proofs.lemmas.Bool.{false≢true}
 use Rattle.std.proofs.lemmas.List.{get_or_read, get_or_default}
 use Rattle.uc_terms.specs.Subterms.{Marked}
@@ -23,13 +23,13 @@ loop-place-preserved c =
     elim c.if-index.branch [
       | then-index+in_ok-simplified+in_ok-push w ↦ rw (w.terms-is, w.answers-is) (record {
         answered = Answered-push c.args.terms.now c.loop-place.terms w.simplified.new.terms marks c.loop-place.answers.items w.push.new.self.items place w.in_ok-simplified.field-0
-        c.len-count.ensures.well c.loop-place.invariant.well c.in_ok-marks.ensures.within w.simplified.ensures.grown (λ h. w.in_ok-simplified.ensures.stands) (search rules) c.loop-place.invariant.answered;
+            c.len-count.ensures.well c.loop-place.invariant.well c.in_ok-marks.ensures.within w.simplified.ensures.grown (λ h. w.in_ok-simplified.ensures.stands) (search rules) c.loop-place.invariant.answered;
         well = w.simplified.ensures.well;
       })
       | else-index+in_ok-push-2 w ↦ rw (w.terms-is, w.answers-is) (record {
         answered = Answered-push c.args.terms.now c.loop-place.terms c.loop-place.terms marks c.loop-place.answers.items w.push-else-index.new.self.items place c.args.t
-        c.len-count.ensures.well c.loop-place.invariant.well c.in_ok-marks.ensures.within (Grows-none c.loop-place.terms)
-        (λ h. absurd (false≢true (sym w.if-index.false ∙ get_or_read marks place c.index.result.now within c.index.ensures false ∙ h))) (search rules) c.loop-place.invariant.answered;
+            c.len-count.ensures.well c.loop-place.invariant.well c.in_ok-marks.ensures.within (Grows-none c.loop-place.terms)
+            (λ h. absurd (false≢true (sym w.if-index.false ∙ get_or_read marks place c.index.result.now within c.index.ensures false ∙ h))) (search rules) c.loop-place.invariant.answered;
         well = c.loop-place.invariant.well;
       })
     ]

@@ -1,5 +1,4 @@
-use Rattle.std.proofs.Common.{◌≡◌, [], ◌∷◌, List, length, get_or, ◌∙◌, ap, Some, subst, sym, arith, ℕ, refl}
-use Rattle.uc_ops.specs.declared.op.Op.TheVariants.{Not}
+use Rattle.std.proofs.Common.{◌∙◌, ap, Some, arith}
 use Rattle.uc_simplify.proofs.Booleans.{negation_found, single}
 use Rattle.uc_simplify.proofs.truths.negated.Goals as goal
 

@@ -1,5 +1,4 @@
-use Rattle.std.proofs.Common.{◌≡◌, ◌∙◌, sym, rules}
-use Rattle.std.proofs.lemmas.Bool.{eqb-true}
+use Rattle.std.proofs.Common.{◌≡◌, rules}
 use Rattle.uc_simplify.proofs.Booleans.{same_known}
 use Rattle.uc_simplify.proofs.truths.unchosen.Goals as goal
 
