@@ -30,6 +30,8 @@ mod pairs;
 mod rebuild;
 mod simplifier;
 mod step;
+#[cfg(test)]
+mod tests;
 mod truths;
 
 pub use simplifier::simplify;
