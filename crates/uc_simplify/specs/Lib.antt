@@ -1,0 +1,4 @@
+pub mod Features
+pub mod Simplified
+pub mod Walking
+pub mod Steps

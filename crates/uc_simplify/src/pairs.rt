@@ -1,0 +1,137 @@
+//! Rules for two parts.
+
+ghost use Rattle.std.specs.Prelude.{◌≡◌, ◌<◌, [], ◌∷◌, length, IfOk, IfSome};
+ghost use Rattle.uc_ops.specs.declared.op.Op.TheVariants.{Eq as Equal};
+ghost use Rattle.uc_ops.specs.Typing.{Suits, type_at, is_constant};
+ghost use Rattle.uc_simplify.specs.Steps.{IsRight, of_equals, is_neutral};
+
+use crate::step::{Step, boolean, constant};
+use crate::truths::truth;
+use std::alloc::{AllocError, Global};
+use uc_items::Items;
+use uc_terms::{Op, TermId, Terms};
+use uc_values::{Ty, Value, same_scalar};
+
+/// What a comparison says of one term twice.
+pub(crate) fn compared_to_itself(
+    alloc: Global,
+    terms: &Terms,
+    op: &Op,
+    a: TermId,
+    b: TermId,
+) -> Option<Step>
+    requires left { a < length terms.now }
+    requires right { b < length terms.now }
+    requires suits { Suits op.now (type_at terms.now a ∷ type_at terms.now b ∷ []) }
+    ensures { IfSome result (IsRight terms.now op.now (a ∷ b ∷ [])) }
+{
+    let _count = terms.len();
+    if a != b || !is_constant(terms.ty(a)) {
+        return None;
+    }
+    match of_equals(op) {
+        Some(truth) => Some(boolean(alloc, truth)),
+        None => None,
+    }
+}
+
+/// Whether a type has constants.
+fn is_constant(ty: &Ty) -> bool
+    ensures { result ≡ is_constant ty.now }
+{
+    matches!(ty, Ty::Bool | Ty::Int | Ty::Bv(_) | Ty::Enum(_, _))
+}
+
+/// What the operation says of equal values, where it always says the same.
+fn of_equals(op: &Op) -> Option<bool>
+    ensures { result ≡ of_equals op.now }
+{
+    match op {
+        Op::Eq | Op::Le | Op::Sle | Op::Ule => Some(true),
+        Op::Slt | Op::Ult => Some(false),
+        _ => None,
+    }
+}
+
+/// Whether two constants are equal.
+pub(crate) fn compared_constants(alloc: Global, terms: &Terms, a: TermId, b: TermId) -> Option<Step>
+    requires left { a < length terms.now }
+    requires right { b < length terms.now }
+    requires suits { Suits Equal (type_at terms.now a ∷ type_at terms.now b ∷ []) }
+    ensures { IfSome result (IsRight terms.now Equal (a ∷ b ∷ [])) }
+{
+    let Some(left) = constant(terms, a) else {
+        return None;
+    };
+    let Some(right) = constant(terms, b) else {
+        return None;
+    };
+    Some(boolean(alloc, same_scalar(left, right)))
+}
+
+/// Whether a term is true.
+pub(crate) fn compared_to_true(terms: &Terms, a: TermId, b: TermId) -> Option<Step>
+    requires left { a < length terms.now }
+    requires right { b < length terms.now }
+    ensures { IfSome result (IsRight terms.now Equal (a ∷ b ∷ [])) }
+{
+    let _count = terms.len();
+    let Ty::Bool = terms.ty(a) else {
+        return None;
+    };
+    let Some(true) = truth(terms, b) else {
+        return None;
+    };
+    Some(Step::Known(a))
+}
+
+/// Whether a term is false.
+pub(crate) fn compared_to_false(
+    alloc: Global,
+    terms: &Terms,
+    a: TermId,
+    b: TermId,
+) -> Result<Option<Step>, AllocError>
+    requires left { a < length terms.now }
+    requires right { b < length terms.now }
+    ensures { IfOk result (λ o. IfSome o (IsRight terms.now Equal (a ∷ b ∷ []))) }
+{
+    let _count = terms.len();
+    let Ty::Bool = terms.ty(a) else {
+        return Ok(None);
+    };
+    let Some(false) = truth(terms, b) else {
+        return Ok(None);
+    };
+    let parts = Items::from_slice(alloc, &[a])?;
+    Ok(Some(Step::Other(Op::Not, parts)))
+}
+
+/// An operation on a bit-vector whose second part leaves the first as it is.
+pub(crate) fn unchanged(terms: &Terms, op: &Op, a: TermId, b: TermId) -> Option<Step>
+    requires left { a < length terms.now }
+    requires right { b < length terms.now }
+    requires suits { Suits op.now (type_at terms.now a ∷ type_at terms.now b ∷ []) }
+    ensures { IfSome result (IsRight terms.now op.now (a ∷ b ∷ [])) }
+{
+    let _count = terms.len();
+    let Some(Value::Bv(_, bits)) = constant(terms, b) else {
+        return None;
+    };
+    if is_neutral(op, *bits) {
+        Some(Step::Known(a))
+    } else {
+        None
+    }
+}
+
+/// Whether the operation leaves a first value as it is, where the second has these bits.
+fn is_neutral(op: &Op, bits: u64) -> bool
+    ensures { result ≡ is_neutral op.now bits }
+{
+    match op {
+        Op::BvAdd | Op::BvOr | Op::BvXor | Op::Shl | Op::Lshr => bits == 0,
+        Op::BvMul => bits == 1,
+        _ => false,
+    }
+}

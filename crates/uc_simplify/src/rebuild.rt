@@ -1,0 +1,207 @@
+//! An operation on parts that are simplified.
+
+ghost use Rattle.std.specs.Prelude.{◌≡◌, ℕ, ◌<◌, [], ◌∷◌, length, IfOk, IfSome, All};
+ghost use Rattle.uc_ops.specs.declared.op.Op.TheVariants.{Ite, Eq as Equal};
+ghost use Rattle.uc_ops.specs.Typing.{Suits, types_at, type_at};
+ghost use Rattle.uc_terms.specs.Tables.{WellTyped};
+ghost use Rattle.uc_simplify.specs.Simplified.{Rebuilds, Grows};
+ghost use Rattle.uc_simplify.specs.Steps.{IsRight};
+
+use crate::building::build;
+use crate::folding::{folded_one, folded_two};
+use crate::junctions::{conjunct_alone, disjunct_alone, granted, refuted};
+use crate::pairs::{
+    compared_constants, compared_to_false, compared_to_itself, compared_to_true, unchanged,
+};
+use crate::step::Step;
+use crate::truths::{chosen, condition_itself, condition_negated, turned, twice_negated, unchosen};
+use std::alloc::{AllocError, Global};
+use uc_items::Items;
+use uc_terms::{Op, TermId, Terms};
+
+/// How many steps are taken at one operation, at most.
+const STEPS: u32 = 16;
+
+/// What stands for the operation on the parts.
+pub(crate) fn rebuild(
+    alloc: Global,
+    terms: &mut Terms,
+    op: Op,
+    parts: Vec<TermId>,
+) -> Result<TermId, AllocError>
+    requires there { All (λ p. p < length terms.old) parts.items }
+    requires suits { Suits op (types_at terms.old parts.items) }
+    ensures rebuilt { IfOk result (λ r. Rebuilds terms.new r terms.old op parts.items) }
+    ensures grown { Grows terms.old terms.new }
+    ensures well { WellTyped terms.new }
+{
+    let _count = terms.len();
+    match settled(alloc, terms, op, Items::from_vec(parts), STEPS)? {
+        Step::Known(t) => Ok(t),
+        Step::Other(op, parts) => build(alloc, terms, op, parts.as_slice()),
+    }
+}
+
+/// What is left after as many steps as there are rules that fit, up to a bound.
+fn settled(
+    alloc: Global,
+    terms: &Terms,
+    op: Op,
+    parts: Items<TermId>,
+    steps: u32,
+) -> Result<Step, AllocError>
+    requires there { All (λ p. p < length terms.now) parts }
+    requires suits { Suits op (types_at terms.now parts) }
+    ensures { IfOk result (IsRight terms.now op parts) }
+{
+    if steps == 0 {
+        return Ok(Step::Other(op, parts));
+    }
+    match step(alloc, terms, &op, parts.as_slice())? {
+        Some(Step::Other(next, own)) => settled(alloc, terms, next, own, steps - 1),
+        Some(known) => Ok(known),
+        None => Ok(Step::Other(op, parts)),
+    }
+}
+
+/// The first rule that fits.
+fn step(alloc: Global, terms: &Terms, op: &Op, parts: &[TermId]) -> Result<Option<Step>, AllocError>
+    requires there { All (λ p. p < length terms.now) parts.now }
+    requires suits { Suits op.now (types_at terms.now parts.now) }
+    ensures { IfOk result (λ o. IfSome o (IsRight terms.now op.now parts.now)) }
+{
+    if let Some(step) = absorbed(alloc, terms, op, parts) {
+        return Ok(Some(step));
+    }
+    match parts {
+        [a] => step_one(alloc, terms, op, *a),
+        [a, b] => step_two(alloc, terms, op, *a, *b),
+        [a, b, c] => step_three(alloc, terms, op, *a, *b, *c),
+        _ => Ok(None),
+    }
+}
+
+/// A rule for a conjunction or a disjunction.
+fn absorbed(alloc: Global, terms: &Terms, op: &Op, parts: &[TermId]) -> Option<Step>
+    requires { All (λ p. p < length terms.now) parts.now }
+    ensures { IfSome result (IsRight terms.now op.now parts.now) }
+{
+    match op {
+        Op::And => refuted(alloc, terms, parts),
+        Op::Or => granted(alloc, terms, parts),
+        _ => None,
+    }
+}
+
+/// A rule for one part.
+fn step_one(alloc: Global, terms: &Terms, op: &Op, a: TermId) -> Result<Option<Step>, AllocError>
+    requires there { a < length terms.now }
+    requires suits { Suits op.now (type_at terms.now a ∷ []) }
+    ensures { IfOk result (λ o. IfSome o (IsRight terms.now op.now (a ∷ []))) }
+{
+    match op {
+        Op::Not => {
+            if let Some(step) = twice_negated(terms, a) {
+                return Ok(Some(step));
+            }
+            folded_one(alloc, terms, op, a)
+        }
+        Op::And => Ok(Some(conjunct_alone(terms, a))),
+        Op::Or => Ok(Some(disjunct_alone(terms, a))),
+        _ => folded_one(alloc, terms, op, a),
+    }
+}
+
+/// A rule for two parts.
+fn step_two(
+    alloc: Global,
+    terms: &Terms,
+    op: &Op,
+    a: TermId,
+    b: TermId,
+) -> Result<Option<Step>, AllocError>
+    requires left { a < length terms.now }
+    requires right { b < length terms.now }
+    requires suits { Suits op.now (type_at terms.now a ∷ type_at terms.now b ∷ []) }
+    ensures { IfOk result (λ o. IfSome o (IsRight terms.now op.now (a ∷ b ∷ []))) }
+{
+    if let Some(step) = folded_two(alloc, terms, op, a, b)? {
+        return Ok(Some(step));
+    }
+    if let Some(step) = compared_to_itself(alloc, terms, op, a, b) {
+        return Ok(Some(step));
+    }
+    if let Some(step) = unchanged(terms, op, a, b) {
+        return Ok(Some(step));
+    }
+    match op {
+        Op::Eq => equality(alloc, terms, a, b),
+        _ => Ok(None),
+    }
+}
+
+/// A rule for an equality.
+fn equality(alloc: Global, terms: &Terms, a: TermId, b: TermId) -> Result<Option<Step>, AllocError>
+    requires left { a < length terms.now }
+    requires right { b < length terms.now }
+    requires suits { Suits Equal (type_at terms.now a ∷ type_at terms.now b ∷ []) }
+    ensures { IfOk result (λ o. IfSome o (IsRight terms.now Equal (a ∷ b ∷ []))) }
+{
+    if let Some(step) = compared_constants(alloc, terms, a, b) {
+        return Ok(Some(step));
+    }
+    if let Some(step) = compared_to_true(terms, a, b) {
+        return Ok(Some(step));
+    }
+    compared_to_false(alloc, terms, a, b)
+}
+
+/// A rule for three parts.
+fn step_three(
+    alloc: Global,
+    terms: &Terms,
+    op: &Op,
+    a: TermId,
+    b: TermId,
+    c: TermId,
+) -> Result<Option<Step>, AllocError>
+    requires first { a < length terms.now }
+    requires second { b < length terms.now }
+    requires third { c < length terms.now }
+    requires suits { Suits op.now (type_at terms.now a ∷ type_at terms.now b ∷ type_at terms.now c ∷ []) }
+    ensures { IfOk result (λ o. IfSome o (IsRight terms.now op.now (a ∷ b ∷ c ∷ []))) }
+{
+    match op {
+        Op::Ite => conditional(alloc, terms, a, b, c),
+        _ => Ok(None),
+    }
+}
+
+/// A rule for a conditional.
+fn conditional(
+    alloc: Global,
+    terms: &Terms,
+    a: TermId,
+    b: TermId,
+    c: TermId,
+) -> Result<Option<Step>, AllocError>
+    requires first { a < length terms.now }
+    requires second { b < length terms.now }
+    requires third { c < length terms.now }
+    requires suits { Suits Ite (type_at terms.now a ∷ type_at terms.now b ∷ type_at terms.now c ∷ []) }
+    ensures { IfOk result (λ o. IfSome o (IsRight terms.now Ite (a ∷ b ∷ c ∷ []))) }
+{
+    if let Some(step) = chosen(terms, a, b, c) {
+        return Ok(Some(step));
+    }
+    if let Some(step) = unchosen(terms, a, b, c) {
+        return Ok(Some(step));
+    }
+    if let Some(step) = turned(alloc, terms, a, b, c)? {
+        return Ok(Some(step));
+    }
+    if let Some(step) = condition_itself(terms, a, b, c) {
+        return Ok(Some(step));
+    }
+    condition_negated(alloc, terms, a, b, c)
+}
