@@ -5,4 +5,5 @@ mod bounds;
 mod command;
 mod paths;
 mod run;
+
 pub use command::control_braces;
