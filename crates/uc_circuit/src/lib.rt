@@ -11,8 +11,6 @@ mod clause_state;
 mod gate;
 mod laws;
 mod literal;
-#[cfg(test)]
-mod tests;
 
 pub use circuit::Circuit;
 pub use clause::Clause;

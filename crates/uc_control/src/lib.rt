@@ -11,5 +11,3 @@ pub use design::DesignView;
 pub use report::{LineResult, Print, Report, Verdict, status_of};
 pub use text::report_text;
 
-#[cfg(test)]
-mod tests;

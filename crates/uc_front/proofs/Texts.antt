@@ -59,7 +59,7 @@ read_refused held files i room found file e at so_far limit h = by e h
     by (Refused (TooDeep p)) h = absurd h
     by (Refused (TooManyNames p)) h = absurd h
     by (Refused NoMain) h = absurd h
-    by (Refused NotBuilt) h = absurd h
+    by (Refused (NotBuilt p)) h = absurd h
 
 -- the same of a source that tells its texts, after some of its calls
 pub told_more : (tells now : Bool) (held held_now : List ℕ → Option (List ℕ)) (files : List (List ℕ)) (i : ℕ) (found more : List (List ℕ)) (file text : List ℕ) → now ≡ tells → held_now ≡ held →

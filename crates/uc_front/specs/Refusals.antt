@@ -18,7 +18,7 @@ number_of (TooDeep p) = 7
 number_of (NoFile file) = 8
 number_of NoMain = 10
 number_of (TooManyNames p) = 32
-number_of NotBuilt = 33
+number_of (NotBuilt p) = 33
 
 -- the place of the token at fault; where it is none, the front of the file at fault, or of the first
 abbrev pub place_of : Refusal → Place
@@ -30,4 +30,5 @@ place_of (OpenComment p) = p
 place_of (Syntax p) = p
 place_of (TooDeep p) = p
 place_of (TooManyNames p) = p
-place_of other = front 0
+place_of (NotBuilt p) = p
+place_of NoMain = front 0

@@ -11,6 +11,7 @@ ghost use Rattle.uc_front.specs.Sources.{words_of, AreLexed, texts_of};
 
 use crate::error::FrontError;
 use crate::lexing::Source;
+use crate::outside::left_at;
 use crate::parsing::{intern_all, parse_all};
 use crate::reading::MAX_FILES;
 use crate::refusal::Refusal;
@@ -42,7 +43,8 @@ pub(crate) fn design_of(
         return Err(FrontError::NoMemory);
     };
     if !is_in_fragment(alloc, &design, main)? {
-        return Err(FrontError::Refused(Refusal::NotBuilt));
+        let place = left_at(alloc, files, sources)?;
+        return Err(FrontError::Refused(Refusal::NotBuilt(place)));
     }
     Ok(Ordered::of(design, main))
 }

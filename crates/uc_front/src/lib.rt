@@ -8,6 +8,7 @@ mod design;
 mod error;
 mod front;
 mod lexing;
+mod outside;
 mod parsing;
 mod reading;
 mod refusal;

@@ -26,8 +26,9 @@ pub enum Refusal {
     TooManyNames(Place),
     /// No module is called `main`.
     NoMain,
-    /// The design is none of those that run today.
-    NotBuilt,
+    /// The design is none of those that run today: with this token the texts leave the grammar of these. Where they do not, the
+    /// place is the front of the first file.
+    NotBuilt(Place),
 }
 
 impl Refusal {
@@ -45,7 +46,7 @@ impl Refusal {
             Refusal::NoFile(_) => 8,
             Refusal::NoMain => 10,
             Refusal::TooManyNames(_) => 32,
-            Refusal::NotBuilt => 33,
+            Refusal::NotBuilt(_) => 33,
         }
     }
 
@@ -59,15 +60,16 @@ impl Refusal {
             | Refusal::OpenComment(place)
             | Refusal::Syntax(place)
             | Refusal::TooDeep(place)
-            | Refusal::TooManyNames(place) => place,
+            | Refusal::TooManyNames(place)
+            | Refusal::NotBuilt(place) => place,
             Refusal::NoFile(file) | Refusal::TooLong(file) => front(file),
-            Refusal::NoMain | Refusal::NotBuilt => front(0),
+            Refusal::NoMain => front(0),
         }
     }
 }
 
 /// The front of the file of this number.
-fn front(file: u16) -> Place
+pub(crate) fn front(file: u16) -> Place
     ensures { result ≡ front file }
 {
     Place {

@@ -15,8 +15,6 @@ mod joining;
 mod multiplying;
 mod shifting;
 mod signal;
-#[cfg(test)]
-mod tests;
 
 pub use adding::{add, add_each, negate, subtract};
 pub use bitwise::{and_each, choose_each, or_each, turn_each, xor_each};

@@ -32,23 +32,3 @@ pub fn stands_alike()
 {
     uc_forms::stand_alike::<Modules>();
 }
-
-#[cfg(test)]
-mod tests {
-    use super::*;
-
-    #[test]
-    fn laws_hold_of_the_language(_rt: HostRuntime) {
-        spells_one_list();
-        has_one_answer();
-        stands_alike();
-        uc_forms::read_is_spelled::<Modules>();
-        uc_forms::spelled_is_read::<Modules>();
-        uc_forms::deep_is_refused::<Modules>();
-        uc_forms::levels_bound_depths::<Modules>();
-        uc_forms::depths_bound_levels::<Modules>();
-        uc_forms::fault_comes_again::<Modules>();
-        uc_forms::fault_completes::<Modules>();
-        uc_forms::answers_right::<Modules>();
-    }
-}

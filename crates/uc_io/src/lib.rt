@@ -18,5 +18,3 @@ pub use sink::Sink;
 pub use texts::Texts;
 pub use write::{WriteFault, write_whole};
 
-#[cfg(test)]
-mod tests;

@@ -12,8 +12,6 @@ mod number;
 mod place;
 mod position;
 mod sign;
-#[cfg(test)]
-mod tests;
 mod token;
 mod whole;
 mod word;

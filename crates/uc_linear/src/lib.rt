@@ -5,8 +5,6 @@ mod divisor;
 mod exact;
 mod form;
 mod merge;
-#[cfg(test)]
-mod tests;
 
 pub use exact::{LinearError, Wide, WideOp, difference, product, sum};
 pub use form::{Form, add, combine, scale, tighten};

@@ -15,8 +15,6 @@ mod problem;
 mod same_type;
 mod scratch;
 mod search;
-#[cfg(test)]
-mod tests;
 
 pub use atom::Atom;
 pub use checker::check;

@@ -28,16 +28,3 @@ pub fn greater_bounds()
 pub fn joined_modules()
     ensures { JoinedModules }
 {}
-
-#[cfg(test)]
-mod tests {
-    use super::*;
-
-    #[test]
-    fn laws_can_be_called(_rt: HostRuntime) {
-        mentions_are_of_words();
-        mentions_law();
-        greater_bounds();
-        joined_modules();
-    }
-}

@@ -12,12 +12,10 @@ mod law;
 mod module;
 mod procedure;
 mod property;
-#[cfg(test)]
-mod tests;
 mod type_declaration;
 mod variable;
 mod whole;
 
 pub use error::ParseError;
 pub use law::tokens_spell_one_list;
-pub use whole::{MAX_LEVELS, MAX_NAMES, parse, parse_words};
+pub use whole::{MAX_LEVELS, MAX_NAMES, end_of, parse, parse_words};

@@ -82,8 +82,8 @@ fn behind(place: Place, byte: u8) -> Place
     }
 }
 
-/// The place behind the last byte of a text.
-fn end_of(file: u16, text: &[u8]) -> Place
+/// The place behind the last byte of a text. `file` is the number of the text's file.
+pub fn end_of(file: u16, text: &[u8]) -> Place
     requires { length text.now ≤ MAX_TEXT }
     ensures { result ≡ end_of file text.now }
 {

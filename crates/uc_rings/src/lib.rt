@@ -6,7 +6,5 @@
 #![tactic(auto)]
 
 mod rings;
-#[cfg(test)]
-mod tests;
 
 pub use rings::Rings;

@@ -7,8 +7,6 @@ mod expression;
 mod names;
 mod place;
 mod statement;
-#[cfg(test)]
-mod tests;
 mod type_expression;
 mod written_enums;
 

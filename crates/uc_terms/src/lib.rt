@@ -4,8 +4,6 @@
 mod evaluation;
 mod marks;
 mod terms;
-#[cfg(test)]
-mod tests;
 
 pub use evaluation::{eval, eval_all};
 pub use marks::subterms;

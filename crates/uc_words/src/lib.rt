@@ -5,8 +5,6 @@ mod fixed;
 mod known;
 mod law;
 mod pass;
-#[cfg(test)]
-mod tests;
 
 pub use law::{
     names_are_mentioned, text_has_one_list, tokens_are_within, tokens_have_one_list, words_stay,

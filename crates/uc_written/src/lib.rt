@@ -102,22 +102,3 @@ pub fn declarations_are_as_written()
 pub fn commands_are_as_written()
     ensures { SpellTheSame written_command command }
 {}
-
-#[cfg(test)]
-mod tests {
-    use super::*;
-
-    #[test]
-    fn every_production_is_as_written(_rt: HostRuntime) {
-        types_are_as_written();
-        type_declarations_are_as_written();
-        primaries_are_as_written();
-        selections_are_as_written();
-        if_expressions_are_as_written();
-        lists_are_as_written();
-        braces_are_as_written();
-        statements_are_as_written();
-        declarations_are_as_written();
-        commands_are_as_written();
-    }
-}

@@ -81,7 +81,7 @@ never_unread held files texts (Syntax p) a h = h
 never_unread held files texts (TooDeep p) a h = h
 never_unread held files texts (TooManyNames p) a h = h
 never_unread held files texts NoMain a h = h
-never_unread held files texts NotBuilt a h = h
+never_unread held files texts (NotBuilt p) a h = h
 
 -- ---- lexing
 
@@ -133,7 +133,7 @@ never_unlexed sources (Syntax p) a h = h
 never_unlexed sources (TooDeep p) a h = h
 never_unlexed sources (TooManyNames p) a h = h
 never_unlexed sources NoMain a h = h
-never_unlexed sources NotBuilt a h = h
+never_unlexed sources (NotBuilt p) a h = h
 
 -- ---- parsing
 
@@ -231,7 +231,7 @@ never_unbuilt files sources system r d runs h = by r h
         let modules = one_spelled (names_of files sources) sources system.modules h.0 distinct all h.1 in
         let e : Some system.main ≡ None = sym d.main_is ∙ (λ i. main_in (d.names_are i) (modules i)) ∙ h.2 in
         cc e
-    by NotBuilt h = h.2 (subst InFragment (one_of_sources files sources system h.0 d h.1) runs)
+    by (NotBuilt p) h = h.2 (subst InFragment (one_of_sources files sources system h.0 d h.1) runs)
     by (NoFile n) h = h
     by (TooLong n) h = h
     by (BadByte p) h = h

@@ -35,18 +35,3 @@ pub fn passed_induction()
 pub fn passed_unroll()
     ensures { PassedUnroll }
 {}
-
-#[cfg(test)]
-mod tests {
-    use super::*;
-
-    #[test]
-    fn laws_can_be_called(_rt: HostRuntime) {
-        one_design();
-        never_both();
-        accepted_runs();
-        refused_runs();
-        passed_induction();
-        passed_unroll();
-    }
-}

@@ -108,7 +108,12 @@ const REFUSED: [Row; 9] = [
     (
         b"module main { var x : integer; init { x = true; } next { x' = !x; } invariant any : x || !x; control { unroll(2); check; print_results; } }",
         3,
-        b"error 33 in m.ucl at line 1, column 1\n",
+        b"error 33 in m.ucl at line 1, column 23\n",
+    ),
+    (
+        b"module main { input x : boolean; }",
+        3,
+        b"error 33 in m.ucl at line 1, column 15\n",
     ),
     (
         b"module main { var x : boolean; next { x' = x; x' = !x; } }",
@@ -240,7 +245,7 @@ fn several_files_are_one_design(rt: HostRuntime) -> Result<(), Fail> {
         alloc,
         b"module one { }",
         TOGGLE,
-        b"error 33 in m.ucl at line 1, column 1\n",
+        b"error 33 in n.ucl at line 1, column 1\n",
     )?;
     check_two(
         &rt,

@@ -1,0 +1,3 @@
+pub mod Syntax
+pub mod Reading
+pub mod Outside

@@ -1,0 +1,15 @@
+//! Worked rows of the front end's parts and of the report's text, which only tests run.
+#![tactic(auto)]
+
+#[cfg(test)]
+mod control;
+#[cfg(test)]
+mod io;
+#[cfg(test)]
+mod lexer;
+#[cfg(test)]
+mod names;
+#[cfg(test)]
+mod parser;
+#[cfg(test)]
+mod words;

@@ -1,0 +1,14 @@
+use std::test::Fail;
+use uc_syntax::Names;
+
+#[test]
+fn a_text_has_one_number(rt: HostRuntime) -> Result<(), Fail> {
+    let alloc = rt.alloc();
+    let mut names = Names::new(alloc);
+    for (text, number) in [("main", 0), ("x", 1), ("main", 0), ("", 2), ("x", 1)] {
+        assert_eq!(rt; names.intern(alloc, text.as_bytes())?, number);
+    }
+    assert_eq!(rt; names.len(), 3);
+    assert_eq!(rt; names.text(1), b"x".as_slice());
+    Ok(())
+}
