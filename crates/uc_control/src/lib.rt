@@ -10,4 +10,3 @@ mod text;
 pub use design::DesignView;
 pub use report::{LineResult, Print, Report, Verdict, status_of};
 pub use text::report_text;
-

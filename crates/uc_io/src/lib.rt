@@ -17,4 +17,3 @@ pub use read::{ReadError, read_all};
 pub use sink::Sink;
 pub use texts::Texts;
 pub use write::{WriteFault, write_whole};
-

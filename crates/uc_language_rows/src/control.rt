@@ -1,6 +1,6 @@
-use super::*;
 use std::alloc::{AllocError, Global};
 use std::test::Fail;
+use uc_control::{DesignView, LineResult, Print, Report, Verdict, report_text, status_of};
 use uc_items::Items;
 use uc_meaning::{At, Interp, Line, Path, Trace, What};
 use uc_syntax::{Command, Decl, Expr, Identifier, Module, Names, Place, Primary, WrittenRun};

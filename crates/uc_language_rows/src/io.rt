@@ -2,9 +2,9 @@ ghost use Rattle.std.specs.Prelude.{◌≡◌, ◌≤◌, ◌++◌, List, ℕ, I
 ghost use Rattle.uc_io.specs.Faults.{Rose};
 ghost use Rattle.uc_io.specs.Sink.{GrewByFront};
 
-use super::*;
 use std::alloc::{AllocError, Global};
 use std::test::Fail;
+use uc_io::{MemSink, MemTexts, ReadError, Sink, Texts, read_all, write_whole};
 
 #[derive(Clone, Copy, Debug, PartialEq, Eq)]
 enum Copied {
