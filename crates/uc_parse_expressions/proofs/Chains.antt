@@ -97,32 +97,27 @@ module _ {M : Type 0} (mark : Word → M) (node : Place → List Expr → List M
       ap (λ (q : Placed). Ok (q, y.1)) own ∙ ap (λ (z : Outcome Word (List Expr × List M)). turned (λ (q : List Expr × List M). (p.0, node p.0 q.0 q.1)) z) i
   folded h p es ms rest (Err f) k i = absurd cc
 
-  opened : (levels : ℕ) (f : F Placed) (j : Kind) (js : List Kind) (p : Placed) (s mid : State Word) → form levels f s ≡ Ok (p, mid)
-      → form levels (made fold (both f (many (both (one_of j js) f)))) s ≡ turned fold (turned (λ xs. (p, xs)) (turns words (codes_of words j js) (form levels (both (one_of j js) f)) mid))
-  opened levels f j js p s mid e =
-      ap (λ (r : Outcome Word Placed). turned fold (paired r (λ u. form levels (many (both (one_of j js) f)) u))) e
-      ∙ ap (λ (codes : List ℕ). turned fold (turned (λ xs. (p, xs)) (turns words codes (form levels (both (one_of j js) f)) mid))) (append-nil (codes_of words j js))
+  -- what a chain gives, of which the first operand was read
+  abbrev pub rest_of : (levels : ℕ) (f : F Placed) (j : Kind) (js : List Kind) → Outcome Word Placed → Outcome Word Placed
+  rest_of levels f j js r = turned fold (paired r (form levels (many (both (one_of j js) f))))
 
-  pub fold_more : IsFold → (levels : ℕ) (f : F Placed) (j : Kind) (js : List Kind) (p : Placed) (s mid : State Word) (es : List Expr) (ms : List M) (rest : State Word)
-      → form levels f s ≡ Ok (p, mid) → is_at words (codes_of words j js) mid.0 ≡ true → turned (gathered mark (p.1 ∷ []) []) (turns words (codes_of words j js) (form levels (both (one_of j js) f)) mid) ≡ Ok ((es, ms), rest)
-      → form levels (made fold (both f (many (both (one_of j js) f)))) s ≡ Ok ((p.0, node p.0 es ms), rest)
-  fold_more h levels f j js p s mid es ms rest e t i =
-      opened levels f j js p s mid e
-      ∙ folded h p es ms rest (turns words (codes_of words j js) (form levels (both (one_of j js) f)) mid) (λ xs end k. some (codes_of words j js) (form levels (both (one_of j js) f)) (takes levels (both (one_of j js) f) refl) mid xs end t k) i
+  opened : (levels : ℕ) (f : F Placed) (j : Kind) (js : List Kind) (p : Placed) (s : State Word)
+      → rest_of levels f j js (Ok (p, s)) ≡ turned fold (turned (λ xs. (p, xs)) (turns words (codes_of words j js) (form levels (both (one_of j js) f)) s))
+  opened levels f j js p s = ap (λ (codes : List ℕ). turned fold (turned (λ xs. (p, xs)) (turns words codes (form levels (both (one_of j js) f)) s))) (append-nil (codes_of words j js))
 
-  pub fold_alone : IsFold → (levels : ℕ) (f : F Placed) (j : Kind) (js : List Kind) (p : Placed) (s mid : State Word)
-      → form levels f s ≡ Ok (p, mid) → is_at words (codes_of words j js) mid.0 ≡ false → form levels (made fold (both f (many (both (one_of j js) f)))) s ≡ Ok (p, mid)
-  fold_alone h levels f j js p s mid e t =
-      opened levels f j js p s mid e
-      ∙ ap (λ (r : Outcome Word (List (Word × Placed))). turned fold (turned (λ xs. (p, xs)) r)) (turns_stop (codes_of words j js) (form levels (both (one_of j js) f)) mid t)
-      ∙ ap (λ (q : Placed). Ok (q, mid)) (h.0 p)
+  pub fold_more : IsFold → (levels : ℕ) (f : F Placed) (j : Kind) (js : List Kind) (p : Placed) (s : State Word) (es : List Expr) (ms : List M) (rest : State Word)
+      → is_at words (codes_of words j js) s.0 ≡ true → turned (gathered mark (p.1 ∷ []) []) (turns words (codes_of words j js) (form levels (both (one_of j js) f)) s) ≡ Ok ((es, ms), rest)
+      → rest_of levels f j js (Ok (p, s)) ≡ Ok ((p.0, node p.0 es ms), rest)
+  fold_more h levels f j js p s es ms rest t i =
+      opened levels f j js p s
+      ∙ folded h p es ms rest (turns words (codes_of words j js) (form levels (both (one_of j js) f)) s) (λ xs end k. some (codes_of words j js) (form levels (both (one_of j js) f)) (takes levels (both (one_of j js) f) refl) s xs end t k) i
 
-  first_stops : (levels : ℕ) (f : F Placed) (j : Kind) (js : List Kind) (s : State Word) (d : Fault × State Word) → form levels f s ≡ Err d → form levels (made fold (both f (many (both (one_of j js) f)))) s ≡ Err d
-  first_stops levels f j js s d e = rw e refl
-
-  pub first_fails : (e : Stop) (levels : ℕ) (f : F Placed) (j : Kind) (js : List Kind) (s rest : State Word) → StopsAt e rest (form levels f s) → StopsAt e rest (form levels (made fold (both f (many (both (one_of j js) f)))) s)
-  first_fails stops.Memory levels f j js s rest g = tt
-  first_fails (stops.At d) levels f j js s rest g = first_stops levels f j js s (d, rest) g
+  pub fold_alone : IsFold → (levels : ℕ) (f : F Placed) (j : Kind) (js : List Kind) (p : Placed) (s : State Word)
+      → is_at words (codes_of words j js) s.0 ≡ false → rest_of levels f j js (Ok (p, s)) ≡ Ok (p, s)
+  fold_alone h levels f j js p s t =
+      opened levels f j js p s
+      ∙ ap (λ (r : Outcome Word (List (Word × Placed))). turned fold (turned (λ xs. (p, xs)) r)) (turns_stop (codes_of words j js) (form levels (both (one_of j js) f)) s t)
+      ∙ ap (λ (q : Placed). Ok (q, s)) (h.0 p)
 
   turns_stopped : (es : List Expr) (ms : List M) (d : Fault × State Word) (r : Outcome Word (List (Word × Placed))) → turned (gathered mark es ms) r ≡ Err d → r ≡ Err d
   turns_stopped es ms d (Ok y) i = absurd cc
@@ -132,12 +127,12 @@ module _ {M : Type 0} (mark : Word → M) (node : Place → List Expr → List M
       fault_in (Ok y) = Err f
       fault_in (Err g) = Err g
 
-  pub more_fail : (e : Stop) (levels : ℕ) (f : F Placed) (j : Kind) (js : List Kind) (p : Placed) (s mid rest : State Word) (es : List Expr) (ms : List M) → form levels f s ≡ Ok (p, mid)
-      → StopsAt e rest (turned (gathered mark es ms) (turns words (codes_of words j js) (form levels (both (one_of j js) f)) mid)) → StopsAt e rest (form levels (made fold (both f (many (both (one_of j js) f)))) s)
-  more_fail stops.Memory levels f j js p s mid rest es ms e g = tt
-  more_fail (stops.At d) levels f j js p s mid rest es ms e g =
-      opened levels f j js p s mid e
-      ∙ ap (λ (r : Outcome Word (List (Word × Placed))). turned fold (turned (λ xs. (p, xs)) r)) (turns_stopped es ms (d, rest) (turns words (codes_of words j js) (form levels (both (one_of j js) f)) mid) g)
+  pub more_fail : (e : Stop) (levels : ℕ) (f : F Placed) (j : Kind) (js : List Kind) (p : Placed) (s rest : State Word) (es : List Expr) (ms : List M)
+      → StopsAt e rest (turned (gathered mark es ms) (turns words (codes_of words j js) (form levels (both (one_of j js) f)) s)) → StopsAt e rest (rest_of levels f j js (Ok (p, s)))
+  more_fail stops.Memory levels f j js p s rest es ms g = tt
+  more_fail (stops.At d) levels f j js p s rest es ms g =
+      opened levels f j js p s
+      ∙ ap (λ (r : Outcome Word (List (Word × Placed))). turned fold (turned (λ xs. (p, xs)) r)) (turns_stopped es ms (d, rest) (turns words (codes_of words j js) (form levels (both (one_of j js) f)) s) g)
 
 -- ---- the levels
 
@@ -154,12 +149,6 @@ sum_is = refl
 
 pub sum_folds : IsFold sum_sign exprs.Sum sum_of
 sum_folds = (λ p. refl, λ p x more. refl)
-
-pub chain_given : (levels : ℕ) (c : Chain) (s : State Word) → form levels (chain_form c) s ≡ form levels (made (chain_of (node_of c)) (both (operand_form c) (many (both (one_of (sign_of c) []) (operand_form c))))) s
-chain_given levels c s = ap (λ (f : F Placed). form levels f s) (chain_is c)
-
-pub sum_given : (levels : ℕ) (s : State Word) → form levels summed s ≡ form levels (made sum_of (both product (many (both (one_of Plus minus) product)))) s
-sum_given levels s = ap (λ (f : F Placed). form levels f s) sum_is
 
 -- ---- an operator with its operand
 

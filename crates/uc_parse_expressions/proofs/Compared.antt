@@ -3,7 +3,7 @@ use Rattle.std.proofs.Common.{◌≡◌, ℕ, true, false, Option, Some, None, O
 use Rattle.uc_counted.specs.Counted.{State, Outcome, turned, paired}
 use Rattle.uc_counted.specs.Gives.{StopsAt}
 use Rattle.uc_counted.proofs.Shapes.{first_is}
-use Rattle.uc_forms.specs.Form.{both, one_of, nothing}
+use Rattle.uc_forms.specs.Form.{both, made, one_of, nothing}
 use Rattle.uc_forms.specs.declared.fault.Fault.{Fault}
 use Rattle.uc_forms.specs.declared.stop.Stop.{Stop}
 use Rattle.uc_forms.specs.declared.stop.Stop.TheVariants as stops
@@ -19,9 +19,9 @@ use Rattle.uc_syntax.specs.declared.expression.Expr.TheViews as exprs
 abbrev compared_with : F (Word × Placed)
 compared_with = both (one_of Equal orders) bit_or
 
-opened : (levels : ℕ) (p : Placed) (s mid : State Word) → form levels bit_or s ≡ Ok (p, mid) → form levels compared s ≡ turned compared_of (turned (λ o. (p, o)) (form levels (optional compared_with) mid))
-unfolding compared
-opened levels p s mid e = ap (λ (r : Outcome Word Placed). turned compared_of (paired r (λ u. form levels (optional compared_with) u))) e
+-- what a comparison gives, of which the first operand was read
+abbrev rest_of : ℕ → Outcome Word Placed → Outcome Word Placed
+rest_of levels r = turned compared_of (paired r (form levels (optional compared_with)))
 
 none_given : (levels : ℕ) (mid : State Word) → is_at words order_codes mid.0 ≡ false → form levels (optional compared_with) mid ≡ Ok (None, mid)
 none_given levels mid t = rw t refl
@@ -38,18 +38,20 @@ some_given levels mid x rest t e = first_given levels mid t ∙ ap (λ (z : Outc
 some_stops : (levels : ℕ) (mid : State Word) (d : Fault × State Word) → is_at words order_codes mid.0 ≡ true → form levels compared_with mid ≡ Err d → form levels (optional compared_with) mid ≡ Err d
 some_stops levels mid d t e = first_given levels mid t ∙ ap (λ (z : Outcome Word (Word × Placed)). turned chosen (turned inl z)) e
 
-pub compared_alone : (levels : ℕ) (p : Placed) (s mid : State Word) → form levels bit_or s ≡ Ok (p, mid) → is_at words order_codes mid.0 ≡ false → form levels compared s ≡ Ok (p, mid)
-compared_alone levels p s mid e t = opened levels p s mid e ∙ ap (λ (r : Outcome Word (Option (Word × Placed))). turned compared_of (turned (λ o. (p, o)) r)) (none_given levels mid t)
+pub compared_alone : (levels : ℕ) (p : Placed) (s : State Word) → is_at words order_codes s.0 ≡ false → rest_of levels (Ok (p, s)) ≡ Ok (p, s)
+compared_alone levels p s t = ap (λ (r : Outcome Word (Option (Word × Placed))). turned compared_of (turned (λ o. (p, o)) r)) (none_given levels s t)
 
-pub compared_pair : (levels : ℕ) (p : Placed) (s mid : State Word) (w : Word) (after : State Word) (q : Placed) (rest : State Word) → form levels bit_or s ≡ Ok (p, mid) → is_at words order_codes mid.0 ≡ true → form levels (one_of Equal orders) mid ≡ Ok (w, after) → form levels bit_or after ≡ Ok (q, rest)
-    → form levels compared s ≡ Ok ((p.0, exprs.Compare p.0 (comparison w.kind) w.place p.1 q.1), rest)
-compared_pair levels p s mid w after q rest e t h k =
-    opened levels p s mid e
-    ∙ ap (λ (r : Outcome Word (Option (Word × Placed))). turned compared_of (turned (λ o. (p, o)) r)) (some_given levels mid (w, q) rest t (pair_is levels (one_of Equal orders) bit_or w q mid after rest h k))
+pub compared_pair : (levels : ℕ) (p : Placed) (s : State Word) (w : Word) (after : State Word) (q : Placed) (rest : State Word) → is_at words order_codes s.0 ≡ true → form levels (one_of Equal orders) s ≡ Ok (w, after) → form levels bit_or after ≡ Ok (q, rest)
+    → rest_of levels (Ok (p, s)) ≡ Ok ((p.0, exprs.Compare p.0 (comparison w.kind) w.place p.1 q.1), rest)
+compared_pair levels p s w after q rest t h k =
+    ap (λ (r : Outcome Word (Option (Word × Placed))). turned compared_of (turned (λ o. (p, o)) r)) (some_given levels s (w, q) rest t (pair_is levels (one_of Equal orders) bit_or w q s after rest h k))
 
-pub compared_fails : (e : Stop) (levels : ℕ) (p : Placed) (s mid : State Word) (w : Word) (after rest : State Word) → form levels bit_or s ≡ Ok (p, mid) → is_at words order_codes mid.0 ≡ true → form levels (one_of Equal orders) mid ≡ Ok (w, after) → StopsAt e rest (form levels bit_or after)
-    → StopsAt e rest (form levels compared s)
-compared_fails stops.Memory levels p s mid w after rest e t h k = tt
-compared_fails (stops.At d) levels p s mid w after rest e t h k =
-    opened levels p s mid e
-    ∙ ap (λ (r : Outcome Word (Option (Word × Placed))). turned compared_of (turned (λ o. (p, o)) r)) (some_stops levels mid (d, rest) t (pair_fails (stops.At d) levels (one_of Equal orders) bit_or w mid after rest h k))
+pub compared_fails : (e : Stop) (levels : ℕ) (p : Placed) (s : State Word) (w : Word) (after rest : State Word) → is_at words order_codes s.0 ≡ true → form levels (one_of Equal orders) s ≡ Ok (w, after) → StopsAt e rest (form levels bit_or after)
+    → StopsAt e rest (rest_of levels (Ok (p, s)))
+compared_fails stops.Memory levels p s w after rest t h k = tt
+compared_fails (stops.At d) levels p s w after rest t h k =
+    ap (λ (r : Outcome Word (Option (Word × Placed))). turned compared_of (turned (λ o. (p, o)) r)) (some_stops levels s (d, rest) t (pair_fails (stops.At d) levels (one_of Equal orders) bit_or w s after rest h k))
+
+pub compared_is : compared ≡ made compared_of (both bit_or (optional compared_with))
+unfolding compared
+compared_is = refl

@@ -1,4 +1,4 @@
 mod Chains
-mod Ranks
 mod Compared
 mod InBrackets
+mod Levels

@@ -7,6 +7,8 @@ use Rattle.uc_grammar.specs.declared.word.Kind.TheVariants as kinds
 use Rattle.uc_grammar.specs.Syntax.{F, Placed, unary, product, summed, concatenated, bit_and, bit_xor, bit_or, compared, conjunction, disjunction, implication, equivalence}
 use Rattle.uc_parse_expressions.specs.declared.chain.Chain.{Chain}
 use Rattle.uc_parse_expressions.specs.declared.chain.Chain.TheVariants.{Product, Concat, BitAnd, BitXor, BitOr, And, Or, Implies, Iff}
+use Rattle.uc_parse_expressions.specs.declared.level.Level.{Level}
+use Rattle.uc_parse_expressions.specs.declared.level.Level.TheVariants as level_kinds
 use Rattle.uc_syntax.specs.declared.expression.Expr.{Expr}
 use Rattle.uc_syntax.specs.declared.expression.Expr.TheViews as exprs
 
@@ -22,17 +24,28 @@ chain_form Or = disjunction
 chain_form Implies = implication
 chain_form Iff = equivalence
 
--- the form of its operands
+-- the level of its operands
+abbrev pub operand_level : Chain → Level
+operand_level Product = level_kinds.Unary
+operand_level Concat = level_kinds.Sum
+operand_level BitAnd = level_kinds.Chain Concat
+operand_level BitXor = level_kinds.Chain BitAnd
+operand_level BitOr = level_kinds.Chain BitXor
+operand_level And = level_kinds.Comparison
+operand_level Or = level_kinds.Chain And
+operand_level Implies = level_kinds.Chain Or
+operand_level Iff = level_kinds.Chain Implies
+
+-- the form of a level
+abbrev pub form_of : Level → F Placed
+form_of level_kinds.Unary = unary
+form_of level_kinds.Sum = summed
+form_of level_kinds.Comparison = compared
+form_of (level_kinds.Chain c) = chain_form c
+
+-- the form of a chain's operands
 abbrev pub operand_form : Chain → F Placed
-operand_form Product = unary
-operand_form Concat = summed
-operand_form BitAnd = concatenated
-operand_form BitXor = bit_and
-operand_form BitOr = bit_xor
-operand_form And = compared
-operand_form Or = conjunction
-operand_form Implies = disjunction
-operand_form Iff = implication
+operand_form c = form_of (operand_level c)
 
 -- the operator
 abbrev pub sign_of : Chain → Kind

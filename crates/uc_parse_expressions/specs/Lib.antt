@@ -1,5 +1,6 @@
 pub mod Chains
 pub mod Gives
 pub mod Heads
+pub mod Levels
 pub mod Parts
 pub mod Signs

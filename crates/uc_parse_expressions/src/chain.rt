@@ -1,8 +1,9 @@
 //! The chains of one level.
 
 ghost use Rattle.std.specs.Prelude.{◌≡◌};
-ghost use Rattle.uc_parse_expressions.specs.Chains.{sign_of, node_of};
+ghost use Rattle.uc_parse_expressions.specs.Chains.{sign_of, node_of, operand_level};
 
+use crate::level::Level;
 use uc_grammar::Kind;
 use uc_items::Items;
 use uc_syntax::{Expr, Place};
@@ -36,6 +37,23 @@ impl Chain {
             Chain::Or => Kind::Or,
             Chain::Implies => Kind::Implies,
             Chain::Iff => Kind::Iff,
+        }
+    }
+
+    /// The level of the operands.
+    pub(crate) fn operand(self) -> Level
+        ensures { result ≡ operand_level self }
+    {
+        match self {
+            Chain::Product => Level::Unary,
+            Chain::Concat => Level::Sum,
+            Chain::BitAnd => Level::Chain(Chain::Concat),
+            Chain::BitXor => Level::Chain(Chain::BitAnd),
+            Chain::BitOr => Level::Chain(Chain::BitXor),
+            Chain::And => Level::Comparison,
+            Chain::Or => Level::Chain(Chain::And),
+            Chain::Implies => Level::Chain(Chain::Or),
+            Chain::Iff => Level::Chain(Chain::Implies),
         }
     }
 

@@ -6,6 +6,7 @@
 
 mod chain;
 mod head;
+mod level;
 mod name_in_parens;
 mod parser;
 mod signs;

@@ -1,6 +1,6 @@
 //! Reads expressions from words.
 
-ghost use Rattle.std.specs.Prelude.{◌≡◌, ◌∷◌, [], List};
+ghost use Rattle.std.specs.Prelude.{◌≡◌, ◌∷◌, [], List, Ok};
 ghost use Rattle.uc_counted.specs.Counted.{with_front, turned, turns};
 ghost use Rattle.uc_counted.specs.Gives.{Counts, Leaves};
 ghost use Rattle.uc_forms.specs.Form.{both, word, one_of};
@@ -8,9 +8,11 @@ ghost use Rattle.uc_grammar.specs.Code.{code_of};
 ghost use Rattle.uc_grammar.specs.declared.word.Kind.TheVariants.{Plus};
 ghost use Rattle.uc_grammar.specs.Syntax as syntax;
 ghost use Rattle.uc_grammar.specs.Syntax.{words, sum_sign};
-ghost use Rattle.uc_parse_expressions.specs.Chains.{chain_form, operand_form, sign_of, gathered};
+ghost use Rattle.uc_parse_expressions.specs.Chains.{form_of, operand_form, sign_of, gathered};
 ghost use Rattle.uc_parse_expressions.specs.Gives.{CountsAs};
 ghost use Rattle.uc_parse_expressions.specs.Heads.{head_of};
+ghost use Rattle.uc_parse_expressions.specs.Levels.{onward};
+ghost use Rattle.uc_parse_expressions.specs.declared.level.Level.TheVariants as level_kinds;
 ghost use Rattle.uc_parse_expressions.specs.Parts as parts;
 ghost use Rattle.uc_parse_expressions.specs.Parts.{element_of};
 ghost use Rattle.uc_parse_expressions.specs.Signs.{minus, sum_codes};
@@ -18,6 +20,7 @@ ghost use Rattle.uc_reader.specs.Reading.{state, form, nested};
 
 use crate::chain::Chain;
 use crate::head::Head;
+use crate::level::{Level, next_level};
 use crate::name_in_parens::in_name;
 use crate::signs::{
     at_bounds, at_comparison, at_sign, at_sum_sign, comparison_of, no_level_for_sign, sum_sign_of,
@@ -42,7 +45,7 @@ pub fn expression(reader: &mut Reader<'_>, levels: u8) -> Result<(Place, Expr), 
     if reader.is_at(Kind::KwIf) {
         return if_expression(reader, levels);
     }
-    chain(reader, levels, Chain::Iff)
+    level(reader, levels, Level::Chain(Chain::Iff))
 }
 
 /// An expression without its place.
@@ -300,15 +303,56 @@ fn unary(reader: &mut Reader<'_>, levels: u8) -> Result<(Place, Expr), Stop>
     selected(reader, levels)
 }
 
-/// A chain of one level.
+/// An expression of a level.
+///
+/// The first operand is read at once, and then each operator that comes next tells the level at which it is read on.
 #[cycle(expressions)]
-fn chain(reader: &mut Reader<'_>, levels: u8, level: Chain) -> Result<(Place, Expr), Stop>
-    ensures { Counts result (state reader.new) (form levels (chain_form level) (state reader.old)) }
+fn level(reader: &mut Reader<'_>, levels: u8, top: Level) -> Result<(Place, Expr), Stop>
+    ensures { Counts result (state reader.new) (form levels (form_of top) (state reader.old)) }
 {
-    let (place, first) = operand(reader, levels, level)?;
-    if !reader.is_at(level.sign()) {
-        return Ok((place, first));
+    let mut found = unary(reader, levels)?;
+    let mut reached = Level::Unary;
+    let mut next = next_level(reader);
+    'turns: while reached.height() < next.height() && next.height() <= top.height() {
+        found = rest(reader, levels, next, found)?;
+        reached = next;
+        next = next_level(reader);
     }
+    Ok(found)
+}
+
+/// The rest of a level behind its first operand.
+#[cycle(expressions)]
+fn rest(
+    reader: &mut Reader<'_>,
+    levels: u8,
+    level: Level,
+    first: (Place, Expr),
+) -> Result<(Place, Expr), Stop>
+    ensures { Counts result (state reader.new) (onward levels level (Ok (first, state reader.old))) }
+{
+    match level {
+        Level::Unary => Ok(first),
+        Level::Sum => sum(reader, levels, first),
+        Level::Comparison => comparison(reader, levels, first),
+        Level::Chain(level) => chain(reader, levels, level, first),
+    }
+}
+
+/// The rest of a chain of one level.
+#[cycle(expressions)]
+fn chain(
+    reader: &mut Reader<'_>,
+    levels: u8,
+    level: Chain,
+    first: (Place, Expr),
+) -> Result<(Place, Expr), Stop>
+    ensures { Counts result (state reader.new) (onward levels (level_kinds.Chain level) (Ok (first, state reader.old))) }
+{
+    if !reader.is_at(level.sign()) {
+        return Ok(first);
+    }
+    let (place, first) = first;
     let mut operands = Items::new(reader.alloc);
     let mut places = Items::new(reader.alloc);
     operands.push(first)?;
@@ -316,52 +360,35 @@ fn chain(reader: &mut Reader<'_>, levels: u8, level: Chain) -> Result<(Place, Ex
     Ok((place, level.node(place, operands, places)))
 }
 
-/// An operand of a chain.
-#[cycle(expressions)]
-fn operand(reader: &mut Reader<'_>, levels: u8, level: Chain) -> Result<(Place, Expr), Stop>
-    ensures { Counts result (state reader.new) (form levels (operand_form level) (state reader.old)) }
-{
-    match level {
-        Chain::Product => unary(reader, levels),
-        Chain::Concat => sum(reader, levels),
-        Chain::BitAnd => chain(reader, levels, Chain::Concat),
-        Chain::BitXor => chain(reader, levels, Chain::BitAnd),
-        Chain::BitOr => chain(reader, levels, Chain::BitXor),
-        Chain::And => comparison(reader, levels),
-        Chain::Or => chain(reader, levels, Chain::And),
-        Chain::Implies => chain(reader, levels, Chain::Or),
-        Chain::Iff => chain(reader, levels, Chain::Implies),
-    }
-}
-
 /// The operands behind the first, and the places of the operators before them.
 #[cycle(expressions)]
 fn more_operands(
     reader: &mut Reader<'_>,
     levels: u8,
-    level: Chain,
+    chain: Chain,
     operands: &mut Items<Expr>,
     places: &mut Items<Place>,
 ) -> Result<(), Stop>
-    ensures { Leaves (operands.new, places.new) result (state reader.new) (turned (gathered (λ (w : Word). w.place) operands.old places.old) (turns words (code_of (sign_of level) ∷ []) (form levels (both (word (sign_of level)) (operand_form level))) (state reader.old))) }
+    ensures { Leaves (operands.new, places.new) result (state reader.new) (turned (gathered (λ (w : Word). w.place) operands.old places.old) (turns words (code_of (sign_of chain) ∷ []) (form levels (both (word (sign_of chain)) (operand_form chain))) (state reader.old))) }
 {
-    'turns: while reader.is_at(level.sign()) {
-        let sign = reader.take(level.sign())?;
-        let (_, next) = operand(reader, levels, level)?;
+    'turns: while reader.is_at(chain.sign()) {
+        let sign = reader.take(chain.sign())?;
+        let (_, next) = level(reader, levels, chain.operand())?;
         operands.push(next)?;
         places.push(sign.place)?;
     }
     Ok(())
 }
 
+/// The rest of a sum.
 #[cycle(expressions)]
-fn sum(reader: &mut Reader<'_>, levels: u8) -> Result<(Place, Expr), Stop>
-    ensures { Counts result (state reader.new) (form levels syntax.summed (state reader.old)) }
+fn sum(reader: &mut Reader<'_>, levels: u8, first: (Place, Expr)) -> Result<(Place, Expr), Stop>
+    ensures { Counts result (state reader.new) (onward levels level_kinds.Sum (Ok (first, state reader.old))) }
 {
-    let (place, first) = chain(reader, levels, Chain::Product)?;
     if !at_sum_sign(reader) {
-        return Ok((place, first));
+        return Ok(first);
     }
+    let (place, first) = first;
     let mut terms = Items::new(reader.alloc);
     let mut signs = Items::new(reader.alloc);
     terms.push(first)?;
@@ -381,24 +408,28 @@ fn more_terms(
 {
     'turns: while at_sum_sign(reader) {
         let sign = take_sum_sign(reader)?;
-        let (_, next) = chain(reader, levels, Chain::Product)?;
+        let (_, next) = level(reader, levels, Level::Chain(Chain::Product))?;
         terms.push(next)?;
         signs.push(sum_sign_of(sign))?;
     }
     Ok(())
 }
 
+/// The rest of a comparison.
 #[cycle(expressions)]
-#[tactic(auto, unfolding(uc_grammar::specs::Syntax::compared))]
-fn comparison(reader: &mut Reader<'_>, levels: u8) -> Result<(Place, Expr), Stop>
-    ensures { Counts result (state reader.new) (form levels syntax.compared (state reader.old)) }
+fn comparison(
+    reader: &mut Reader<'_>,
+    levels: u8,
+    first: (Place, Expr),
+) -> Result<(Place, Expr), Stop>
+    ensures { Counts result (state reader.new) (onward levels level_kinds.Comparison (Ok (first, state reader.old))) }
 {
-    let (place, left) = chain(reader, levels, Chain::BitOr)?;
     if !at_comparison(reader) {
-        return Ok((place, left));
+        return Ok(first);
     }
     let sign = take_comparison(reader)?;
-    let (_, right) = chain(reader, levels, Chain::BitOr)?;
+    let (_, right) = level(reader, levels, Level::Chain(Chain::BitOr))?;
+    let (place, left) = first;
     let left = Boxed::new(reader.alloc, left)?;
     let right = Boxed::new(reader.alloc, right)?;
     let operator = comparison_of(sign.kind);
@@ -420,7 +451,7 @@ fn if_expression(reader: &mut Reader<'_>, levels: u8) -> Result<(Place, Expr), S
     let mut branches = Items::new(reader.alloc);
     branches.push(first)?;
     more_branches(reader, levels - 1, &mut branches)?;
-    let (_, otherwise) = chain(reader, levels - 1, Chain::Iff)?;
+    let (_, otherwise) = level(reader, levels - 1, Level::Chain(Chain::Iff))?;
     let otherwise = Boxed::new(reader.alloc, otherwise)?;
     Ok((place, Expr::If(place, branches, otherwise)))
 }

@@ -1,4 +1,4 @@
-use Rattle.std.proofs.Common.{◌≡◌, arith, rules, true, false, refl, [], ◌∷◌, ◌++◌, ◌∙◌, Ok}
+use Rattle.std.proofs.Common.{◌≡◌, arith, rules, true, false, refl, subst, [], ◌∷◌, ◌++◌, ◌∙◌, Ok}
 use Rattle.std.proofs.lemmas.Result.{err_from_is_err_and}
 use Rattle.uc_counted.specs.Counted.{turned, turns}
 use Rattle.uc_counted.proofs.Shapes.{after_is, after_fails}
@@ -10,12 +10,16 @@ use Rattle.uc_grammar.specs.declared.word.Word.{Word}
 use Rattle.uc_grammar.specs.declared.word.Kind.TheVariants.{Comma, Dot, LeftBracket, KwIf, Plus}
 use Rattle.uc_grammar.specs.Syntax as syntax
 use Rattle.uc_grammar.specs.Syntax.{words, rule, opens, expr, selection, branch, product, chain_of, sum_of, sum_sign}
-use Rattle.uc_parse_expressions.specs.Chains.{operand_form, sign_of, node_of, gathered}
+use Rattle.uc_parse_expressions.specs.Chains.{form_of, operand_form, sign_of, node_of, gathered}
 use Rattle.uc_parse_expressions.specs.Parts.{selections, element, new_value}
 use Rattle.uc_parse_expressions.specs.Signs.{minus, sum_codes, order_codes}
-use Rattle.uc_parse_expressions.proofs.Chains.{gathers_on, gather_fails, gather_done, chain_given, sum_given, fold_more, fold_alone, chain_folds, sum_folds, pair_is, pair_fails}
+use Rattle.uc_parse_expressions.proofs.Chains.{gathers_on, gather_fails, gather_done, fold_more, fold_alone, chain_folds, sum_folds, pair_is, pair_fails}
 use Rattle.uc_parse_expressions.proofs.Compared.{compared_alone, compared_pair, compared_fails}
 use Rattle.uc_parse_expressions.proofs.InBrackets.{brackets_given}
+use Rattle.uc_parse_expressions.proofs.Levels.{fails_above, turned_on, turn_fails, turns_end}
+use Rattle.uc_parse_expressions.specs.declared.level.Level.{Level}
+use Rattle.uc_parse_expressions.specs.declared.level.Level.TheVariants as level_kinds
+use Rattle.uc_counted.specs.Gives.{StopsAt}
 use Rattle.uc_reader.specs.Reading.{state, form}
 use Rattle.uc_reader.proofs.Here.{takes, one_deeper, none_left}
 use Rattle.uc_syntax.specs.declared.expression.Expr.TheViews as exprs
@@ -87,24 +91,6 @@ brackets-returns-then-at_bounds t c = rw (one_deeper c.args.levels syntax.bracke
 
 pub brackets-returns : goal.brackets-returns
 brackets-returns t c = rw (brackets_given c.args.levels c.in_ok-opening.opening (state c.args.reader.now) (state c.take.new.self) (omega arith) c.in_ok-opening.ensures (search rules)) c.element.ensures
-
-pub comparison-returns-then-not-at_comparison : goal.comparison-returns-then-not-at_comparison
-comparison-returns-then-not-at_comparison t c =
-    let at : is_at words order_codes c.chain.new.reader.rest.now ≡ false = search rules in
-    compared_alone c.args.levels (c.in_ok-place.place, c.in_ok-place.left) (state c.args.reader.now) (state c.chain.new.reader) c.in_ok-place.ensures at
-
-pub comparison-returns-in_err-right : goal.comparison-returns-in_err-right
-comparison-returns-in_err-right t c =
-    let p = err_from_is_err_and c.from_residual-in_err-right.result c.from_residual-in_err-right.ensures.1 in
-    let e = c.in_err-right.field-0.0 in
-    let at : is_at words order_codes c.chain.new.reader.rest.now ≡ true = search rules in
-    rw (p.1, p.2) (compared_fails e c.args.levels (c.in_ok-place.place, c.in_ok-place.left) (state c.args.reader.now) (state c.chain.new.reader) c.in_ok-sign.sign (state c.take_comparison.new.reader) (state c.chain-2.new.reader) c.in_ok-place.ensures at c.in_ok-sign.ensures c.in_err-right.ensures)
-
-pub comparison-returns : goal.comparison-returns
-comparison-returns t c =
-    let at : is_at words order_codes c.chain.new.reader.rest.now ≡ true = search rules in
-    let all = compared_pair c.args.levels (c.in_ok-place.place, c.in_ok-place.left) (state c.args.reader.now) (state c.chain.new.reader) c.in_ok-sign.sign (state c.take_comparison.new.reader) (c.in_ok-right.field-0-0, c.in_ok-right.right) (state c.chain-2.new.reader) c.in_ok-place.ensures at c.in_ok-sign.ensures c.in_ok-right.ensures in
-    rw (c.comparison_of-operator.ensures, c.in_ok-left.ensures, c.in_ok-right-2.ensures) all
 
 pub if_expression-returns-then-levels-eq0 : goal.if_expression-returns-then-levels-eq0
 if_expression-returns-then-levels-eq0 t c = rw c.no_level.ensures (none_left c.args.levels syntax.if_expression (state c.args.reader.now) c.if-levels-eq0.true)
@@ -197,37 +183,37 @@ selections-returns-in_err-next t c =
 
 pub more_operands-turns-preserved : goal.more_operands-turns-preserved
 more_operands-turns-preserved t c =
-    let at : is_at words (code_of (sign_of c.args.level) ∷ []) c.turns.reader.rest.now ≡ true = search rules in
-    let read = pair_is c.args.levels (word (sign_of c.args.level)) (operand_form c.args.level) c.in_ok-sign.sign (c.in_ok-next.field-0-0, c.in_ok-next.next) (state c.turns.reader) (state c.take.new.self) (state c.operand.new.reader) (search rules) c.in_ok-next.ensures in
+    let at : is_at words (code_of (sign_of c.args.chain) ∷ []) c.turns.reader.rest.now ≡ true = search rules in
+    let read = pair_is c.args.levels (word (sign_of c.args.chain)) (operand_form c.args.chain) c.in_ok-sign.sign (c.in_ok-next.field-0-0, c.in_ok-next.next) (state c.turns.reader) (state c.take.new.self) (state c.level.new.reader) (search rules) (subst (λ (l : Level). form c.args.levels (form_of l) (state c.take.new.self) ≡ Ok ((c.in_ok-next.field-0-0, c.in_ok-next.next), state c.level.new.reader)) c.operand.ensures c.in_ok-next.ensures) in
     let operands : c.push.new.self ≡ c.turns.operands ++ c.in_ok-next.next ∷ [] = c.in_ok-push.ensures.ok in
     let marks : c.push-in-turns.new.self ≡ c.turns.places ++ c.in_ok-sign.sign.place ∷ [] = search rules in
-    rw (operands, marks) (gathers_on (λ (w : Word). w.place) (code_of (sign_of c.args.level) ∷ []) (form c.args.levels (both (word (sign_of c.args.level)) (operand_form c.args.level))) c.turns.operands c.turns.places (state c.turns.reader) (c.in_ok-sign.sign, (c.in_ok-next.field-0-0, c.in_ok-next.next)) (state c.operand.new.reader) _ (takes c.args.levels (both (word (sign_of c.args.level)) (operand_form c.args.level)) refl) at read c.turns.invariant)
+    rw (operands, marks) (gathers_on (λ (w : Word). w.place) (code_of (sign_of c.args.chain) ∷ []) (form c.args.levels (both (word (sign_of c.args.chain)) (operand_form c.args.chain))) c.turns.operands c.turns.places (state c.turns.reader) (c.in_ok-sign.sign, (c.in_ok-next.field-0-0, c.in_ok-next.next)) (state c.level.new.reader) _ (takes c.args.levels (both (word (sign_of c.args.chain)) (operand_form c.args.chain)) refl) at read c.turns.invariant)
 
 pub more_operands-turns-smaller : goal.more_operands-turns-smaller
-more_operands-turns-smaller t c = takes c.args.levels (both (word (sign_of c.args.level)) (operand_form c.args.level)) refl (state c.turns.reader) (c.in_ok-sign.sign, (c.in_ok-next.field-0-0, c.in_ok-next.next)) (state c.operand.new.reader) (pair_is c.args.levels (word (sign_of c.args.level)) (operand_form c.args.level) c.in_ok-sign.sign (c.in_ok-next.field-0-0, c.in_ok-next.next) (state c.turns.reader) (state c.take.new.self) (state c.operand.new.reader) (search rules) c.in_ok-next.ensures)
+more_operands-turns-smaller t c = takes c.args.levels (both (word (sign_of c.args.chain)) (operand_form c.args.chain)) refl (state c.turns.reader) (c.in_ok-sign.sign, (c.in_ok-next.field-0-0, c.in_ok-next.next)) (state c.level.new.reader) (pair_is c.args.levels (word (sign_of c.args.chain)) (operand_form c.args.chain) c.in_ok-sign.sign (c.in_ok-next.field-0-0, c.in_ok-next.next) (state c.turns.reader) (state c.take.new.self) (state c.level.new.reader) (search rules) (subst (λ (l : Level). form c.args.levels (form_of l) (state c.take.new.self) ≡ Ok ((c.in_ok-next.field-0-0, c.in_ok-next.next), state c.level.new.reader)) c.operand.ensures c.in_ok-next.ensures))
 
 pub more_operands-returns : goal.more_operands-returns
 more_operands-returns t c =
-    let at : is_at words (code_of (sign_of c.args.level) ∷ []) c.turns.reader.rest.now ≡ false = search rules in
-    gather_done (λ (w : Word). w.place) (code_of (sign_of c.args.level) ∷ []) (form c.args.levels (both (word (sign_of c.args.level)) (operand_form c.args.level))) c.turns.operands c.turns.places (state c.turns.reader) _ at c.turns.invariant
+    let at : is_at words (code_of (sign_of c.args.chain) ∷ []) c.turns.reader.rest.now ≡ false = search rules in
+    gather_done (λ (w : Word). w.place) (code_of (sign_of c.args.chain) ∷ []) (form c.args.levels (both (word (sign_of c.args.chain)) (operand_form c.args.chain))) c.turns.operands c.turns.places (state c.turns.reader) _ at c.turns.invariant
 
 pub more_operands-returns-in_err-next : goal.more_operands-returns-in_err-next
 more_operands-returns-in_err-next t c =
     let p = err_from_is_err_and c.from_residual-in_err-next.result c.from_residual-in_err-next.ensures.1 in
     let e = c.in_err-next.field-0.0 in
-    let at : is_at words (code_of (sign_of c.args.level) ∷ []) c.turns.reader.rest.now ≡ true = search rules in
-    rw (p.1, p.2) (gather_fails (λ (w : Word). w.place) e (code_of (sign_of c.args.level) ∷ []) (form c.args.levels (both (word (sign_of c.args.level)) (operand_form c.args.level))) c.turns.operands c.turns.places (state c.turns.reader) (state c.operand.new.reader) _ at (pair_fails e c.args.levels (word (sign_of c.args.level)) (operand_form c.args.level) c.in_ok-sign.sign (state c.turns.reader) (state c.take.new.self) (state c.operand.new.reader) (search rules) c.in_err-next.ensures) c.turns.invariant)
+    let at : is_at words (code_of (sign_of c.args.chain) ∷ []) c.turns.reader.rest.now ≡ true = search rules in
+    rw (p.1, p.2) (gather_fails (λ (w : Word). w.place) e (code_of (sign_of c.args.chain) ∷ []) (form c.args.levels (both (word (sign_of c.args.chain)) (operand_form c.args.chain))) c.turns.operands c.turns.places (state c.turns.reader) (state c.level.new.reader) _ at (pair_fails e c.args.levels (word (sign_of c.args.chain)) (operand_form c.args.chain) c.in_ok-sign.sign (state c.turns.reader) (state c.take.new.self) (state c.level.new.reader) (search rules) (subst (λ (l : Level). StopsAt c.in_err-next.field-0.0 (state c.level.new.reader) (form c.args.levels (form_of l) (state c.take.new.self))) c.operand.ensures c.in_err-next.ensures)) c.turns.invariant)
 
 pub more_terms-turns-preserved : goal.more_terms-turns-preserved
 more_terms-turns-preserved t c =
     let at : is_at words (sum_codes) c.turns.reader.rest.now ≡ true = search rules in
-    let read = pair_is c.args.levels (one_of Plus minus) product c.in_ok-sign.sign (c.in_ok-next.field-0-0, c.in_ok-next.next) (state c.turns.reader) (state c.take_sum_sign.new.reader) (state c.chain.new.reader) c.in_ok-sign.ensures c.in_ok-next.ensures in
+    let read = pair_is c.args.levels (one_of Plus minus) product c.in_ok-sign.sign (c.in_ok-next.field-0-0, c.in_ok-next.next) (state c.turns.reader) (state c.take_sum_sign.new.reader) (state c.level.new.reader) c.in_ok-sign.ensures c.in_ok-next.ensures in
     let operands : c.push.new.self ≡ c.turns.terms ++ c.in_ok-next.next ∷ [] = c.in_ok-push.ensures.ok in
     let marks : c.push-in-turns.new.self ≡ c.turns.signs ++ sum_sign c.in_ok-sign.sign ∷ [] = search rules in
-    rw (operands, marks) (gathers_on sum_sign (sum_codes) (form c.args.levels (both (one_of Plus minus) product)) c.turns.terms c.turns.signs (state c.turns.reader) (c.in_ok-sign.sign, (c.in_ok-next.field-0-0, c.in_ok-next.next)) (state c.chain.new.reader) _ (takes c.args.levels (both (one_of Plus minus) product) refl) at read c.turns.invariant)
+    rw (operands, marks) (gathers_on sum_sign (sum_codes) (form c.args.levels (both (one_of Plus minus) product)) c.turns.terms c.turns.signs (state c.turns.reader) (c.in_ok-sign.sign, (c.in_ok-next.field-0-0, c.in_ok-next.next)) (state c.level.new.reader) _ (takes c.args.levels (both (one_of Plus minus) product) refl) at read c.turns.invariant)
 
 pub more_terms-turns-smaller : goal.more_terms-turns-smaller
-more_terms-turns-smaller t c = takes c.args.levels (both (one_of Plus minus) product) refl (state c.turns.reader) (c.in_ok-sign.sign, (c.in_ok-next.field-0-0, c.in_ok-next.next)) (state c.chain.new.reader) (pair_is c.args.levels (one_of Plus minus) product c.in_ok-sign.sign (c.in_ok-next.field-0-0, c.in_ok-next.next) (state c.turns.reader) (state c.take_sum_sign.new.reader) (state c.chain.new.reader) c.in_ok-sign.ensures c.in_ok-next.ensures)
+more_terms-turns-smaller t c = takes c.args.levels (both (one_of Plus minus) product) refl (state c.turns.reader) (c.in_ok-sign.sign, (c.in_ok-next.field-0-0, c.in_ok-next.next)) (state c.level.new.reader) (pair_is c.args.levels (one_of Plus minus) product c.in_ok-sign.sign (c.in_ok-next.field-0-0, c.in_ok-next.next) (state c.turns.reader) (state c.take_sum_sign.new.reader) (state c.level.new.reader) c.in_ok-sign.ensures c.in_ok-next.ensures)
 
 pub more_terms-returns : goal.more_terms-returns
 more_terms-returns t c =
@@ -239,38 +225,68 @@ more_terms-returns-in_err-next t c =
     let p = err_from_is_err_and c.from_residual-in_err-next.result c.from_residual-in_err-next.ensures.1 in
     let e = c.in_err-next.field-0.0 in
     let at : is_at words (sum_codes) c.turns.reader.rest.now ≡ true = search rules in
-    rw (p.1, p.2) (gather_fails sum_sign e (sum_codes) (form c.args.levels (both (one_of Plus minus) product)) c.turns.terms c.turns.signs (state c.turns.reader) (state c.chain.new.reader) _ at (pair_fails e c.args.levels (one_of Plus minus) product c.in_ok-sign.sign (state c.turns.reader) (state c.take_sum_sign.new.reader) (state c.chain.new.reader) c.in_ok-sign.ensures c.in_err-next.ensures) c.turns.invariant)
+    rw (p.1, p.2) (gather_fails sum_sign e (sum_codes) (form c.args.levels (both (one_of Plus minus) product)) c.turns.terms c.turns.signs (state c.turns.reader) (state c.level.new.reader) _ at (pair_fails e c.args.levels (one_of Plus minus) product c.in_ok-sign.sign (state c.turns.reader) (state c.take_sum_sign.new.reader) (state c.level.new.reader) c.in_ok-sign.ensures c.in_err-next.ensures) c.turns.invariant)
 
-pub chain-returns-in_err-place : goal.chain-returns-in_err-place
-chain-returns-in_err-place t c = rw (chain_given c.args.levels c.args.level (state c.args.reader.now)) (search rules)
+pub comparison-returns-then-not-at_comparison : goal.comparison-returns-then-not-at_comparison
+comparison-returns-then-not-at_comparison t c =
+    let at : is_at words order_codes c.args.reader.now.rest.now ≡ false = search rules in
+    compared_alone c.args.levels c.args.first (state c.args.reader.now) at
+
+pub comparison-returns-in_err-right : goal.comparison-returns-in_err-right
+comparison-returns-in_err-right t c =
+    let p = err_from_is_err_and c.from_residual-in_err-right.result c.from_residual-in_err-right.ensures.1 in
+    let e = c.in_err-right.field-0.0 in
+    let at : is_at words order_codes c.args.reader.now.rest.now ≡ true = search rules in
+    rw (p.1, p.2) (compared_fails e c.args.levels c.args.first (state c.args.reader.now) c.in_ok-sign.sign (state c.take_comparison.new.reader) (state c.level.new.reader) at c.in_ok-sign.ensures c.in_err-right.ensures)
+
+pub comparison-returns : goal.comparison-returns
+comparison-returns t c =
+    let at : is_at words order_codes c.args.reader.now.rest.now ≡ true = search rules in
+    let all = compared_pair c.args.levels c.args.first (state c.args.reader.now) c.in_ok-sign.sign (state c.take_comparison.new.reader) (c.in_ok-right.field-0-0, c.in_ok-right.right) (state c.level.new.reader) at c.in_ok-sign.ensures c.in_ok-right.ensures in
+    rw (c.comparison_of-operator.ensures, c.in_ok-left.ensures, c.in_ok-right-2.ensures) all
 
 pub chain-returns-then-not-is_at : goal.chain-returns-then-not-is_at
 chain-returns-then-not-is_at t c =
-    let at : is_at words (code_of (sign_of c.args.level) ∷ []) c.operand.new.reader.rest.now ≡ false = search rules in
-    rw (chain_given c.args.levels c.args.level (state c.args.reader.now)) (fold_alone (λ (w : Word). w.place) (node_of c.args.level) (chain_of (node_of c.args.level)) (chain_folds (node_of c.args.level)) c.args.levels (operand_form c.args.level) (sign_of c.args.level) [] (c.in_ok-place.place, c.in_ok-place.first) (state c.args.reader.now) (state c.operand.new.reader) c.in_ok-place.ensures at)
-
-pub chain-returns-in_err-more_operands : goal.chain-returns-in_err-more_operands
-chain-returns-in_err-more_operands t c = rw (chain_given c.args.levels c.args.level (state c.args.reader.now)) (search rules)
+    let at : is_at words (code_of (sign_of c.args.level) ∷ []) c.args.reader.now.rest.now ≡ false = search rules in
+    fold_alone (λ (w : Word). w.place) (node_of c.args.level) (chain_of (node_of c.args.level)) (chain_folds (node_of c.args.level)) c.args.levels (operand_form c.args.level) (sign_of c.args.level) [] c.args.first (state c.args.reader.now) at
 
 pub chain-returns : goal.chain-returns
 chain-returns t c =
-    let at : is_at words (code_of (sign_of c.args.level) ∷ []) c.operand.new.reader.rest.now ≡ true = search rules in
-    let all : turned (gathered (λ (w : Word). w.place) (c.in_ok-place.first ∷ []) []) (turns words (code_of (sign_of c.args.level) ∷ []) (form c.args.levels (both (one_of (sign_of c.args.level) []) (operand_form c.args.level))) (state c.operand.new.reader)) ≡ Ok ((c.more_operands.new.operands, c.more_operands.new.places), state c.more_operands.new.reader) = search rules in
-    rw (chain_given c.args.levels c.args.level (state c.args.reader.now)) (fold_more (λ (w : Word). w.place) (node_of c.args.level) (chain_of (node_of c.args.level)) (chain_folds (node_of c.args.level)) c.args.levels (operand_form c.args.level) (sign_of c.args.level) [] (c.in_ok-place.place, c.in_ok-place.first) (state c.args.reader.now) (state c.operand.new.reader) c.more_operands.new.operands c.more_operands.new.places (state c.more_operands.new.reader) c.in_ok-place.ensures at all ∙ search rules)
-
-pub sum-returns-in_err-place : goal.sum-returns-in_err-place
-sum-returns-in_err-place t c = rw (sum_given c.args.levels (state c.args.reader.now)) (search rules)
+    let at : is_at words (code_of (sign_of c.args.level) ∷ []) c.args.reader.now.rest.now ≡ true = search rules in
+    let all : turned (gathered (λ (w : Word). w.place) (c.args.first.1 ∷ []) []) (turns words (code_of (sign_of c.args.level) ∷ []) (form c.args.levels (both (one_of (sign_of c.args.level) []) (operand_form c.args.level))) (state c.args.reader.now)) ≡ Ok ((c.more_operands.new.operands, c.more_operands.new.places), state c.more_operands.new.reader) = search rules in
+    fold_more (λ (w : Word). w.place) (node_of c.args.level) (chain_of (node_of c.args.level)) (chain_folds (node_of c.args.level)) c.args.levels (operand_form c.args.level) (sign_of c.args.level) [] c.args.first (state c.args.reader.now) c.more_operands.new.operands c.more_operands.new.places (state c.more_operands.new.reader) at all ∙ search rules
 
 pub sum-returns-then-not-at_sum_sign : goal.sum-returns-then-not-at_sum_sign
 sum-returns-then-not-at_sum_sign t c =
-    let at : is_at words (sum_codes) c.chain.new.reader.rest.now ≡ false = search rules in
-    rw (sum_given c.args.levels (state c.args.reader.now)) (fold_alone sum_sign exprs.Sum sum_of sum_folds c.args.levels product Plus minus (c.in_ok-place.place, c.in_ok-place.first) (state c.args.reader.now) (state c.chain.new.reader) c.in_ok-place.ensures at)
-
-pub sum-returns-in_err-more_terms : goal.sum-returns-in_err-more_terms
-sum-returns-in_err-more_terms t c = rw (sum_given c.args.levels (state c.args.reader.now)) (search rules)
+    let at : is_at words (sum_codes) c.args.reader.now.rest.now ≡ false = search rules in
+    fold_alone sum_sign exprs.Sum sum_of sum_folds c.args.levels product Plus minus c.args.first (state c.args.reader.now) at
 
 pub sum-returns : goal.sum-returns
 sum-returns t c =
-    let at : is_at words (sum_codes) c.chain.new.reader.rest.now ≡ true = search rules in
-    let all : turned (gathered sum_sign (c.in_ok-place.first ∷ []) []) (turns words (sum_codes) (form c.args.levels (both (one_of Plus minus) product)) (state c.chain.new.reader)) ≡ Ok ((c.more_terms.new.terms, c.more_terms.new.signs), state c.more_terms.new.reader) = search rules in
-    rw (sum_given c.args.levels (state c.args.reader.now)) (fold_more sum_sign exprs.Sum sum_of sum_folds c.args.levels product Plus minus (c.in_ok-place.place, c.in_ok-place.first) (state c.args.reader.now) (state c.chain.new.reader) c.more_terms.new.terms c.more_terms.new.signs (state c.more_terms.new.reader) c.in_ok-place.ensures at all ∙ search rules)
+    let at : is_at words (sum_codes) c.args.reader.now.rest.now ≡ true = search rules in
+    let all : turned (gathered sum_sign (c.args.first.1 ∷ []) []) (turns words (sum_codes) (form c.args.levels (both (one_of Plus minus) product)) (state c.args.reader.now)) ≡ Ok ((c.more_terms.new.terms, c.more_terms.new.signs), state c.more_terms.new.reader) = search rules in
+    fold_more sum_sign exprs.Sum sum_of sum_folds c.args.levels product Plus minus c.args.first (state c.args.reader.now) c.more_terms.new.terms c.more_terms.new.signs (state c.more_terms.new.reader) at all ∙ search rules
+
+pub level-returns-in_err-found : goal.level-returns-in_err-found
+level-returns-in_err-found t c =
+    let p = err_from_is_err_and c.from_residual.result c.from_residual.ensures.1 in
+    let e = c.in_err-found.field-0.0 in
+    rw (p.1, p.2) (fails_above e c.args.levels c.args.top level_kinds.Unary (state c.args.reader.now) (state c.unary.new.reader) (omega arith) c.in_err-found.ensures)
+
+pub level-returns-in_err-found-2 : goal.level-returns-in_err-found-2
+level-returns-in_err-found-2 t c =
+    let p = err_from_is_err_and c.from_residual-in_err-found-2.result c.from_residual-in_err-found-2.ensures.1 in
+    let e = c.in_err-found-2.field-0.0 in
+    rw (p.1, p.2) (turn_fails e c.args.levels c.args.top c.turns.next c.turns.reached c.turns.found (state c.args.reader.now) (state c.turns.reader) (state c.rest.new.reader) c.turns.invariant.next (search (arith, rules)) (search (arith, rules)) c.turns.invariant.read c.in_err-found-2.ensures)
+
+pub level-turns-preserved : goal.level-turns-preserved
+level-turns-preserved t c =
+    record {
+      read = turned_on c.args.levels c.turns.next c.turns.reached c.turns.found c.in_ok-found-2.found (state c.args.reader.now) (state c.turns.reader) (state c.rest.new.reader) c.turns.invariant.next (search (arith, rules)) c.turns.invariant.read c.in_ok-found-2.ensures;
+      next = search rules;
+      within = search (arith, rules);
+    }
+
+pub level-returns : goal.level-returns
+level-returns t c =
+    turns_end c.args.levels c.args.top c.turns.next c.turns.reached c.turns.found (state c.args.reader.now) (state c.turns.reader) c.turns.invariant.next c.turns.invariant.within (λ a b. grind (arith, rules)) c.turns.invariant.read
