@@ -5,3 +5,9 @@ pub mod Mixed
 pub mod Junctions
 pub mod Singles
 pub mod Plain
+pub mod Subterms
+pub mod Asking
+pub mod Asked
+pub mod Computing
+pub mod Standing
+pub mod Problems

@@ -1,3 +1,5 @@
 pub mod Words
 pub mod Operations
 pub mod Constants
+pub mod Blasting
+pub mod Walk

@@ -1,16 +1,20 @@
-//! Bit-blasting: the signals of operations on booleans and bit-vectors.
+//! Bit-blasting: the problem of a term of booleans and bit-vectors.
 //!
-//! In: an operation of terms, and words of its parts, which are the signals of a circuit that stand
-//! for their values. Out: the word of the operation, in the same circuit with more gates. It stands
-//! for the value of the operation on the values of the parts, whatever the inputs are. The walk over
-//! a table of terms is not built yet.
+//! In: a boolean term. Out: a problem, which is a circuit, a literal of it and what its inputs stand
+//! for. Inputs that agree with a model give the literal the value of the term, so the models of the
+//! term are those of the problem. An input stands for a bit of a symbol or of an applied function;
+//! each other subterm has a word, the signals that stand for its value.
 #![tactic(auto)]
 
+mod blasting;
 mod computed;
 mod constants;
 mod dispatch;
+mod inputs;
 mod logic;
 mod operations;
+mod walk;
 mod words;
 
+pub use blasting::{BlastError, blast};
 pub use dispatch::operation_word;

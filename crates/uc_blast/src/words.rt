@@ -14,7 +14,7 @@ use uc_items::{Items, at};
 use uc_ops::TermId;
 
 /// The word at a place, and none where there is none.
-fn word_at(words: &[Items<Signal>], place: usize) -> &[Signal]
+pub(crate) fn word_at(words: &[Items<Signal>], place: usize) -> &[Signal]
     ensures { result.now ≡ slice_index_or words.now place [] }
 {
     match at(words, place) {
