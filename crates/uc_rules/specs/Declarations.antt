@@ -31,7 +31,7 @@ use Rattle.uc_rules.specs.declared.known.Role.TheVariants.{Parameter as Paramete
 use Rattle.uc_rules.specs.Faults.{breaks, breaks_where, broken, IsIn, IsFirst}
 use Rattle.uc_rules.specs.Outcomes.{faults_in}
 use Rattle.uc_rules.specs.Rows.{same_outcome}
-use Rattle.uc_rules.specs.Names.{Valued, ValuedVariable, value_named, instance_named, is_name_of, names_one_of, names_in, repeated_names, repeated_in_list, repeated_in_scope}
+use Rattle.uc_rules.specs.Names.{Valued, ValuedVariable, value_named, instance_named, is_name_of, names_in, repeated_names, repeated_in_list, repeated_in_scope}
 use Rattle.uc_rules.specs.Types.{type_of, type_faults, type_found, parameter_faults, scalar_faults}
 use Rattle.uc_rules.specs.Reads.{is_state}
 use Rattle.uc_rules.specs.Expressions.{Context, Judged, judged, condition_faults}
@@ -248,10 +248,12 @@ module_faults system m = (naming_faults system m ++ cycle_faults system m) ++ fl
 
 -- Designs.
 
+abbrev pub module_identifier : Module → Identifier
+module_identifier m = record { place = m.place; name = m.name }
+
 -- a module whose name an earlier one has is a fault at its first token
-unfoldable pub repeated_modules : List ℕ → List Module → List Fault
-repeated_modules earlier [] = []
-repeated_modules earlier (m ∷ ms) = breaks_where (names_one_of earlier m.name) DuplicateName m.place ++ repeated_modules (earlier ++ m.name ∷ []) ms
+abbrev pub repeated_modules : List Module → List Fault
+repeated_modules ms = repeated_in_list (map module_identifier ms)
 
 -- the place of the first module whose name has this text
 abbrev pub main_number : Contents → List ℕ → Option ℕ
@@ -273,7 +275,7 @@ system_with d main = system_of d (unwrap_or (main_number d main) 0)
 -- All faults of a design, in no order.
 unfoldable pub design_faults : Contents → List ℕ → List Fault
 design_faults d main =
-    main_faults (main_number d main) ++ (repeated_modules [] d.modules ++ flat_map (module_faults (system_with d main)) d.modules)
+    main_faults (main_number d main) ++ (repeated_modules d.modules ++ flat_map (module_faults (system_with d main)) d.modules)
 
 -- A design breaks a rule at a place.
 abbrev pub DesignBreaks : Contents → List ℕ → Rule → Place → Type 0

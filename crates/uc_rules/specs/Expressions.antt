@@ -23,7 +23,6 @@ use Rattle.uc_syntax.specs.declared.declaration.Module.{Module}
 use Rattle.uc_syntax.specs.WrittenTypes.{labels_of}
 use Rattle.uc_values.specs.declared.ty.Ty.{Ty}
 use Rattle.uc_values.specs.declared.ty.Ty.TheVariants.{Bool as boolean, Int as integer, Enum as enum_type}
-use Rattle.uc_values.specs.declared.ty.Ty.TheViews.{out-Ty}
 use Rattle.uc_meaning.specs.Lookup.{System, InstanceParts, module_named}
 use Rattle.uc_rules.specs.declared.fault.Fault.{Fault}
 use Rattle.uc_rules.specs.declared.rule.Rule.TheVariants.{UnknownName, WrongType, Nonlinear, BadPrime, BadCopy, AxiomState}
@@ -36,7 +35,7 @@ use Rattle.uc_rules.specs.declared.rows.Chain.{Chain}
 use Rattle.uc_rules.specs.declared.rows.Chain.TheVariants.{Boolean, Number, Bits, Concat}
 use Rattle.uc_rules.specs.Faults.{broken, breaks}
 use Rattle.uc_rules.specs.Outcomes.{type_in, faults_in, outcome_of}
-use Rattle.uc_rules.specs.Rows.{Fit, Suits, Misfits, Unknown, types_fit, chain_type, chain_faults, comparison, condition, same_outcome, unary, number_literal, bits_literal, extended_type, field_outcome, element_outcome, update_outcome, extract_outcome, pair}
+use Rattle.uc_rules.specs.Rows.{Fit, Suits, Misfits, Unknown, types_fit, chain_type, chain_faults, comparison, condition, same_outcome, unary, number_literal, bits_literal, extended_type, field_on, element_on, update_on, extract_on, pair}
 use Rattle.uc_rules.specs.Names.{Valued, ValuedVariable, ValuedLabel, Called, CalledFunction, CalledDefine, value_named, called_named, instance_named}
 use Rattle.uc_rules.specs.Types.{type_of, parameter_types}
 use Rattle.uc_rules.specs.Reads.{define_reads}
@@ -327,22 +326,6 @@ in_copies (Some n) k = nat_le 1 k && nat_le k n
 abbrev pub copied : Context → Place → Place → Option Ty → ℕ → Standing
 copied c begin place t k =
     if c.in_axiom then Wrong (broken AxiomState begin) else (if in_copies c.copies k then ValueOf t else Wrong (broken BadCopy place))
-
-abbrev pub field_on : Option Ty → ℕ → Outcome
-field_on (Some t) f = field_outcome f (out-Ty t)
-field_on None f = Unjudged
-
-abbrev pub element_on : Option Ty → Option Ty → Outcome
-element_on (Some t) (Some i) = element_outcome (out-Ty t) i
-element_on t i = Unjudged
-
-abbrev pub update_on : Option Ty → Option Ty → Option Ty → Outcome
-update_on (Some t) (Some i) (Some v) = update_outcome t (out-Ty t) i v
-update_on t i v = Unjudged
-
-abbrev pub extract_on : Option Ty → ℕ → ℕ → Outcome
-extract_on (Some t) hi lo = extract_outcome hi lo t
-extract_on None hi lo = Unjudged
 
 -- a selection on a value; a copy's number stands on a variable, input or output alone
 abbrev pub selection_outcome : Context → Option Ty → Selection Part → Outcome

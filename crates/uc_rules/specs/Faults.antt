@@ -1,5 +1,5 @@
 -- Faults in their order, and the first of a list.
-use Rattle.std.specs.Prelude.{◌≡◌, ◌⊎◌, ℕ, Bool, true, false, nat_lt, nat_eq, if◌then◌else◌, List, [], ◌∷◌, Option, Some, None}
+use Rattle.std.specs.Prelude.{◌≡◌, ◌⊎◌, ℕ, Bool, true, false, nat_lt, nat_eq, if◌then◌else◌, List, [], ◌∷◌, Option, Some, None, Result, Ok, Err}
 use Rattle.uc_lexer.specs.declared.place.Place.{Place}
 use Rattle.uc_rules.specs.declared.rule.Rule.{Rule}
 use Rattle.uc_rules.specs.declared.rule.Rule.TheVariants.{UnknownName, DuplicateName, WrongType, Nonlinear, WideLiteral, Unbound, NotAssignable, BadPrime, BadCopy, NotModifies, BadWidth, ArrayShape, AxiomState, Cycle}
@@ -66,3 +66,8 @@ NoneBefore f (g ∷ gs) = (sooner g f ≡ false) × NoneBefore f gs
 -- one of the faults, before which none of them comes
 abbrev pub IsFirst : Fault → List Fault → Type 0
 IsFirst f fs = IsIn f fs × NoneBefore f fs
+
+-- Ok exactly where no rule is broken, and else the first fault.
+abbrev pub IsVerdict : {A : Type 0} → List Fault → Result A Fault → Type 0
+IsVerdict fs (Ok x) = fs ≡ []
+IsVerdict fs (Err f) = IsFirst f fs

@@ -11,6 +11,7 @@ use Rattle.uc_values.specs.declared.ty.Ty.{Ty}
 use Rattle.uc_values.specs.declared.ty.Field.{Field as TyField}
 use Rattle.uc_values.specs.declared.ty.Ty.TheVariants.{Bool as boolean, Int as integer, Bv as bits}
 use Rattle.uc_values.specs.declared.ty.Ty.TheOpen.{Ty-F}
+use Rattle.uc_values.specs.declared.ty.Ty.TheViews.{out-Ty}
 use Rattle.uc_values.specs.declared.ty.Ty.TheOpen.Ty-F.{Rec as record_of, Arr as array_of}
 use Rattle.uc_values.specs.Types.{is_scalar, is_flat}
 use Rattle.uc_rules.specs.declared.fault.Fault.{Fault}
@@ -182,6 +183,22 @@ update_outcome t other i v = Breaks WrongType
 abbrev pub extract_outcome : ℕ → ℕ → Ty → Outcome
 extract_outcome hi lo (bits w) = if nat_lt hi w && nat_le lo hi then Has (bits (hi - lo + 1)) else Breaks BadWidth
 extract_outcome hi lo other = Breaks WrongType
+
+abbrev pub field_on : Option Ty → ℕ → Outcome
+field_on (Some t) f = field_outcome f (out-Ty t)
+field_on None f = Unjudged
+
+abbrev pub element_on : Option Ty → Option Ty → Outcome
+element_on (Some t) (Some i) = element_outcome (out-Ty t) i
+element_on t i = Unjudged
+
+abbrev pub update_on : Option Ty → Option Ty → Option Ty → Outcome
+update_on (Some t) (Some i) (Some v) = update_outcome t (out-Ty t) i v
+update_on t i v = Unjudged
+
+abbrev pub extract_on : Option Ty → ℕ → ℕ → Outcome
+extract_on (Some t) hi lo = extract_outcome hi lo t
+extract_on None hi lo = Unjudged
 
 -- Written types.
 

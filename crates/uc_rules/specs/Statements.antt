@@ -33,10 +33,10 @@ use Rattle.uc_rules.specs.declared.outcome.Outcome.{Outcome}
 use Rattle.uc_rules.specs.declared.rows.Chain.TheVariants.{Number}
 use Rattle.uc_rules.specs.Faults.{broken, breaks, breaks_where}
 use Rattle.uc_rules.specs.Outcomes.{type_in, faults_in, outcome_of}
-use Rattle.uc_rules.specs.Rows.{Fit, Misfits, types_fit, number_literal, bits_literal, pair, same_outcome}
+use Rattle.uc_rules.specs.Rows.{Fit, Misfits, types_fit, number_literal, bits_literal, pair, same_outcome, field_on, element_on}
 use Rattle.uc_rules.specs.Names.{Valued, ValuedVariable, ValuedLabel, value_named, procedure_named, instance_named, is_name_of, names_one_of, repeated_in_scope}
 use Rattle.uc_rules.specs.Types.{type_of, type_faults, parameter_types}
-use Rattle.uc_rules.specs.Expressions.{Context, Standing, ValueOf, Wrong, Judged, Own, judged, faults_of, types_of, condition_faults, bound_named, standing_faults, standing_type, field_on, element_on}
+use Rattle.uc_rules.specs.Expressions.{Context, Standing, ValueOf, Wrong, Judged, Own, judged, faults_of, types_of, condition_faults, bound_named, standing_faults, standing_type}
 
 -- Scopes.
 

@@ -1,7 +1,8 @@
 //! Faults, and the first of them.
 
-ghost use Rattle.std.specs.Prelude.{◌≡◌};
-ghost use Rattle.uc_rules.specs.Faults.{broken, earlier, sooner};
+ghost use Rattle.std.specs.Prelude.{◌≡◌, List, None};
+ghost use Rattle.uc_rules.specs.declared.fault.Fault.{Fault};
+ghost use Rattle.uc_rules.specs.Faults.{breaks_where, broken, earlier, first_of, sooner, IsVerdict};
 
 use crate::rule::Rule;
 use uc_syntax::Place;
@@ -41,5 +42,25 @@ pub fn note(first: &mut Option<Fault>, rule: Rule, place: Place)
             }
         }
         None => *first = Some(fault),
+    }
+}
+
+/// Notes a fault where a rule is broken.
+#[tactic(auto, unfolding(crate::specs::Faults::first_of))]
+pub fn note_where(first: &mut Option<Fault>, is_broken: bool, rule: Rule, place: Place)
+    ensures { first.new ≡ first_of first.old (breaks_where is_broken rule place) }
+{
+    if is_broken {
+        note(first, rule, place);
+    }
+}
+
+/// What is answered where this is the first of all faults: it is one of them, and none comes before it.
+pub fn verdict(first: Option<Fault>) -> Result<(), Fault>
+    ensures { (fs : List Fault) → first ≡ first_of None fs → IsVerdict fs result }
+{
+    match first {
+        Some(fault) => Err(fault),
+        None => Ok(()),
     }
 }

@@ -1,7 +1,7 @@
 //! The rows of the type table: what the operators make of the types of their operands.
 
-ghost use Rattle.std.specs.Prelude.{◌≡◌};
-ghost use Rattle.uc_rules.specs.Rows.{compared, condition, joined, two_alike, two_bits, two_booleans, two_numbers, two_ordered, two_unsigned, two_widths, with_operator};
+ghost use Rattle.std.specs.Prelude.{◌≡◌, Some};
+ghost use Rattle.uc_rules.specs.Rows.{compared, comparison, condition, joined, same_outcome, two_alike, two_bits, two_booleans, two_numbers, two_ordered, two_unsigned, two_widths, unary, with_operator};
 
 use crate::outcome::Outcome;
 use crate::rule::Rule;
@@ -171,5 +171,51 @@ pub fn with_operator(operator: UnaryOperator, t: &Ty) -> Outcome
             Ty::Bv(w) => Outcome::Has(Ty::Bv(*w)),
             _ => Outcome::Breaks(Rule::WrongType),
         },
+    }
+}
+
+/// What a comparison makes of the types of its operands.
+pub fn comparison(how: Comparison, a: &Option<Ty>, b: &Option<Ty>) -> Outcome
+    ensures { result ≡ comparison how a.now b.now }
+{
+    match a {
+        Some(a) => match b {
+            Some(b) => compared(how, a, b),
+            None => Outcome::Unjudged,
+        },
+        None => Outcome::Unjudged,
+    }
+}
+
+/// Two of one type have that type.
+pub fn same_outcome(a: Option<Ty>, b: &Option<Ty>) -> Outcome
+    ensures { result ≡ same_outcome a b.now }
+{
+    match a {
+        Some(a) => match b {
+            Some(b) => either(a, b),
+            None => Outcome::Unjudged,
+        },
+        None => Outcome::Unjudged,
+    }
+}
+
+fn either(a: Ty, b: &Ty) -> Outcome
+    ensures { result ≡ same_outcome (Some a) (Some b.now) }
+{
+    if same_type(&a, b) {
+        Outcome::Has(a)
+    } else {
+        Outcome::Breaks(Rule::WrongType)
+    }
+}
+
+/// What an operator of one operand makes of its type, where it has one.
+pub fn unary(operator: UnaryOperator, t: &Option<Ty>) -> Outcome
+    ensures { result ≡ unary operator t.now }
+{
+    match t {
+        Some(t) => with_operator(operator, t),
+        None => Outcome::Unjudged,
     }
 }
