@@ -1,0 +1,7 @@
+-- Sets of names as lists in which no name stands twice.
+use Rattle.std.specs.Prelude.{ℕ, List, [], ◌∷◌, ◌++◌, if◌then◌else◌}
+use Rattle.uc_rules.specs.Names.{names_one_of}
+
+-- a list with a name, at its end where it is new
+abbrev pub with_name : List ℕ → ℕ → List ℕ
+with_name names x = if names_one_of names x then names else names ++ x ∷ []
