@@ -1,10 +1,8 @@
 -- The turns of a loop over a list of names.
 use Rattle.std.proofs.Common.{◌≡◌, ℕ, ◌+◌, ◌<◌, ◌≤◌, Bool, true, false, List, [], ◌∷◌, ◌++◌, length, drop, get_or, Option, refl, ap, ◌∙◌, sym, arith}
 use Rattle.std.specs.Prelude.{nat_eq, ◌||◌, if◌then◌else◌}
-use Rattle.std.specs.List.{list_any}
 use Rattle.std.proofs.lemmas.List.{drop_all}
 use Rattle.std.proofs.lemmas.List.Folds.{list_any-append}
-use Rattle.uc_lexer.specs.declared.place.Place.{Place}
 use Rattle.uc_syntax.specs.declared.place.Identifier.{Identifier}
 use Rattle.uc_rules.specs.declared.fault.Fault.{Fault}
 use Rattle.uc_rules.specs.declared.rule.Rule.TheVariants.{DuplicateName}
@@ -12,7 +10,7 @@ use Rattle.uc_rules.specs.Faults.{breaks_where, first_of}
 use Rattle.uc_rules.specs.Names.{names_one_of, repeated_in, repeated_in_list}
 use Rattle.uc_rules.proofs.Chains.{first_of_append}
 use Rattle.uc_rules.proofs.Lists.{drop_turn}
-use Rattle.uc_type_names.specs.NameSets.{with_name}
+use Rattle.uc_type_names.specs.NameSets.{with_name, with_all}
 
 -- two lists have the same names
 abbrev SameNames : List ℕ → List ℕ → Type 0
@@ -49,14 +47,19 @@ same_where e y false away x = refl
 -- Before turn k, the faults of the rest of the list are still to come.
 pub record RepeatedFrom (taken : ℕ → Bool) (before : List ℕ) (is : List Identifier) (old : Option Fault) (k : ℕ) (seen : List ℕ) (first : Option Fault) : Type 0 where
   pub found : first_of first (repeated_in taken seen (drop k is)) ≡ first_of old (repeated_in taken before is)
+  pub all : with_all seen (drop k is) ≡ with_all before is
 
 pub repeated_begin : (taken : ℕ → Bool) (before : List ℕ) (is : List Identifier) (old : Option Fault) → RepeatedFrom taken before is old 0 before old
-repeated_begin taken before is old = record { found = refl }
+repeated_begin taken before is old = record { found = refl; all = refl }
 
 turn : (taken : ℕ → Bool) (seen : List ℕ) (i : Identifier) (is : List Identifier) →
     repeated_in taken seen (i ∷ is) ≡ breaks_where (taken i.name || names_one_of seen i.name) DuplicateName i.place ++ repeated_in taken (seen ++ i.name ∷ []) is
 unfolding repeated_in
 turn taken seen i is = refl
+
+turn_all : (seen : List ℕ) (i : Identifier) (is : List Identifier) → with_all seen (i ∷ is) ≡ with_all (with_name seen i.name) is
+unfolding with_all
+turn_all seen i is = refl
 
 pub repeated_more : (taken : ℕ → Bool) (before : List ℕ) (is : List Identifier) (old : Option Fault) (k : ℕ) (seen : List ℕ) (first : Option Fault) (i d : Identifier) (seen' : List ℕ) (first' : Option Fault) →
     RepeatedFrom taken before is old k seen first → k < length is → i ≡ get_or is k d →
@@ -72,6 +75,11 @@ repeated_more taken before is old k seen first i d seen' first' held within at f
           ∙ sym (ap (first_of first) (turn taken seen i (drop (k + 1) is)))
           ∙ sym (ap (λ xs. first_of first (repeated_in taken seen xs)) (drop_turn is k i d within at))
           ∙ held.found;
+      all =
+          ap (λ s. with_all s (drop (k + 1) is)) seen-is
+          ∙ sym (turn_all seen i (drop (k + 1) is))
+          ∙ sym (ap (with_all seen) (drop_turn is k i d within at))
+          ∙ held.all;
     }
 
 pub repeated_end : (taken : ℕ → Bool) (before : List ℕ) (is : List Identifier) (old : Option Fault) (k : ℕ) (seen : List ℕ) (first : Option Fault) →
@@ -79,6 +87,11 @@ pub repeated_end : (taken : ℕ → Bool) (before : List ℕ) (is : List Identif
 unfolding repeated_in first_of
 repeated_end taken before is old k seen first held past =
     sym (ap (λ xs. first_of first (repeated_in taken seen xs)) (drop_all k is past)) ∙ held.found
+
+pub repeated_all : (taken : ℕ → Bool) (before : List ℕ) (is : List Identifier) (old : Option Fault) (k : ℕ) (seen : List ℕ) (first : Option Fault) →
+    RepeatedFrom taken before is old k seen first → length is ≤ k → seen ≡ with_all before is
+unfolding with_all
+repeated_all taken before is old k seen first held past = sym (ap (with_all seen) (drop_all k is past)) ∙ held.all
 
 -- nothing is taken where no name is given
 none_taken : (e : List ℕ) (is : List Identifier) → repeated_in (names_one_of []) e is ≡ repeated_in (λ x. false) e is

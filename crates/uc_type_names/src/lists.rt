@@ -4,6 +4,7 @@ ghost use Rattle.std.specs.Prelude.{◌≡◌, map, IfOk, OnOk};
 ghost use Rattle.uc_rules.specs.Faults.{first_of};
 ghost use Rattle.uc_rules.specs.Names.{names_one_of, repeated_in, repeated_in_list};
 ghost use Rattle.uc_rules.specs.Declarations.{command_name, identifiers_of, module_identifier, repeated_modules};
+ghost use Rattle.uc_type_names.specs.NameSets.{with_all};
 ghost use Rattle.std.specs.List.{filter_map};
 
 use crate::name_set::NameSet;
@@ -94,7 +95,8 @@ pub fn note_repeated_parameters(
     parameters: &[Parameter<TypeExpr>],
     first: &mut Option<Fault>,
 ) -> Result<(), AllocError>
-    ensures { OnOk result (first.new ≡ first_of first.old (repeated_in (names_one_of taken.now) seen.old (identifiers_of parameters.now))) }
+    ensures faults { OnOk result (first.new ≡ first_of first.old (repeated_in (names_one_of taken.now) seen.old (identifiers_of parameters.now))) }
+    ensures seen { OnOk result (seen.new ≡ with_all seen.old (identifiers_of parameters.now)) }
 {
     let mut identifiers = Items::new(alloc);
     for parameter in parameters {

@@ -4,7 +4,7 @@ ghost use Rattle.std.specs.Prelude.{◌≡◌, ◌||◌, OnOk};
 ghost use Rattle.uc_rules.specs.Faults.{breaks_where, first_of};
 ghost use Rattle.uc_rules.specs.declared.rule.Rule.TheVariants.{DuplicateName};
 ghost use Rattle.uc_rules.specs.Names.{names_one_of, repeated_in};
-ghost use Rattle.uc_type_names.specs.NameSets.{with_name};
+ghost use Rattle.uc_type_names.specs.NameSets.{with_all, with_name};
 
 use crate::name_set::NameSet;
 use std::alloc::AllocError;
@@ -12,14 +12,16 @@ use uc_rules::{Fault, Rule, note_where};
 use uc_syntax::Identifier;
 
 /// Notes each name of a list that is taken, or that an earlier one has: one that was seen, or one of the list. They are all seen then.
-#[tactic(auto, using(crate::proofs::Repeats::repeated_begin, crate::proofs::Repeats::repeated_more, crate::proofs::Repeats::repeated_end))]
+/// After want of memory some of them are.
+#[tactic(auto, using(crate::proofs::Repeats::repeated_begin, crate::proofs::Repeats::repeated_more, crate::proofs::Repeats::repeated_end, crate::proofs::Repeats::repeated_all))]
 pub fn note_repeated(
     taken: &NameSet,
     seen: &mut NameSet,
     identifiers: &[Identifier],
     first: &mut Option<Fault>,
 ) -> Result<(), AllocError>
-    ensures { OnOk result (first.new ≡ first_of first.old (repeated_in (names_one_of taken.now) seen.old identifiers.now)) }
+    ensures faults { OnOk result (first.new ≡ first_of first.old (repeated_in (names_one_of taken.now) seen.old identifiers.now)) }
+    ensures seen { OnOk result (seen.new ≡ with_all seen.old identifiers.now) }
 {
     for identifier in identifiers {
         enter(taken, seen, *identifier, first)?;
