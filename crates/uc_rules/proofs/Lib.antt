@@ -1,0 +1,4 @@
+mod Sames
+mod Orders
+pub mod Lists
+pub mod Chains

@@ -1,0 +1,11 @@
+pub mod Faults
+pub mod Same
+pub mod Outcomes
+pub mod Rows
+pub mod Names
+pub mod Types
+pub mod Reads
+pub mod Expressions
+pub mod Statements
+pub mod Cycles
+pub mod Declarations
