@@ -6,13 +6,13 @@ use Rattle.std.proofs.Math.Seq.{drop-cons}
 use Rattle.uc_grammar.specs.declared.word.Kind.{Kind}
 use Rattle.uc_printed.specs.Piece.{Piece}
 use Rattle.uc_printed.specs.Printed.{Printed, each, behind, joined}
-use Rattle.uc_printer.specs.Text.{kind_text, with_word, spelling, written}
+use Rattle.uc_page.specs.Text.{kind_text, with_word, spelling, written}
 
 pub written_both : (names : List (List ℕ)) (out : List ℕ) (ps qs : List Piece) → written names out (ps ++ qs) ≡ written names (written names out ps) qs
 written_both names out [] qs = refl
 written_both names out (p ∷ ps) qs = written_both names (with_word out (spelling names p)) ps qs
 
-drop_more : {A : Type 0} (xs : List A) (k : ℕ) (x : A) → k < length xs → x ≡ get_or xs k x → drop k xs ≡ x ∷ drop (k + 1) xs
+pub drop_more : {A : Type 0} (xs : List A) (k : ℕ) (x : A) → k < length xs → x ≡ get_or xs k x → drop k xs ≡ x ∷ drop (k + 1) xs
 drop_more xs k x h e = let f : k + 1 ≡ suc k = omega arith in rw (f, drop-cons xs k x h) (ap (λ z. z ∷ drop (suc k) xs) (sym e))
 
 pub each_more : {C : Type 0} (names : List (List ℕ)) (show : C → Printed) (k : ℕ) (xs : List C) (x : C) (out now total : List ℕ) → k < length xs → x ≡ get_or xs k x → written names out (each show (drop k xs)).words ≡ total

@@ -1,8 +1,8 @@
 use Rattle.std.proofs.Common.{refl, rules}
 use Rattle.uc_grammar.specs.declared.word.Kind.TheVariants.{Comma}
 use Rattle.uc_printed.specs.Declarations.{parameter_words}
-use Rattle.uc_printer.proofs.Written.{behind_more, behind_end, joined_begin}
-use Rattle.uc_printer.proofs.types.+print_types.Goals as goal
+use Rattle.uc_page.proofs.Written.{behind_more, behind_end, joined_begin}
+use Rattle.uc_page.proofs.types.+print_types.Goals as goal
 
 pub put_parameters-rest-init : goal.put_parameters-rest-init
 put_parameters-rest-init t c = joined_begin c.args.names.now Comma parameter_words c.in-Some.first.now c.in-Some.rest.now c.args.parameters.now c.args.page.now c.put_type.new.page (search rules) (rw (c.in_ok-put_type.ensures, c.in_ok-put_sign.ensures, c.in_ok-put_name.ensures) refl)

@@ -1,7 +1,7 @@
 //! The words of a text, one by one.
 
 ghost use Rattle.std.specs.Prelude.{◌≡◌, OnOk};
-ghost use Rattle.uc_printer.specs.Text.{name_text, function_text, kind_text, plain_text, with_word};
+ghost use Rattle.uc_page.specs.Text.{name_text, function_text, kind_text, plain_text, with_word};
 ghost use Rattle.uc_grammar.specs.declared.word.Kind.TheVariants as kinds;
 
 use crate::page::Page;

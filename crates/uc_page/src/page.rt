@@ -1,7 +1,7 @@
 //! A text that grows word by word.
 
 ghost use Rattle.std.specs.Prelude.{◌≡◌, ◌++◌, ◌∷◌, [], OnOk, codes};
-ghost use Rattle.uc_printer.specs.Text.{with_word};
+ghost use Rattle.uc_page.specs.Text.{with_word};
 
 use std::alloc::{AllocError, Global};
 use std::marker::Model;

@@ -1,7 +1,7 @@
-//! Prints the words of a design as a text: each word behind a blank.
+//! A text that grows word by word, each word behind a blank, and the words of names and types.
 //!
 //! `specs/Text.antt` says which bytes a word is (`spelling`) and how a text goes on with words (`written`), up to the text of a
-//! whole design (`design_text`). Here stand the words and the types; expressions, statements and declarations are to follow.
+//! whole design (`design_text`).
 #![tactic(auto)]
 
 mod page;

@@ -16,8 +16,8 @@ use Rattle.uc_printed.specs.Types.{parameter, type_form, printed_type, each_para
 use Rattle.uc_printed.specs.Declarations.{parameter_words}
 use Rattle.uc_printed.proofs.Maps.{joined_over}
 use Rattle.uc_printed.proofs.TypeLaw.{map_record}
-use Rattle.uc_printer.specs.Text.{kind_text, with_word, written}
-use Rattle.uc_printer.proofs.Written.{written_both}
+use Rattle.uc_page.specs.Text.{kind_text, with_word, written}
+use Rattle.uc_page.proofs.Written.{written_both}
 
 pub enumeration_words : (p : Place) (is : List Identifier) → (printed_type (types.Enumeration p is)).words ≡ fixed kinds.KwEnum ∷ fixed kinds.LeftBrace ∷ ((joined kinds.Comma identifier is).words ++ fixed kinds.RightBrace ∷ [])
 unfolding roll-TypeExpr denote.Hole.Carrier.roll

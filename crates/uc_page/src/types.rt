@@ -4,7 +4,7 @@ ghost use Rattle.std.specs.Prelude.{◌≡◌, OnOk};
 ghost use Rattle.uc_printed.specs.Printed.{identifier, joined};
 ghost use Rattle.uc_printed.specs.Types.{printed_type};
 ghost use Rattle.uc_printed.specs.Declarations.{parameter_words};
-ghost use Rattle.uc_printer.specs.Text.{written};
+ghost use Rattle.uc_page.specs.Text.{written};
 ghost use Rattle.uc_grammar.specs.declared.word.Kind.TheVariants.{Comma};
 
 use crate::page::Page;
