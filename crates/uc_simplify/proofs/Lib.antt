@@ -5,3 +5,6 @@ pub mod Folds
 pub mod Booleans
 pub mod Twos
 pub mod Joins
+pub mod Identities
+pub mod Members
+pub mod Applied

@@ -1,13 +1,11 @@
 -- Rules for two parts.
-use Rattle.std.specs.Prelude.{◌≡◌, ℕ, ℤ, pos, negsuc, ◌<◌, ◌^◌, ◌%◌, Bool, true, false, not, ◌&&◌, nat_eq, nat_lt, nat_le, int_lt, int_le, bit_or, bit_xor, IsTrue, List, [], ◌∷◌, length, Some}
-use Rattle.std.proofs.Common.{refl, sym, ap, ◌∙◌, arith, subst, eq-eqb, eqb-true, add-zero, div-one}
-use Rattle.std.specs.Int.Bits.{or_zero_r, xor_zero_r}
-use Rattle.std.proofs.Math.Nat.{mod-eq_of_lt, mul-one}
+use Rattle.std.specs.Prelude.{◌≡◌, ℕ, ℤ, pos, negsuc, ◌<◌, ◌^◌, ◌%◌, Bool, true, false, not, ◌&&◌, nat_eq, nat_lt, nat_le, int_lt, int_le, IsTrue, List, [], ◌∷◌, length, Some}
+use Rattle.std.proofs.Common.{refl, sym, ap, ◌∙◌, arith, subst, eq-eqb}
 use Rattle.std.proofs.lemmas.Bool.Decides.{nat_tests, Decides-int_eq}
 use Rattle.std.proofs.lemmas.List.Elements.{All-nil, All-cons}
 use Rattle.uc_values.specs.Values.{fits, truth_of, number_of, bits_of, same_scalar, same_truth}
 use Rattle.uc_values.specs.Sameness.{same}
-use Rattle.uc_values.specs.Operators.{signed_of, added, multiplied, shifted_left, shifted_right}
+use Rattle.uc_values.specs.Operators.{signed_of}
 use Rattle.uc_values.specs.declared.ty.Ty.{Ty}
 use Rattle.uc_values.specs.declared.ty.Ty.TheVariants.{Bool as Boolean, Int as Integer, Bv as Bits, Enum as Label}
 use Rattle.uc_values.specs.declared.value.Value.{Value}
@@ -17,7 +15,7 @@ use Rattle.uc_values.proofs.Fitting.{IsBits-fits, IsBoolean-fits, IsInteger-fits
 use Rattle.uc_values.proofs.Agreement.{sameness-Bool, sameness-Int, sameness-Bv, sameness-Enum}
 use Rattle.uc_ops.specs.declared.model.Model.{Model}
 use Rattle.uc_ops.specs.declared.op.Op.{Op}
-use Rattle.uc_ops.specs.declared.op.Op.TheVariants.{Const, Not, Eq as Equal, Le, Slt, Sle, Ult, Ule, BvAdd, BvMul, BvOr, BvXor, Shl, Lshr}
+use Rattle.uc_ops.specs.declared.op.Op.TheVariants.{Const, Not, Eq as Equal, Le, Slt, Sle, Ult, Ule}
 use Rattle.uc_ops.specs.declared.node.Node.{Node}
 use Rattle.uc_ops.specs.Typing.{Suits, is_constant, type_of, type_at, types_at}
 use Rattle.uc_ops.specs.Meaning.{apply}
@@ -27,7 +25,7 @@ use Rattle.uc_terms.specs.Subterms.{IsBelow, itself}
 use Rattle.uc_terms.proofs.Fitting.{value-fits}
 use Rattle.uc_simplify.specs.declared.step.Step.{Step}
 use Rattle.uc_simplify.specs.declared.step.Step.TheVariants.{Other}
-use Rattle.uc_simplify.specs.Steps.{IsKnown, IsRight, Replaces, IsConstant, IsTruth, of_equals, is_neutral}
+use Rattle.uc_simplify.specs.Steps.{IsKnown, IsRight, Replaces, IsConstant, IsTruth, of_equals}
 use Rattle.uc_simplify.proofs.Steps.{constant_replaces, plain_replaces}
 use Rattle.uc_simplify.proofs.Booleans.{boolean_value}
 
@@ -38,7 +36,7 @@ truth_replaces nodes op parts b step e same s =
     subst (IsRight nodes op parts) (sym s) (constant_replaces nodes op parts [] Boolean (Holds b) (sym e) valid-Bool refl (Truth-fits b) same refl)
 
 -- constants are the same where they are the same scalar
-same-constant : (ty : Ty) (v w : Value) → IsTrue (is_constant ty) → same ty v w ≡ same_scalar v w
+pub same-constant : (ty : Ty) (v w : Value) → IsTrue (is_constant ty) → same ty v w ≡ same_scalar v w
 same-constant Boolean v w h = ap (λ s. s.same v w) sameness-Bool
 same-constant Integer v w h = ap (λ s. s.same v w) sameness-Int
 same-constant (Bits width) v w h = ap (λ s. s.same v w) (sameness-Bv width)
@@ -49,10 +47,10 @@ truth-itself : (b : Bool) → same_truth b b ≡ true
 truth-itself true = refl
 truth-itself false = refl
 
-both_same : (a b : ℕ) → (nat_eq a a && nat_eq b b) ≡ true
+pub both_same : (a b : ℕ) → (nat_eq a a && nat_eq b b) ≡ true
 both_same a b = ap (λ x. x && nat_eq b b) (eq-eqb a a refl) ∙ eq-eqb b b refl
 
-scalar-itself : (ty : Ty) (v : Value) → IsTrue (is_constant ty) → IsTrue (fits ty v) → same_scalar v v ≡ true
+pub scalar-itself : (ty : Ty) (v : Value) → IsTrue (is_constant ty) → IsTrue (fits ty v) → same_scalar v v ≡ true
 scalar-itself Boolean v h f = let r = IsBoolean-fits v f in subst (λ x. same_scalar x x ≡ true) (sym r.is) (truth-itself r.truth)
 scalar-itself Integer v h f = let r = IsInteger-fits v f in subst (λ x. same_scalar x x ≡ true) (sym r.is) ((Decides-int_eq r.number r.number).1 refl)
 scalar-itself (Bits width) v h f = let r = IsBits-fits width v f in subst (λ x. same_scalar x x ≡ true) (sym r.is) (both_same width r.number)
@@ -129,42 +127,3 @@ false_replaces nodes a b own w h e t q =
     (λ m. let r = boolean_value m nodes a w h e in ap (λ v. Holds (not (truth_of v))) r.1 ∙ same_to_false r.0 ∙ equal_holds nodes m a b r.0 false e r.1 (t m))
     refl
     (All-cons (IsBelow nodes (a ∷ b ∷ [])) a [] (record { root = a; listed = (0, omega arith, refl); below = itself }) (All-nil (IsBelow nodes (a ∷ b ∷ [])))))
-
-neutral_value : (op : Op) (m : Model) (types : List Ty) (width n own k : ℕ) → is_neutral op k ≡ true → n < 2 ^ width → Bv width n ≡ apply m op types (Bv width n ∷ Bv own k ∷ [])
-neutral_value BvAdd m types width n own k e h = let z = eqb-true k 0 e in sym (ap (λ x. Bv width (added width n x)) z ∙ ap (λ x. Bv width (x % 2 ^ width)) (add-zero n) ∙ ap (Bv width) (mod-eq_of_lt h))
-neutral_value BvOr m types width n own k e h = let z = eqb-true k 0 e in sym (ap (λ x. Bv width (bit_or n x)) z ∙ ap (Bv width) (or_zero_r n))
-neutral_value BvXor m types width n own k e h = let z = eqb-true k 0 e in sym (ap (λ x. Bv width (bit_xor n x)) z ∙ ap (Bv width) (xor_zero_r n))
-neutral_value Shl m types width n own k e h = let z = eqb-true k 0 e in sym (ap (λ x. Bv width (shifted_left width n x)) z ∙ ap (λ x. Bv width (x % 2 ^ width)) (mul-one n) ∙ ap (Bv width) (mod-eq_of_lt h))
-neutral_value Lshr m types width n own k e h = let z = eqb-true k 0 e in sym (ap (λ x. Bv width (shifted_right n x)) z ∙ ap (Bv width) (div-one n))
-neutral_value BvMul m types width n own k e h = let z = eqb-true k 1 e in sym (ap (λ x. Bv width (multiplied width n x)) z ∙ ap (λ x. Bv width (x % 2 ^ width)) (mul-one n) ∙ ap (Bv width) (mod-eq_of_lt h))
-neutral_value other m types width n own k e h = cc
-
--- the operation has two bit-vectors of one width, and gives one of that width
-record OnBits (op : Op) (s t : Ty) : Type 0 where
-  width : ℕ
-  first : s ≡ Bits width
-  gives : type_of op (s ∷ t ∷ []) ≡ s
-
-pair_bits : (s t : Ty) (width : ℕ) → s ∷ t ∷ [] ≡ Bits width ∷ Bits width ∷ [] → s ≡ Bits width
-pair_bits s t width e = cc
-
-neutral_types : (op : Op) (s t : Ty) (k : ℕ) → is_neutral op k ≡ true → Suits op (s ∷ t ∷ []) → OnBits op s t
-neutral_types BvAdd s t k e h = record { width = h.0; first = pair_bits s t h.0 h.1; gives = refl }
-neutral_types BvOr s t k e h = record { width = h.0; first = pair_bits s t h.0 h.1; gives = refl }
-neutral_types BvXor s t k e h = record { width = h.0; first = pair_bits s t h.0 h.1; gives = refl }
-neutral_types Shl s t k e h = record { width = h.0; first = pair_bits s t h.0 h.1; gives = refl }
-neutral_types Lshr s t k e h = record { width = h.0; first = pair_bits s t h.0 h.1; gives = refl }
-neutral_types BvMul s t k e h = record { width = h.0; first = pair_bits s t h.0 h.1; gives = refl }
-neutral_types other s t k e h = cc
-
-pub unchanged_known : (nodes : List Node) (op : Op) (a b own k : ℕ) (v : Value) → WellTyped nodes → a < length nodes → Suits op (types_at nodes (a ∷ b ∷ [])) → IsConstant nodes b v → v ≡ Bv own k → is_neutral op k ≡ true → IsKnown nodes a op (a ∷ b ∷ [])
-unchanged_known nodes op a b own k v w h s c e n =
-    let t = neutral_types op (type_at nodes a) (type_at nodes b) k n s in
-    record {
-      there = h;
-      same = λ m.
-          let r = IsBits-fits t.width (value m nodes a) (subst (λ ty. IsTrue (fits ty (value m nodes a))) t.first (value-fits m nodes a w h)) in
-          r.is ∙ neutral_value op m (types_at nodes (a ∷ b ∷ [])) t.width r.number own k n r.small ∙ (λ i. apply m op (types_at nodes (a ∷ b ∷ [])) (sym r.is i ∷ sym (c.same m ∙ e) i ∷ []));
-      ty = sym t.gives;
-      below = record { root = a; listed = (0, omega arith, refl); below = itself };
-    }

@@ -2,3 +2,4 @@ pub mod Features
 pub mod Simplified
 pub mod Walking
 pub mod Steps
+pub mod Junctions

@@ -1,7 +1,9 @@
 -- By what an operation on parts may be replaced.
-use Rattle.std.specs.Prelude.{◌≡◌, ◌⊎◌, ℕ, ◌<◌, Bool as Truth, true, false, not, IsTrue, List, length, All, Option, Some, None, nat_eq}
-use Rattle.uc_values.specs.Values.{fits, truth_of}
-use Rattle.uc_values.specs.declared.ty.Ty.TheVariants.{Bool as Boolean}
+use Rattle.std.specs.Prelude.{◌≡◌, ◌⊎◌, ℕ, ◌+◌, ◌<◌, Bool as Truth, true, false, not, ◌&&◌, IsTrue, List, length, All, Option, Some, None, nat_eq}
+use Rattle.uc_values.specs.Values.{fits, truth_of, same_scalar}
+use Rattle.uc_values.specs.Operators.{complemented}
+use Rattle.uc_values.specs.declared.ty.Ty.{Ty}
+use Rattle.uc_values.specs.declared.ty.Ty.TheVariants.{Bool as Boolean, Int as Integer, Bv as Bits, Enum as Label, Un as Open}
 use Rattle.uc_values.specs.declared.value.Value.{Value}
 use Rattle.uc_values.specs.declared.value.Value.TheVariants.{Bool as Holds}
 use Rattle.uc_ops.specs.declared.model.Model.{Model}
@@ -92,12 +94,94 @@ of_equals Slt = Some false
 of_equals Ult = Some false
 of_equals other = None
 
--- the operation leaves a first value as it is, where the second has these bits
-abbrev pub is_neutral : Op → ℕ → Truth
-is_neutral BvAdd bits = nat_eq bits 0
-is_neutral BvOr bits = nat_eq bits 0
-is_neutral BvXor bits = nat_eq bits 0
-is_neutral Shl bits = nat_eq bits 0
-is_neutral Lshr bits = nat_eq bits 0
-is_neutral BvMul bits = nat_eq bits 1
-is_neutral other bits = false
+-- each of the bits is 1
+abbrev pub is_ones : ℕ → ℕ → Truth
+is_ones width bits = nat_eq bits (complemented width 0)
+
+-- the operation leaves a first value as it is, where the second has these bits of the width
+abbrev pub is_neutral : Op → ℕ → ℕ → Truth
+is_neutral BvAdd width bits = nat_eq bits 0
+is_neutral BvSub width bits = nat_eq bits 0
+is_neutral BvOr width bits = nat_eq bits 0
+is_neutral BvXor width bits = nat_eq bits 0
+is_neutral Shl width bits = nat_eq bits 0
+is_neutral Lshr width bits = nat_eq bits 0
+is_neutral Ashr width bits = nat_eq bits 0
+is_neutral BvMul width bits = nat_eq bits 1
+is_neutral BvAnd width bits = is_ones width bits
+is_neutral other width bits = false
+
+-- the operation gives the second value whatever the first is, where the second has these bits of the width
+abbrev pub is_absorbing : Op → ℕ → ℕ → Truth
+is_absorbing BvMul width bits = nat_eq bits 0
+is_absorbing BvAnd width bits = nat_eq bits 0
+is_absorbing BvOr width bits = is_ones width bits
+is_absorbing other width bits = false
+
+-- the operation shifts, and fills with 0
+abbrev pub fills_with_zero : Op → Truth
+fills_with_zero Shl = true
+fills_with_zero Lshr = true
+fills_with_zero other = false
+
+-- the operation gives the value itself where both are the same
+abbrev pub is_idempotent : Op → Truth
+is_idempotent BvAnd = true
+is_idempotent BvOr = true
+is_idempotent other = false
+
+-- the operation gives 0 where both values are the same
+abbrev pub cancels : Op → Truth
+cancels BvSub = true
+cancels BvXor = true
+cancels other = false
+
+-- the operation gives the same on constants in either order
+abbrev pub is_commutative : Op → Truth
+is_commutative Equal = true
+is_commutative BvAdd = true
+is_commutative BvMul = true
+is_commutative BvAnd = true
+is_commutative BvOr = true
+is_commutative BvXor = true
+is_commutative other = false
+
+-- the term is the operation on the parts, which are below it
+pub record IsApplied (nodes : List Node) (t : ℕ) (op : Op) (parts : List ℕ) : Type 0 where
+  pub there : All (λ p. p < length nodes) parts
+  pub suits : Suits op (types_at nodes parts)
+  pub ty : type_at nodes t ≡ type_of op (types_at nodes parts)
+  pub below : All (IsSubterm nodes t) parts
+  pub same : (m : Model) → value m nodes t ≡ apply m op (types_at nodes parts) (values_at m nodes parts)
+
+-- the operation on what the other gives is the part of that
+abbrev pub undoes : Op → Op → Truth
+undoes BvNot BvNot = true
+undoes BvNeg BvNeg = true
+undoes op inner = false
+
+-- the operation gives the bits of that width as they are
+abbrev pub is_whole : Op → ℕ → Truth
+is_whole (Extract high low) width = nat_eq low 0 && nat_eq (high + 1) width
+is_whole (ZeroExt more) width = nat_eq more 0
+is_whole (SignExt more) width = nat_eq more 0
+is_whole other width = false
+
+-- the operation puts bits before the bits of its part
+abbrev pub is_extension : Op → Truth
+is_extension (ZeroExt more) = true
+is_extension (SignExt more) = true
+is_extension other = false
+
+-- a scalar type: the types of the indices of arrays
+abbrev pub is_index : Ty → Truth
+is_index Boolean = true
+is_index Integer = true
+is_index (Bits width) = true
+is_index (Label number labels) = true
+is_index (Open number) = true
+is_index other = false
+
+-- two terms have different scalars under every model
+abbrev pub Differ : List Node → ℕ → ℕ → Type 0
+Differ nodes a b = (m : Model) → same_scalar (value m nodes a) (value m nodes b) ≡ false

@@ -9,8 +9,10 @@
 //! |---|---|---|
 //! | constants | an operation on one or two constants that gives a truth, a number or bits | its value; left undone where that leaves 128 bits |
 //! | negation | `!!a` | `a` |
-//! | conjunction | of one part `a`; with a false part | `a`; `false` |
-//! | disjunction | of one part `a`; with a true part | `a`; `true` |
+//! | conjunction, disjunction | parts that are the same junction of at most 8 parts | their parts in their place |
+//! | | the parts | in the order of their numbers, each once, without `true` (`false` in a disjunction) |
+//! | | `a` and `!a`; with a false part (a true one) | `false` (`true`) |
+//! | | of one part `a`; of none | `a`; `true` (`false`) |
 //! | conditional | `if true then a else b`, `if false then a else b` | `a`, `b` |
 //! | | `if c then a else a` | `a` |
 //! | | `if !c then a else b` | `if c then b else a` |
@@ -19,12 +21,17 @@
 //! | | `a == true`, `a == false` | `a`, `!a` |
 //! | comparison with itself | `a == a` of a type with constants, `a <= a` (integers, signed, unsigned) | `true` |
 //! | | `a < a` (signed, unsigned) | `false` |
-//! | neutral bits | `a + 0`, `a \| 0`, `a ^ 0`, `a << 0`, `a >> 0` (filled with 0), `a * 1` | `a` |
+//! | order | `a == b` of a type with constants, `a + b`, `a * b`, `a & b`, `a \| b`, `a ^ b` of bits | a constant last, else the earlier term first |
+//! | neutral bits | `a + 0`, `a - 0`, `a \| 0`, `a ^ 0`, `a << 0`, `a >> 0` (both kinds), `a * 1`, `a & ones` | `a` |
+//! | absorbing bits | `a * 0`, `a & 0`; `a \| ones` | `0`; `ones` |
+//! | bits with themselves | `a & a`, `a \| a`; `a - a`, `a ^ a` | `a`; `0` |
+//! | shifts | `a << n`, `a >> n` (filled with 0) by the width or more | `0` |
 #![tactic(auto)]
 
 mod building;
 mod copying;
 mod folding;
+mod gathering;
 mod junctions;
 mod pairs;
 mod rebuild;
@@ -33,5 +40,6 @@ mod step;
 #[cfg(test)]
 mod tests;
 mod truths;
+mod words;
 
 pub use simplifier::simplify;

@@ -3,14 +3,14 @@
 ghost use Rattle.std.specs.Prelude.{◌≡◌, ◌<◌, [], ◌∷◌, length, IfOk, IfSome};
 ghost use Rattle.uc_ops.specs.declared.op.Op.TheVariants.{Eq as Equal};
 ghost use Rattle.uc_ops.specs.Typing.{Suits, type_at, is_constant};
-ghost use Rattle.uc_simplify.specs.Steps.{IsRight, of_equals, is_neutral};
+ghost use Rattle.uc_simplify.specs.Steps.{IsRight, of_equals};
 
 use crate::step::{Step, boolean, constant};
 use crate::truths::truth;
 use std::alloc::{AllocError, Global};
 use uc_items::Items;
 use uc_terms::{Op, TermId, Terms};
-use uc_values::{Ty, Value, same_scalar};
+use uc_values::{Ty, same_scalar};
 
 /// What a comparison says of one term twice.
 pub(crate) fn compared_to_itself(
@@ -36,7 +36,7 @@ pub(crate) fn compared_to_itself(
 }
 
 /// Whether a type has constants.
-fn is_constant(ty: &Ty) -> bool
+pub(crate) fn is_constant(ty: &Ty) -> bool
     ensures { result ≡ is_constant ty.now }
 {
     matches!(ty, Ty::Bool | Ty::Int | Ty::Bv(_) | Ty::Enum(_, _))
@@ -105,33 +105,4 @@ pub(crate) fn compared_to_false(
     };
     let parts = Items::from_slice(alloc, &[a])?;
     Ok(Some(Step::Other(Op::Not, parts)))
-}
-
-/// An operation on a bit-vector whose second part leaves the first as it is.
-pub(crate) fn unchanged(terms: &Terms, op: &Op, a: TermId, b: TermId) -> Option<Step>
-    requires left { a < length terms.now }
-    requires right { b < length terms.now }
-    requires suits { Suits op.now (type_at terms.now a ∷ type_at terms.now b ∷ []) }
-    ensures { IfSome result (IsRight terms.now op.now (a ∷ b ∷ [])) }
-{
-    let _count = terms.len();
-    let Some(Value::Bv(_, bits)) = constant(terms, b) else {
-        return None;
-    };
-    if is_neutral(op, *bits) {
-        Some(Step::Known(a))
-    } else {
-        None
-    }
-}
-
-/// Whether the operation leaves a first value as it is, where the second has these bits.
-fn is_neutral(op: &Op, bits: u64) -> bool
-    ensures { result ≡ is_neutral op.now bits }
-{
-    match op {
-        Op::BvAdd | Op::BvOr | Op::BvXor | Op::Shl | Op::Lshr => bits == 0,
-        Op::BvMul => bits == 1,
-        _ => false,
-    }
 }

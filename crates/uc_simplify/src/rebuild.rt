@@ -9,12 +9,12 @@ ghost use Rattle.uc_simplify.specs.Steps.{IsRight};
 
 use crate::building::build;
 use crate::folding::{folded_one, folded_two};
+use crate::gathering::gathered;
 use crate::junctions::{conjunct_alone, disjunct_alone, granted, refuted};
-use crate::pairs::{
-    compared_constants, compared_to_false, compared_to_itself, compared_to_true, unchanged,
-};
+use crate::pairs::{compared_constants, compared_to_false, compared_to_itself, compared_to_true};
 use crate::step::Step;
 use crate::truths::{chosen, condition_itself, condition_negated, turned, twice_negated, unchosen};
+use crate::words::{one_of_two, reordered, shifted_out, with_itself};
 use std::alloc::{AllocError, Global};
 use uc_items::Items;
 use uc_terms::{Op, TermId, Terms};
@@ -73,6 +73,9 @@ fn step(alloc: Global, terms: &Terms, op: &Op, parts: &[TermId]) -> Result<Optio
     if let Some(step) = absorbed(alloc, terms, op, parts) {
         return Ok(Some(step));
     }
+    if let Some(step) = regathered(alloc, terms, op, parts)? {
+        return Ok(Some(step));
+    }
     match parts {
         [a] => step_one(alloc, terms, op, *a),
         [a, b] => step_two(alloc, terms, op, *a, *b),
@@ -90,6 +93,24 @@ fn absorbed(alloc: Global, terms: &Terms, op: &Op, parts: &[TermId]) -> Option<S
         Op::And => refuted(alloc, terms, parts),
         Op::Or => granted(alloc, terms, parts),
         _ => None,
+    }
+}
+
+/// A rule for the parts of a conjunction or a disjunction.
+fn regathered(
+    alloc: Global,
+    terms: &Terms,
+    op: &Op,
+    parts: &[TermId],
+) -> Result<Option<Step>, AllocError>
+    requires there { All (λ p. p < length terms.now) parts.now }
+    requires suits { Suits op.now (types_at terms.now parts.now) }
+    ensures { IfOk result (λ o. IfSome o (IsRight terms.now op.now parts.now)) }
+{
+    match op {
+        Op::And => gathered(alloc, terms, true, parts),
+        Op::Or => gathered(alloc, terms, false, parts),
+        _ => Ok(None),
     }
 }
 
@@ -131,13 +152,35 @@ fn step_two(
     if let Some(step) = compared_to_itself(alloc, terms, op, a, b) {
         return Ok(Some(step));
     }
-    if let Some(step) = unchanged(terms, op, a, b) {
+    if let Some(step) = reordered(alloc, terms, op, a, b)? {
         return Ok(Some(step));
     }
     match op {
         Op::Eq => equality(alloc, terms, a, b),
-        _ => Ok(None),
+        _ => on_words(alloc, terms, op, a, b),
     }
+}
+
+/// A rule for two bit-vectors.
+fn on_words(
+    alloc: Global,
+    terms: &Terms,
+    op: &Op,
+    a: TermId,
+    b: TermId,
+) -> Result<Option<Step>, AllocError>
+    requires left { a < length terms.now }
+    requires right { b < length terms.now }
+    requires suits { Suits op.now (type_at terms.now a ∷ type_at terms.now b ∷ []) }
+    ensures { IfOk result (λ o. IfSome o (IsRight terms.now op.now (a ∷ b ∷ []))) }
+{
+    if let Some(step) = one_of_two(terms, op, a, b) {
+        return Ok(Some(step));
+    }
+    if let Some(step) = shifted_out(alloc, terms, op, a, b) {
+        return Ok(Some(step));
+    }
+    Ok(with_itself(alloc, terms, op, a, b))
 }
 
 /// A rule for an equality.
