@@ -5,8 +5,6 @@ mod blocks;
 mod lists;
 mod name_set;
 mod repeated;
-#[cfg(test)]
-mod tests;
 
 pub use blocks::{Block, note_repeated_block};
 pub use lists::{
