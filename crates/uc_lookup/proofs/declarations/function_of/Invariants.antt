@@ -1,0 +1,6 @@
+use Rattle.std.proofs.Common.{◌≡◌, drop}
+use Rattle.uc_meaning.specs.Lookup.{first_some, function_in}
+use Rattle.uc_lookup.proofs.declarations.function_of.Given as goal
+
+abbrev pub invariant-loop-decl : goal.invariant-loop-decl
+invariant-loop-decl l = first_some (function_in l.name) (drop l.decl-index l.decls) ≡ first_some (function_in l.name) l.decls
