@@ -1,6 +1,6 @@
 -- Taking over a problem and an entry.
-use Rattle.std.proofs.Common.{◌≡◌, ℕ, ◌+◌, ◌^◌, ◌<◌, Bool, List, [], ◌∷◌, ◌++◌, None, length, replicate, refl, sym, ◌∙◌, ap, subst, arith}
-use Rattle.std.proofs.lemmas.List.{append-nil, length-append, length-map, length-replicate, replicate-append-replicate, map-append}
+use Rattle.std.proofs.Common.{◌≡◌, ℕ, ◌+◌, ◌^◌, ◌<◌, Bool, List, [], ◌∷◌, ◌++◌, None, length, replicate, take, refl, sym, ◌∙◌, ap, subst, arith}
+use Rattle.std.proofs.lemmas.List.{append-nil, length-append, length-map, length-replicate, replicate-append-replicate, map-append, take_at}
 use Rattle.std.proofs.lemmas.List.Elements.{All-nil, All-append, All-push}
 use Rattle.uc_circuit.specs.declared.literal.Lit.{Lit}
 use Rattle.uc_circuit.specs.Gates.{clauses_of_gate}
@@ -51,8 +51,9 @@ pub added :
     → after.values.items ≡ cut.values.items ++ replicate (length flags) None
     → after.trail.items ≡ cut.trail.items
     → length after.inputs.items < 2 ^ 32
+    → after.watches ≡ cut.watches
     → Added before e after
-added before cut after e clauses flags is_cut over given_all room is_flags c i v t variables =
+added before cut after e clauses flags is_cut over given_all room is_flags c i v t variables watches =
     let n : ℕ = length cut.inputs.items in
     let inputs : List Bool = cut.inputs.items ++ flags in
     let all : List (List Lit) = cut.clauses.items ++ clauses in
@@ -68,6 +69,10 @@ added before cut after e clauses flags is_cut over given_all room is_flags c i v
     let within : AllWithin (n + length flags) all =
     All-append (Within (n + length flags)) cut.clauses.items clauses (weaken cut.clauses.items n (n + length flags) (omega arith) is_cut.sound.within) new_within in
     record {
+      watches = watches ∙ is_cut.watches;
+      front = ap (take (length before.clauses.items)) c ∙ take_at cut.clauses.items clauses (length before.clauses.items) (ap length is_cut.clauses) ∙ is_cut.clauses;
+      longer = omega (arith, ap length c, length-append cut.clauses.items clauses, ap length is_cut.clauses);
+      wider = omega (arith, long, many, ap length is_cut.inputs);
       sound =
           sound_bare after inputs all i c
           (v ∙ ap (λ xs. xs ++ replicate (length flags) None) no_values ∙ replicate-append-replicate n (length flags) None ∙ ap (λ m. replicate m None) (sym long))
@@ -92,12 +97,12 @@ pub added_variable :
     → ((k : Known) → length k.circuit ≡ length cut.inputs.items → clauses ≡ given k e)
     → length clauses + length cut.clauses.items < 2 ^ 32
     → flag ∷ [] ≡ input_flags (added_nodes e)
-    → mid.clauses.items ≡ cut.clauses.items ++ clauses → mid.inputs.items ≡ cut.inputs.items → mid.values.items ≡ cut.values.items → mid.trail.items ≡ cut.trail.items
+    → mid.clauses.items ≡ cut.clauses.items ++ clauses → mid.inputs.items ≡ cut.inputs.items → mid.values.items ≡ cut.values.items → mid.trail.items ≡ cut.trail.items → mid.watches ≡ cut.watches
     → VariableAdded mid flag after
     → Added before e after
-added_variable before cut mid after e clauses flag is_cut over given_all room is_flags c i v t one =
+added_variable before cut mid after e clauses flag is_cut over given_all room is_flags c i v t w one =
     added before cut after e clauses (flag ∷ []) is_cut over given_all room is_flags (one.clauses ∙ c)
-    (one.inputs ∙ ap (λ xs. xs ++ flag ∷ []) i) (one.values ∙ ap (λ xs. xs ++ None ∷ []) v) (one.trail ∙ t) one.room
+    (one.inputs ∙ ap (λ xs. xs ++ flag ∷ []) i) (one.values ∙ ap (λ xs. xs ++ None ∷ []) v) (one.trail ∙ t) one.room (one.watches ∙ w)
 
 pub added_clauses :
     (before cut after : State) (e : Entry) (clauses : List (List Lit))
@@ -105,11 +110,11 @@ pub added_clauses :
     → ((k : Known) → length k.circuit ≡ length cut.inputs.items → clauses ≡ given k e)
     → length clauses + length cut.clauses.items < 2 ^ 32
     → [] ≡ input_flags (added_nodes e)
-    → after.clauses.items ≡ cut.clauses.items ++ clauses → after.inputs.items ≡ cut.inputs.items → after.values.items ≡ cut.values.items → after.trail.items ≡ cut.trail.items
+    → after.clauses.items ≡ cut.clauses.items ++ clauses → after.inputs.items ≡ cut.inputs.items → after.values.items ≡ cut.values.items → after.trail.items ≡ cut.trail.items → after.watches ≡ cut.watches
     → Added before e after
-added_clauses before cut after e clauses is_cut over given_all room is_flags c i v t =
+added_clauses before cut after e clauses is_cut over given_all room is_flags c i v t w =
     added before cut after e clauses [] is_cut over given_all room is_flags c (i ∙ sym (append-nil cut.inputs.items)) (v ∙ sym (append-nil cut.values.items)) t
-    (omega (arith, is_cut.sound.variables, ap length i))
+    (omega (arith, is_cut.sound.variables, ap length i)) w
 
 -- the state of a problem
 pub first_sound :

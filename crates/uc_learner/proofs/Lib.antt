@@ -4,11 +4,14 @@ pub mod Steps
 pub mod Measure
 pub mod Walking
 pub mod Learning
+pub mod Linked
 pub mod Progress
 pub mod Taught
 pub mod Opening
 pub mod Answering
 pub mod Completion
-pub mod Passing
+pub mod Queue
+pub mod Narrow
+pub mod Visiting
 pub mod Adding
 pub mod Starting

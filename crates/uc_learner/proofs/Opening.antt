@@ -15,7 +15,6 @@ use Rattle.uc_circuit.specs.Circuits.{inputs_of}
 use Rattle.uc_learner.specs.declared.state.State.{State}
 use Rattle.uc_learner.specs.Learners.{Learning, HasTaken, HasTakenFor, input_flags}
 use Rattle.uc_learner.specs.Answered.{Holds, inputs_count}
-use Rattle.uc_learner.specs.Added.{Added}
 use Rattle.uc_learner.specs.Opened.{opened_known, known_now, AcceptsFor, GivesEmpty}
 
 pub meet_of : (nodes : List Node) (opened : Option Question) (log : List Entry) → IsValidFor nodes opened log → AllMeet nodes (opened_known opened) log
@@ -58,14 +57,14 @@ pub taken_next :
     (before after : State) (q : Question) (log : List Entry) (n : ℕ) (e : Entry) (l l' : Learning)
     → n < length log → slice_get log n ≡ Some e
     → before.inputs.items ≡ l.inputs → before.clauses.items ≡ l.clauses
-    → Added before e after
+    → ((k : Known) → Holds before k → Holds after (add k e))
     → l'.inputs ≡ after.inputs.items → l'.clauses ≡ after.clauses.items → l'.entries ≡ n + 1
     → HasTaken q (take n log) l → HasTaken q (take (n + 1) log) l'
-taken_next before after q log n e l l' h there i c added i' c' count taken =
+taken_next before after q log n e l l' h there i c keeps i' c' count taken =
     let k : Known = known_after (known_of q) (take n log) in
     let read : get_or log n e ≡ e = get_or_from_slice_get log n e e there in
     let next : known_after (known_of q) (take (n + 1) log) ≡ add k e = known_next (known_of q) log n e h ∙ ap (add k) read in
-    let holds : Holds after (add k e) = added.holds k (record { inputs = i ∙ taken.inputs; clauses = c ∙ taken.clauses }) in
+    let holds : Holds after (add k e) = keeps k (record { inputs = i ∙ taken.inputs; clauses = c ∙ taken.clauses }) in
     record {
       inputs = i' ∙ holds.inputs ∙ sym (ap (λ (m : Known). input_flags m.circuit) next);
       clauses = c' ∙ holds.clauses ∙ sym (ap (λ (m : Known). m.clauses) next);

@@ -16,6 +16,7 @@ use Rattle.uc_learner.specs.Sound.{Sound}
 use Rattle.uc_learner.specs.Moves.{Pushed, Cut, Ready, Onward, NoDecision, SettledOnce, left_of, unset_count}
 use Rattle.uc_circuit.specs.Values.{IsSettled}
 use Rattle.uc_learner.specs.ClauseStates.{AllSettled, ConflictIs}
+use Rattle.uc_learner.proofs.Linked.{watched_made}
 use Rattle.uc_learner.proofs.Walking.{StepAt, step_at, step_inside}
 use Rattle.uc_learner.proofs.Learning.{length-values}
 use Rattle.uc_learner.proofs.Steps.{values_after-append, fits_push, fits_take, open_push}
@@ -32,8 +33,9 @@ pub cut_more :
     → after.inputs.items ≡ s.inputs.items
     → after.trail.items ≡ take (length s.trail.items - 1) s.trail.items
     → after.values.items ≡ set s.values.items step.literal.var None
+    → after.watches ≡ s.watches
     → Cut before (length after.trail.items) after
-cut_more before s after step cut some last clauses inputs trail values =
+cut_more before s after step cut some last clauses inputs trail values watches =
     let n : ℕ = length s.inputs.items in
     let m : ℕ = length s.trail.items - 1 in
     let w : List (Option Bool) = values_at n s.trail.items m in
@@ -54,6 +56,7 @@ cut_more before s after step cut some last clauses inputs trail values =
       trail =
           trail ∙ ap (take m) cut.trail ∙ take-take m (length s.trail.items) before.trail.items (omega arith)
           ∙ ap (λ k. take k before.trail.items) (sym short);
+      watches = watches ∙ cut.watches;
       sound = record {
         values =
             back ∙ ap (values_after (replicate n None)) (sym trail)
@@ -76,6 +79,7 @@ cut_none s sound = record {
   clauses = refl;
   inputs = refl;
   trail = sym (take_all (length s.trail.items) s.trail.items (omega arith));
+  watches = refl;
   sound = sound;
 }
 
@@ -86,15 +90,16 @@ pub cut_more_by :
     → after.clauses.items ≡ s.clauses.items
     → after.inputs.items ≡ s.inputs.items
     → after.values.items ≡ set s.values.items step.literal.var None
+    → after.watches ≡ s.watches
     → Cut before (length after.trail.items) after
-cut_more_by before s after step cut popped clauses inputs values =
+cut_more_by before s after step cut popped clauses inputs values watches =
     let long : length s.trail.items ≡ length after.trail.items + 1 = ap length popped ∙ length_push after.trail.items step in
     let place : length s.trail.items - 1 ≡ length after.trail.items = omega arith in
     let last : get_or s.trail.items (length s.trail.items - 1) step ≡ step =
     ap (λ k. get_or s.trail.items k step) place ∙ ap (λ xs. get_or xs (length after.trail.items) step) popped ∙ get_or_push after.trail.items step step (length after.trail.items) refl in
     let front : take (length s.trail.items - 1) s.trail.items ≡ after.trail.items =
     ap (λ k. take k s.trail.items) place ∙ ap (take (length after.trail.items)) popped ∙ take_at after.trail.items (step ∷ []) (length after.trail.items) refl in
-    cut_more before s after step cut (omega arith) (sym last) clauses inputs (sym front) values
+    cut_more before s after step cut (omega arith) (sym last) clauses inputs (sym front) values watches
 
 pub popped_inside : (s : State) (rest : List Step) (step : Step) → Sound s → s.trail.items ≡ rest ++ step ∷ [] → step.literal.var < length s.values.items
 popped_inside s rest step sound popped =
@@ -125,6 +130,24 @@ sound_made s inputs clauses values trail i c v t is fits within numbered variabl
       (subst (λ (k : List Bool). AllWithin (length k) clauses) (sym i) within);
   numbered = omega (arith, numbered, ap length c);
   variables = omega (arith, variables, ap length i);
+}
+
+-- the same state, but for its watches and its queue
+pub sound_same :
+    (s after : State) → after.inputs.items ≡ s.inputs.items → after.clauses.items ≡ s.clauses.items → after.values.items ≡ s.values.items → after.trail.items ≡ s.trail.items → Sound s → Sound after
+sound_same s after i c v t sound =
+    sound_made after s.inputs.items s.clauses.items s.values.items s.trail.items i c v t sound.values sound.trail sound.within sound.numbered sound.variables
+
+pub cut_same :
+    (before : State) (target : ℕ) (s after : State)
+    → after.inputs.items ≡ s.inputs.items → after.clauses.items ≡ s.clauses.items → after.values.items ≡ s.values.items → after.trail.items ≡ s.trail.items → after.watches ≡ s.watches
+    → Cut before target s → Cut before target after
+cut_same before target s after i c v t w cut = record {
+  clauses = c ∙ cut.clauses;
+  inputs = i ∙ cut.inputs;
+  trail = t ∙ cut.trail;
+  watches = w ∙ cut.watches;
+  sound = sound_same s after i c v t cut.sound;
 }
 
 pub open_made :
@@ -184,6 +207,7 @@ step_taken s after step ready pushed fits is_open le =
           are_open =
               open_made after s.inputs.items s.clauses.items (s.trail.items ++ step ∷ []) pushed.inputs pushed.clauses pushed.trail
               (open_push s.clauses.items none s.trail.items step ready.are_open is_open);
+          watched = watched_made after s.inputs.items s.clauses.items s.watches pushed.inputs pushed.clauses pushed.watches ready.watched;
         };
         left_le = omega (arith, le, left_made after s.inputs.items (s.trail.items ++ step ∷ []) pushed.inputs pushed.trail);
         unset_le = omega arith;

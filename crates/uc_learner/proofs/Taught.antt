@@ -1,14 +1,18 @@
 -- Taking over a learnt clause.
 use Rattle.std.proofs.Common.{◌≡◌, ℕ, ◌+◌, ◌^◌, ◌<◌, ◌≤◌, ◌⊎◌, inl, inr, Bool, false, List, [], ◌∷◌, ◌++◌, Option, None, Some, length, get_or, take, replicate, refl, sym, ◌∙◌, ap, subst, arith}
 use Rattle.std.specs.Prelude.{All, MatchOption}
-use Rattle.std.proofs.lemmas.List.{get_or_push, length_push}
+use Rattle.std.proofs.lemmas.List.{get_or_push, length_push, take_at}
 use Rattle.std.proofs.lemmas.List.Elements.{All-push, All-cons, All-weaker, Contains-get_or}
 use Rattle.uc_circuit.specs.declared.literal.Lit.{Lit}
 use Rattle.uc_circuit.specs.Values.{assign, IsFalse, HasNoValue, Forces}
 use Rattle.uc_learner.specs.declared.state.Step.{Step}
 use Rattle.uc_learner.specs.declared.state.State.{State}
 use Rattle.uc_learner.specs.Trail.{values_after, values_at, IsImplied, IsInput, StepFits, TrailFits, NoneFalsified, DecisionsAreOpen, left}
-use Rattle.uc_learner.specs.Sound.{Sound}
+use Rattle.uc_learner.specs.Sound.{Sound, AreWatched}
+use Rattle.uc_learner.specs.Rewatched.{AreWatchedTo}
+use Rattle.uc_watches.specs.declared.watches.Watches.{Watches}
+use Rattle.uc_watches.specs.Watched.{Linked}
+use Rattle.uc_learner.proofs.Linked.{watched_made}
 use Rattle.uc_learner.specs.Walked.{Shape}
 use Rattle.uc_learner.specs.Moves.{Pushed, Cut, Ready}
 use Rattle.uc_learner.specs.Learned.{IsTaught, LearnedBy}
@@ -52,8 +56,9 @@ pub learned :
     → after.inputs.items ≡ s.inputs.items
     → after.trail.items ≡ take target s.trail.items ++ step ∷ []
     → after.values.items ≡ assign (values_at (length s.inputs.items) s.trail.items target) step.literal
+    → AreWatched after
     → LearnedBy s (l ∷ rest) after
-learned s after l rest step target ready within shape is_l reason room clauses inputs trail values =
+learned s after l rest step target ready within shape is_l reason room clauses inputs trail values watched =
     let n : ℕ = length s.inputs.items in
     let none : List (Option Bool) = replicate n None in
     let kept : List Step = take target s.trail.items in
@@ -93,6 +98,7 @@ learned s after l rest step target ready within shape is_l reason room clauses i
         are_open =
             open_made after s.inputs.items all (kept ++ step ∷ []) inputs clauses trail
             (open_push all none kept step are_open (subst (λ (r : Option ℕ). MatchOption r (NoneFalsified all (assign w step.literal)) (λ _. Unit {0})) (sym reason) tt));
+        watched = watched;
       };
       left_less = omega (arith, less, left_made after s.inputs.items (kept ++ step ∷ []) inputs trail);
     }
@@ -103,11 +109,12 @@ pub learned_by :
     → Ready s → 0 < length clause → IsTaught s clause target
     → Cut s target mid
     → pushed.clauses.items ≡ mid.clauses.items ++ clause ∷ [] → pushed.inputs.items ≡ mid.inputs.items → pushed.trail.items ≡ mid.trail.items → pushed.values.items ≡ mid.values.items
+    → AreWatched pushed
     → Pushed pushed step after
     → step.literal ≡ get_or clause 0 step.literal → step.reason ≡ Some (length s.clauses.items) → length s.clauses.items + 1 < 2 ^ 32
     → LearnedBy s clause after
-learned_by s mid pushed after [] step target ready some taught cut clauses inputs trail values push first reason room = absurd (omega arith)
-learned_by s mid pushed after (l ∷ rest) step target ready some taught cut clauses inputs trail values push first reason room =
+learned_by s mid pushed after [] step target ready some taught cut clauses inputs trail values watched push first reason room = absurd (omega arith)
+learned_by s mid pushed after (l ∷ rest) step target ready some taught cut clauses inputs trail values watched push first reason room =
     let n : ℕ = length s.inputs.items in
     let now : mid.values.items ≡ values_at n s.trail.items target =
     cut.sound.values ∙ ap (values_after (replicate (length mid.inputs.items) None)) cut.trail
@@ -117,6 +124,37 @@ learned_by s mid pushed after (l ∷ rest) step target ready some taught cut cla
     (push.inputs ∙ inputs ∙ cut.inputs)
     (push.trail ∙ ap (λ k. k ++ step ∷ []) (trail ∙ cut.trail))
     (push.values ∙ ap (λ k. assign k step.literal) (values ∙ now))
+    (watched_made after pushed.inputs.items pushed.clauses.items pushed.watches push.inputs push.clauses push.watches watched)
+
+-- the state with the clause, which is not watched yet
+pub clause_added :
+    (s mid pushed : State) (clause : List Lit) (target : ℕ)
+    → IsTaught s clause target → Cut s target mid
+    → pushed.clauses.items ≡ mid.clauses.items ++ clause ∷ [] → pushed.inputs.items ≡ mid.inputs.items → pushed.trail.items ≡ mid.trail.items → pushed.values.items ≡ mid.values.items
+    → length s.clauses.items + 1 < 2 ^ 32
+    → Sound pushed
+clause_added s mid pushed clause target taught cut clauses inputs trail values room =
+    let within : All (λ (k : Lit). k.var < length mid.inputs.items) clause = subst (λ n. All (λ (k : Lit). k.var < n) clause) (sym (ap length cut.inputs)) taught.within in
+    sound_made pushed mid.inputs.items (mid.clauses.items ++ clause ∷ []) mid.values.items mid.trail.items inputs clauses values trail cut.sound.values
+    (fits_more mid.inputs.items mid.clauses.items clause (replicate (length mid.inputs.items) None) mid.trail.items cut.sound.trail)
+    (All-push (λ (c : List Lit). All (λ (k : Lit). k.var < length mid.inputs.items) c) mid.clauses.items clause cut.sound.within within)
+    (omega (arith, room, length_push mid.clauses.items clause, ap length cut.clauses)) cut.sound.variables
+
+pub clause_unwatched :
+    (s mid pushed : State) (clause : List Lit) (target first : ℕ)
+    → Ready s → Cut s target mid → first ≡ length s.clauses.items
+    → pushed.clauses.items ≡ mid.clauses.items ++ clause ∷ [] → pushed.inputs.items ≡ mid.inputs.items → pushed.watches ≡ mid.watches
+    → AreWatchedTo pushed first
+clause_unwatched s mid pushed clause target first ready cut is_first clauses inputs watches =
+    let front : take first pushed.clauses.items ≡ s.clauses.items =
+    ap (take first) clauses ∙ take_at mid.clauses.items (clause ∷ []) first (ap length cut.clauses ∙ sym is_first) ∙ cut.clauses in
+    record {
+      variables = length s.inputs.items;
+      fewer = omega (arith, ap length inputs, ap length cut.inputs);
+      linked =
+          subst (λ (w : Watches). Linked (take first pushed.clauses.items) (length s.inputs.items) w) (sym (watches ∙ cut.watches))
+          (subst (λ (cs : List (List Lit)). Linked cs (length s.inputs.items) s.watches) (sym front) ready.watched);
+    }
 
 -- the asserted literal's variable is there
 pub asserted_inside : (s mid : State) (clause : List Lit) (l : Lit) (target : ℕ) → 0 < length clause → IsTaught s clause target → Cut s target mid → l ≡ get_or clause 0 l → l.var < length mid.values.items

@@ -5,6 +5,8 @@ pub mod Walked
 pub mod Learns
 pub mod ClauseStates
 pub mod Moves
+pub mod Rewatched
+pub mod Propagated
 pub mod Opened
 pub mod Recorded
 pub mod Learners

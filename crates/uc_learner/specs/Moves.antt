@@ -4,9 +4,7 @@ use Rattle.uc_circuit.specs.Values.{assign}
 use Rattle.uc_learner.specs.declared.state.State.{State}
 use Rattle.uc_learner.specs.declared.state.Step.{Step}
 use Rattle.uc_learner.specs.Trail.{DecisionsAreOpen, one_if_free, left}
-use Rattle.uc_learner.specs.declared.propagation.Pass.{Pass}
-use Rattle.uc_learner.specs.declared.propagation.Pass.TheVariants.{Conflict, Changed, Settled}
-use Rattle.uc_learner.specs.Sound.{Sound}
+use Rattle.uc_learner.specs.Sound.{Sound, AreWatched}
 use Rattle.uc_learner.specs.ClauseStates.{AllSettled, ConflictIs}
 use Rattle.uc_circuit.specs.declared.literal.Lit.{Lit}
 
@@ -16,12 +14,15 @@ pub record Pushed (before : State) (step : Step) (after : State) : Type 0 where
   pub inputs : after.inputs.items ≡ before.inputs.items
   pub trail : after.trail.items ≡ before.trail.items ++ step ∷ []
   pub values : after.values.items ≡ assign before.values.items step.literal
+  pub watches : after.watches ≡ before.watches
+  pub head : after.head ≡ before.head
 
 -- the first steps alone
 pub record Cut (before : State) (target : ℕ) (after : State) : Type 0 where
   pub clauses : after.clauses.items ≡ before.clauses.items
   pub inputs : after.inputs.items ≡ before.inputs.items
   pub trail : after.trail.items ≡ take target before.trail.items
+  pub watches : after.watches ≡ before.watches
   pub sound : Sound after
 
 -- how many variables have no value
@@ -33,6 +34,7 @@ unset_count (v ∷ values) = one_if_free true v + unset_count values
 pub record Ready (s : State) : Type 0 where
   pub sound : Sound s
   pub are_open : DecisionsAreOpen s.clauses.items (replicate (length s.inputs.items) None) s.trail.items
+  pub watched : AreWatched s
 
 -- how many assignments of the inputs are not ruled out
 abbrev pub left_of : State → ℕ
@@ -77,9 +79,3 @@ pub record Descended (before after : State) (r : Option ℕ) : Type 0 where
   pub conflict : ConflictIs after r
   pub complete : MatchOption r ((x : ℕ) → slice_index_or after.inputs.items x false ≡ true → slice_index_or after.values.items x None ≡ None → ⊥) (λ _. Unit {0})
   pub decided : SettledOnce before.clauses.items ⊎ (NoDecision before → NoDecision after)
-
--- a false clause, or a variable more with a value, or nothing forced
-abbrev pub PassEnds : State → State → Pass → Type 0
-PassEnds before after (Conflict n) = ConflictIs after (Some n)
-PassEnds before after Changed = unset_count after.values.items < unset_count before.values.items
-PassEnds before after Settled = AllSettled after.clauses.items after.values.items

@@ -3,6 +3,7 @@ use Rattle.std.specs.Prelude.{◌≡◌, ◌<◌, ◌^◌, None, length, replica
 use Rattle.uc_log.specs.Refutes.{AllWithin}
 use Rattle.uc_learner.specs.declared.state.State.{State}
 use Rattle.uc_learner.specs.Trail.{values_after, TrailFits}
+use Rattle.uc_watches.specs.Watched.{Linked}
 
 -- the values are those of the steps, each step was right when it was made, and numbers of 32 bits serve
 pub record Sound (s : State) : Type 0 where
@@ -11,3 +12,12 @@ pub record Sound (s : State) : Type 0 where
   pub within : AllWithin (length s.inputs.items) s.clauses.items
   pub numbered : length s.clauses.items < 2 ^ 32
   pub variables : length s.inputs.items < 2 ^ 32
+
+-- each clause watches its literals
+abbrev pub AreWatched : State → Type 0
+AreWatched s = Linked s.clauses.items (length s.inputs.items) s.watches
+
+-- a state that a search may begin with
+pub record Whole (s : State) : Type 0 where
+  pub sound : Sound s
+  pub watched : AreWatched s

@@ -1,6 +1,6 @@
 //! The loop: descend, analyze, record, learn.
 
-ghost use Rattle.std.specs.Prelude.{◌≡◌, ◌≢◌, ◌+◌, ◌^◌, ◌<◌, ◌≤◌, ℕ, List, [], ◌∷◌, ◌++◌, length, All, OnOk, IfOk, OnErr, Ok, Err, Contains};
+ghost use Rattle.std.specs.Prelude.{◌≡◌, ◌≢◌, ◌+◌, ◌^◌, ◌<◌, ◌≤◌, ℕ, List, [], ◌∷◌, ◌++◌, length, false, All, OnOk, IfOk, OnErr, Ok, Err, Contains};
 ghost use Rattle.uc_circuit.specs.Clauses.{Satisfies};
 ghost use Rattle.uc_log.specs.declared.entry.Entry.TheVariants.{Learnt};
 ghost use Rattle.uc_learner.specs.Opened.{known_now, AcceptsFor, GivesEmpty, HasQuestion};
@@ -100,7 +100,7 @@ fn look_at_problem<M: Meter>(meter: &M)
 impl State {
     ghost use Rattle.uc_learner.specs.Learned.{LearnedBy, IsTaught};
     ghost use Rattle.uc_learner.specs.Moves.{Ready};
-    ghost use Rattle.uc_learner.specs.Sound.{Sound};
+    ghost use Rattle.uc_learner.specs.Sound.{Sound, Whole};
     ghost use Rattle.uc_learner.specs.declared.learn.Search.TheVariants.{Candidate, Refuted};
     ghost use Rattle.uc_learner.specs.declared.learn.LearnError.TheVariants.{Budget};
 
@@ -110,7 +110,8 @@ impl State {
         requires ready { Ready self.old }
         requires some { 0 < length clause.now }
         requires taught { IsTaught self.old clause.now target }
-        ensures { OnOk result (LearnedBy self.old clause.now self.new) }
+        ensures learned { OnOk result (LearnedBy self.old clause.now self.new) }
+        ensures head { OnOk result (self.new.head ≡ 0) }
     {
         let number = self.clauses.len();
         if number >= u32::MAX as usize {
@@ -120,11 +121,13 @@ impl State {
         let copy = Clause::from_slice(*self.clauses.allocator(), clause)?;
         self.cut(target);
         self.clauses.push(copy)?;
+        self.watch_from(number)?;
         self.preferences.raise(marked);
         self.push(Step {
             literal: asserted,
             reason: Some(number as u32),
-        })
+        })?;
+        Ok(())
     }
 
     /// The last clause that is empty.
@@ -159,6 +162,7 @@ impl State {
         ensures total { M.total meter.new + M.here meter.old ≡ M.total meter.old + M.here meter.new }
         ensures stay { Extends log.old log.new }
         ensures ok { IfOk result (λ refuted. Concluded self.old log.old (known_now (M.opened meter.old) log.new) self.new log.new refuted) }
+        ensures head { IfOk result (λ refuted. refuted ≡ false → self.new.head ≡ 0) }
     {
         let alloc = *self.clauses.allocator();
         let Analysis {
@@ -185,11 +189,11 @@ impl State {
         budget: u64,
         meter: &mut M,
     ) -> Result<Search, LearnError>
-        requires sound { Sound self.old }
+        requires whole { Whole self.old }
         requires recorded { IsRecorded terms.now (M.opened meter.old) (M.here meter.old) log.old }
         requires total { M.total meter.old < 2 ^ 126 }
         requires holds { Holds self.old (known_now (M.opened meter.old) log.old) }
-        ensures sound { result ≡ Ok Candidate → Sound self.new }
+        ensures whole { result ≡ Ok Candidate → Whole self.new }
         ensures holds { result ≡ Ok Candidate → Holds self.new (known_now (M.opened meter.new) log.new) }
         ensures recorded { IsRecorded terms.now (M.opened meter.new) (M.here meter.new) log.new }
         ensures opened { M.opened meter.new ≡ M.opened meter.old }

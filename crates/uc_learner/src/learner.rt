@@ -1,7 +1,8 @@
 //! The learner.
 
-ghost use Rattle.std.specs.Prelude.{◌≡◌, ◌≢◌, ◌+◌, ◌^◌, ◌<◌, ◌≤◌, ℕ, [], length, take, slice_get, Some, Ok, Err, IfOk};
+ghost use Rattle.std.specs.Prelude.{◌≡◌, ◌≢◌, ◌+◌, ◌^◌, ◌<◌, ◌≤◌, ℕ, [], length, take, slice_get, slice_index_or, Some, Ok, Err, IfOk};
 ghost use Rattle.uc_circuit.specs.Circuits.{inputs_of};
+ghost use Rattle.uc_watches.specs.Watched.{IsWatched};
 ghost use Rattle.uc_circuit.specs.Clauses.{Satisfies};
 ghost use Rattle.uc_circuit.specs.Literals.{literal_value};
 ghost use Rattle.uc_log.specs.Problems.{Question};
@@ -17,6 +18,7 @@ use std::marker::Model;
 use std::mem;
 use uc_circuit::Lit;
 use uc_log::{Entry, Log, Meter, Problem};
+use uc_rings::Rings;
 use uc_terms::Terms;
 
 /// The clauses of a problem and of its log, and what the search knows of them.
@@ -29,17 +31,17 @@ pub struct Learner {
 
 impl Model for Learner {
     ghost use Rattle.uc_learner.specs.Learners.{Learning};
-    ghost use Rattle.uc_learner.specs.Sound.{Sound};
+    ghost use Rattle.uc_learner.specs.Sound.{Whole};
 
     ghost Value = { Learning };
 
     ghost view = { λ l. record { inputs = l.state.inputs.items; clauses = l.state.clauses.items; values = l.state.values.items; entries = l.entries } };
 
-    ghost invariant = { λ l. Sound l.state };
+    ghost invariant = { λ l. Whole l.state };
 }
 
 impl Learner {
-    ghost use Rattle.uc_learner.specs.Sound.{Sound};
+    ghost use Rattle.uc_learner.specs.Sound.{Whole};
     ghost use Rattle.uc_learner.specs.declared.learn.Search.TheVariants.{Candidate, Refuted};
     ghost use Rattle.uc_learner.specs.declared.learn.LearnError.TheVariants.{Budget};
 
@@ -62,7 +64,7 @@ impl Learner {
         ensures { IfOk result (λ _. (q : Question) → HasTaken q (take n log.now) self.old → HasTaken q (take (n + 1) log.now) self.new) }
     {
         let _entries = log.len();
-        let mut state = self.take_state();
+        let mut state = self.take_state()?;
         state.add(log.entry(n))?;
         self.state = state;
         self.entries = n + 1;
@@ -70,14 +72,21 @@ impl Learner {
     }
 
     /// Takes the state, and leaves an empty one.
-    fn take_state(&mut self) -> State
-        ensures sound { Sound result }
-        ensures inputs { result.inputs.items ≡ self.old.inputs }
-        ensures clauses { result.clauses.items ≡ self.old.clauses }
+    fn take_state(&mut self) -> Result<State, AllocError>
+        ensures whole { IfOk result (λ s. Whole s) }
+        ensures inputs { IfOk result (λ s. s.inputs.items ≡ self.old.inputs) }
+        ensures clauses { IfOk result (λ s. s.clauses.items ≡ self.old.clauses) }
         ensures entries { self.new.entries ≡ self.old.entries }
     {
-        let empty = State::empty(*self.state.clauses.allocator());
-        mem::replace(&mut self.state, empty)
+        let empty = State::empty(*self.state.clauses.allocator())?;
+        Ok(mem::replace(&mut self.state, empty))
+    }
+
+    /// For each literal the slots of the clauses that watch it.
+    pub fn watches(&self) -> &Rings
+        ensures { (c : ℕ) → c < length self.now.clauses → IsWatched (slice_index_or self.now.clauses c []) result.now c }
+    {
+        &self.state.watches.rings
     }
 
     /// The literal's value, after a candidate was found. A variable without a value counts as false.
@@ -111,7 +120,7 @@ impl Learner {
         ensures enough { M.here meter.old + 2 ^ inputs_of (known_now (M.opened meter.old) log.old).circuit ≤ budget → result ≢ Err Budget }
         ensures unit { M.here meter.old + 1 ≤ budget → IsUnitRefutable (length self.old.inputs) self.old.clauses → result ≢ Err Budget }
     {
-        let mut state = self.take_state();
+        let mut state = self.take_state()?;
         match state.next(terms, log, budget, meter)? {
             Search::Candidate => {
                 self.state = state;

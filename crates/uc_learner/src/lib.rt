@@ -10,8 +10,6 @@ mod learner;
 mod preferences;
 mod propagation;
 mod state;
-#[cfg(test)]
-mod tests;
 
 pub use learn::{LearnError, Search};
 pub use learner::Learner;

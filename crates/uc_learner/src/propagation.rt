@@ -1,67 +1,126 @@
-//! Unit propagation over all clauses.
+//! Unit propagation: a literal that became false is looked up in the clauses that watch it.
 
-ghost use Rattle.std.specs.Prelude.{◌≡◌, ◌<◌, length, slice_index_or, [], IsTrue, IfOk, OnOk};
+ghost use Rattle.std.specs.Prelude.{◌≡◌, [], None, true, false, slice_index_or, Contains, IsTrue, IfOk, OnOk};
+ghost use Rattle.uc_watches.specs.Pairs.{HasTrue};
 ghost use Rattle.uc_learner.specs.Sound.{Sound};
 ghost use Rattle.uc_learner.specs.ClauseStates.{ConflictIs};
-ghost use Rattle.uc_learner.specs.Moves.{Ready, Onward, Chosen, Decides, IsFreeInput, NoDecision, PassEnds, Descended};
+ghost use Rattle.uc_learner.specs.Moves.{Ready, Onward, Chosen, Decides, IsFreeInput, NoDecision, Descended};
+ghost use Rattle.uc_learner.specs.Propagated.{Waiting, Gone, IsConflict, NarrowEnds, IsAtFalse, IsNext, Mended, Visited};
 
 use crate::state::{State, Step};
 use std::alloc::AllocError;
 use uc_circuit::{ClauseState, Lit, state_of};
-
-/// How one pass over all clauses ended.
-#[derive(Clone, Copy)]
-pub enum Pass {
-    /// The clause of that number is false.
-    Conflict(u32),
-    /// Some literal was forced.
-    Changed,
-    /// Nothing is forced.
-    Settled,
-}
+use uc_watches::{Fate, fate_of, partner};
 
 impl State {
-    /// Makes the forced literals true that one pass finds.
-    fn pass(&mut self) -> Result<Pass, AllocError>
-        requires { Ready self.old }
-        ensures onward { IfOk result (λ _. Onward self.old self.new) }
-        ensures undecided { OnOk result (NoDecision self.old → NoDecision self.new) }
-        ensures ends { IfOk result (λ r. PassEnds self.old self.new r) }
-    {
-        let mut changed = false;
-        for number in 0..self.clauses.len() {
-            match state_of(self.clauses[number].as_slice(), self.values.as_slice()) {
-                ClauseState::Falsified => return Ok(Pass::Conflict(number as u32)),
-                ClauseState::Unit(literal) => {
-                    self.push(Step {
-                        literal,
-                        reason: Some(number as u32),
-                    })?;
-                    changed = true;
-                }
-                ClauseState::Settled => {}
-            }
-        }
-        Ok(if changed {
-            Pass::Changed
-        } else {
-            Pass::Settled
-        })
-    }
-
     /// Makes every forced literal true, until a clause is false or nothing is forced.
     pub fn propagate(&mut self) -> Result<Option<u32>, AllocError>
-        requires { Ready self.old }
+        requires ready { Ready self.old }
+        requires waiting { Waiting self.old }
         ensures onward { IfOk result (λ _. Onward self.old self.new) }
         ensures conflict { IfOk result (λ r. ConflictIs self.new r) }
         ensures undecided { OnOk result (NoDecision self.old → NoDecision self.new) }
+        ensures waiting { IfOk result (λ r. r ≡ None → Waiting self.new) }
     {
-        loop {
-            match self.pass()? {
-                Pass::Conflict(number) => return Ok(Some(number)),
-                Pass::Changed => {}
-                Pass::Settled => return Ok(None),
+        if let Some(conflict) = self.force_narrow()? {
+            return Ok(Some(conflict));
+        }
+        while self.head < self.trail.len() {
+            let literal = self.trail[self.head].literal.negate();
+            if let Some(conflict) = self.visit(literal)? {
+                return Ok(Some(conflict));
             }
+            self.head += 1;
+        }
+        Ok(None)
+    }
+
+    /// Makes the literals of the clauses true that have not two different ones.
+    fn force_narrow(&mut self) -> Result<Option<u32>, AllocError>
+        requires ready { Ready self.old }
+        ensures gone { IfOk result (λ _. Gone self.old self.new) }
+        ensures ends { IfOk result (λ r. NarrowEnds self.new r) }
+        ensures watches { OnOk result (self.new.watches ≡ self.old.watches) }
+    {
+        for place in 0..self.watches.narrow.len() {
+            let number = self.watches.narrow[place];
+            if self.force(number)? {
+                return Ok(Some(number));
+            }
+        }
+        Ok(None)
+    }
+
+    /// Makes the literal true that a clause forces. The answer is whether the clause is false.
+    fn force(&mut self, number: u32) -> Result<bool, AllocError>
+        requires ready { Ready self.old }
+        requires narrow { Contains self.old.watches.narrow.items number }
+        ensures gone { IfOk result (λ _. Gone self.old self.new) }
+        ensures conflict { IfOk result (λ b. b ≡ true → IsConflict self.new number) }
+        ensures forced { IfOk result (λ b. b ≡ false → HasTrue self.new.values.items (slice_index_or self.new.clauses.items number [])) }
+        ensures watches { OnOk result (self.new.watches ≡ self.old.watches) }
+    {
+        match state_of(
+            self.clauses[number as usize].as_slice(),
+            self.values.as_slice(),
+        ) {
+            ClauseState::Falsified => Ok(true),
+            ClauseState::Unit(literal) => {
+                self.push(Step {
+                    literal,
+                    reason: Some(number),
+                })?;
+                Ok(false)
+            }
+            ClauseState::Settled => Ok(false),
+        }
+    }
+
+    /// Looks after the clauses that watch a literal that became false.
+    fn visit(&mut self, literal: Lit) -> Result<Option<u32>, AllocError>
+        requires ready { Ready self.old }
+        requires waiting { Waiting self.old }
+        requires next { IsNext self.old literal }
+        ensures { IfOk result (λ r. Visited self.old self.new r) }
+    {
+        let mut at = self.watches.rings.first(literal);
+        while let Some(slot) = at {
+            at = self.watches.rings.after(slot);
+            if self.mend(slot)? {
+                return Ok(Some(slot / 2));
+            }
+        }
+        Ok(None)
+    }
+
+    /// Looks after the clause of a slot whose literal is false. The answer is whether the clause is false.
+    fn mend(&mut self, slot: u32) -> Result<bool, AllocError>
+        requires ready { Ready self.old }
+        requires at_false { IsAtFalse self.old slot }
+        ensures { IfOk result (λ conflict. Mended self.old slot self.new conflict) }
+    {
+        let number = slot / 2;
+        let Some(other) = self.watches.watched[partner(slot)] else {
+            return Ok(false);
+        };
+        match fate_of(
+            self.clauses[number as usize].as_slice(),
+            other,
+            self.values.as_slice(),
+        ) {
+            Fate::Stays => Ok(false),
+            Fate::Moves(to) => {
+                self.watches.move_slot(slot, to);
+                Ok(false)
+            }
+            Fate::Implies(literal) => {
+                self.push(Step {
+                    literal,
+                    reason: Some(number),
+                })?;
+                Ok(false)
+            }
+            Fate::Conflict => Ok(true),
         }
     }
 
@@ -133,7 +192,8 @@ impl State {
 
     /// Decides and propagates until a clause is false or each input has a value.
     pub fn descend(&mut self) -> Result<Option<u32>, AllocError>
-        requires { Ready self.old }
+        requires ready { Ready self.old }
+        requires waiting { Waiting self.old }
         ensures { IfOk result (λ r. Descended self.old self.new r) }
     {
         loop {

@@ -2,7 +2,7 @@
 
 ghost use Rattle.std.specs.Prelude.{◌≡◌, ◌<◌, ◌≤◌, ◌+◌, ◌^◌, ◌++◌, ◌∷◌, [], length, OnOk, IfOk};
 ghost use Rattle.uc_circuit.specs.Circuits.{IsOrdered};
-ghost use Rattle.uc_log.specs.Entries.{known_of};
+ghost use Rattle.uc_log.specs.Entries.{Known, known_of, add};
 ghost use Rattle.uc_log.specs.Refutes.{unvalued};
 ghost use Rattle.uc_learner.specs.Learners.{IsOver, input_flags};
 ghost use Rattle.uc_learner.specs.Answered.{Holds};
@@ -11,6 +11,7 @@ use crate::preferences::Preferences;
 use std::alloc::{AllocError, Global};
 use uc_circuit::{Circuit, Clause, Lit};
 use uc_log::{Entry, Problem};
+use uc_watches::Watches;
 
 /// One literal that was made true: decided, or implied by the clause of that number.
 #[derive(Clone, Copy)]
@@ -31,29 +32,36 @@ pub struct State {
     /// The literals that were made true, in order.
     pub trail: Vec<Step>,
     pub preferences: Preferences,
+    /// Which literals each clause watches.
+    pub watches: Watches,
+    /// How many steps of the trail were looked at.
+    pub head: usize,
 }
 
 impl State {
-    ghost use Rattle.uc_learner.specs.Sound.{Sound};
+    ghost use Rattle.uc_learner.specs.Sound.{Sound, Whole};
     ghost use Rattle.uc_learner.specs.Moves.{Pushed, Cut};
+    ghost use Rattle.uc_learner.specs.Rewatched.{AreWatchedTo, Rewatched};
     ghost use Rattle.uc_learner.specs.Added.{Added, VariableAdded};
 
     /// A state without variables and clauses.
-    pub fn empty(alloc: Global) -> State
-        ensures { Sound result }
+    pub fn empty(alloc: Global) -> Result<State, AllocError>
+        ensures { IfOk result (λ s. Whole s) }
     {
-        State {
+        Ok(State {
             clauses: Vec::new(alloc),
             inputs: Vec::new(alloc),
             values: Vec::new(alloc),
             trail: Vec::new(alloc),
             preferences: Preferences::new(alloc),
-        }
+            watches: Watches::new(alloc)?,
+            head: 0,
+        })
     }
 
     /// The state of a problem, in which no variable has a value.
     pub fn of(alloc: Global, p: &Problem) -> Result<State, AllocError>
-        ensures sound { IfOk result (λ s. Sound s) }
+        ensures whole { IfOk result (λ s. Whole s) }
         ensures holds { IfOk result (λ s. Holds s (known_of p.now)) }
     {
         let circuit = p.circuit();
@@ -61,17 +69,48 @@ impl State {
         if clauses.len() > u32::MAX as usize {
             return Err(AllocError);
         }
-        Ok(State {
+        let mut state = State {
             clauses,
             inputs: input_flags(alloc, circuit)?,
             values: no_values(alloc, circuit.len() as usize)?,
             trail: Vec::new(alloc),
             preferences: Preferences::of(alloc, circuit.len())?,
-        })
+            watches: Watches::new(alloc)?,
+            head: 0,
+        };
+        state.watch_from(0)?;
+        Ok(state)
+    }
+
+    /// Makes the clauses from that number on watch their literals.
+    pub fn watch_from(&mut self, first: usize) -> Result<(), AllocError>
+        requires sound { Sound self.old }
+        requires inside { first ≤ length self.old.clauses.items }
+        requires watched { AreWatchedTo self.old first }
+        ensures { OnOk result (Rewatched self.old self.new) }
+    {
+        self.watches.grow(self.inputs.len())?;
+        for number in first..self.clauses.len() {
+            self.watches.add(self.clauses[number].as_slice())?;
+        }
+        Ok(())
     }
 
     /// Takes over the variable and the clauses of an entry. Takes back all steps.
     pub fn add(&mut self, entry: &Entry) -> Result<(), AllocError>
+        requires whole { Whole self.old }
+        requires over { IsOver (length self.old.inputs.items) entry.now }
+        ensures whole { OnOk result (Whole self.new) }
+        ensures holds { OnOk result ((k : Known) → Holds self.old k → Holds self.new (add k entry.now)) }
+    {
+        let first = self.clauses.len();
+        self.take_over(entry)?;
+        self.watch_from(first)?;
+        Ok(())
+    }
+
+    /// Takes over the variable and the clauses of an entry, which are not watched yet.
+    fn take_over(&mut self, entry: &Entry) -> Result<(), AllocError>
         requires sound { Sound self.old }
         requires over { IsOver (length self.old.inputs.items) entry.now }
         ensures { OnOk result (Added self.old entry.now self.new) }
@@ -116,7 +155,8 @@ impl State {
     pub fn cut(&mut self, target: usize)
         requires sound { Sound self.old }
         requires inside { target ≤ length self.old.trail.items }
-        ensures { Cut self.old target self.new }
+        ensures cut { Cut self.old target self.new }
+        ensures head { self.new.head ≡ 0 }
     {
         while self.trail.len() > target {
             if let Some(step) = self.trail.pop() {
@@ -125,6 +165,7 @@ impl State {
                     .keep_phase(step.literal.var, !step.literal.neg);
             }
         }
+        self.head = 0;
     }
 }
 

@@ -16,4 +16,4 @@ returns-clause-ok g c =
     goes_on c.args.self.now c.learn.new.self (g.M.Meter.opened c.args.meter.now) c.args.log.now c.record.new.log c.in_ok-marked.field-0.kept.items c.in_ok-clause.clause _ _ _
     c.requires.holds c.requires.none_empty c.in_ok-marked.ensures (grind (arith, common_steps))
     (c.in_ok-clause.ensures ∙ c.as_slice.ensures.value) c.in_ok-record.ensures.ok
-    (subst (λ (k : List Lit). LearnedBy c.args.self.now k c.learn.new.self) c.as_slice-2.ensures.value c.in_ok-learn.ensures)
+    (subst (λ (k : List Lit). LearnedBy c.args.self.now k c.learn.new.self) c.as_slice-2.ensures.value c.in_ok-learn.ensures.learned)

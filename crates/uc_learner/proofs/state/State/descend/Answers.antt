@@ -3,6 +3,8 @@ use Rattle.uc_learner.specs.ClauseStates.{AllSettled, ConflictIs}
 use Rattle.uc_learner.specs.Moves.{Onward}
 use Rattle.uc_learner.proofs.Learning.{length-values}
 use Rattle.uc_learner.proofs.Progress.{Stepped, conflict_none, decided_step, onward_trans, decided_once, decided_after}
+use Rattle.uc_learner.proofs.Queue.{waiting_pushed}
+use Rattle.uc_learner.proofs.Narrow.{none_from}
 use Rattle.uc_learner.proofs.state.State.descend.Goals as goal
 
 pub returns-in-Some : goal.returns-in-Some
@@ -31,5 +33,6 @@ loop-conflict-preserved c =
     let here : Onward c.args.self.now c.propagate.new.self = onward_trans c.args.self.now c.loop-conflict.self c.propagate.new.self c.loop-conflict.invariant.onward c.in_ok-conflict.ensures.onward in
     record {
       onward = onward_trans c.args.self.now c.propagate.new.self c.push.new.self here stepped.onward;
+      waiting = waiting_pushed c.propagate.new.self c.push.new.self _ (c.in_ok-conflict.ensures.waiting (none_from c.in_ok-conflict.field-0 c.in_default.not-Some)) c.in_ok-push.ensures c.in-Some-decision.ensures.1.2;
       decided = decided_once c.args.self.now c.propagate.new.self c.push.new.self here settled;
     }

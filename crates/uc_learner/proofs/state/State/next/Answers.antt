@@ -3,6 +3,7 @@ use Rattle.uc_log.specs.Problems.{Question}
 use Rattle.uc_learner.specs.Opened.{known_now, HasQuestion}
 use Rattle.uc_learner.specs.Answered.{Holds, GoesOn, inputs_count}
 use Rattle.uc_learner.proofs.Opening.{accepted}
+use Rattle.uc_learner.proofs.Queue.{waiting_none}
 use Rattle.uc_learner.proofs.Completion.{candidate_true}
 use Rattle.uc_learner.proofs.Answering.{Started, started, holds_same, extends_same, extends_more, went_on, refuted_by, settled_on, used_up}
 use Rattle.uc_learner.proofs.state.State.next.Goals as goal
@@ -12,18 +13,19 @@ returns-in-Some-clause-refuted g c = λ _. accepted c.args.terms.now (g.M.Meter.
 
 pub loop-conflict-init : goal.loop-conflict-init
 loop-conflict-init g c =
-    let start : Started c.cut.new.self = started c.args.self.now c.cut.new.self c.cut.ensures in
+    let start : Started c.cut.new.self = started c.args.self.now c.cut.new.self c.cut.ensures.cut c.requires.whole.watched in
     record {
       ready = start.ready;
-      inputs = c.cut.ensures.inputs;
+      waiting = waiting_none c.cut.new.self c.cut.ensures.head;
+      inputs = c.cut.ensures.cut.inputs;
       recorded = c.requires.recorded;
       opened = refl;
       total = refl;
-      holds = holds_same c.args.self.now c.cut.new.self 0 _ c.cut.ensures c.requires.holds;
+      holds = holds_same c.args.self.now c.cut.new.self 0 _ c.cut.ensures.cut c.requires.holds;
       none_empty = c.in_default.ensures;
       stay = extends_same c.args.log.now;
-      count = omega (arith, start.all_left, ap (λ (k : List Bool). 2 ^ inputs_count k) c.cut.ensures.inputs);
-      settled = inl (refl, start.none, c.cut.ensures.clauses);
+      count = omega (arith, start.all_left, ap (λ (k : List Bool). 2 ^ inputs_count k) c.cut.ensures.cut.inputs);
+      settled = inl (refl, start.none, c.cut.ensures.cut.clauses);
     }
 
 pub returns-then-len-budget-2-clause-unit : goal.returns-then-len-budget-2-clause-unit
@@ -42,6 +44,7 @@ loop-conflict-preserved g c =
     went_on c.descend.new.self c.conclude.new.self c.loop-conflict.log c.conclude.new.log _ c.in_ok-conclude.field-0 c.if-branch.false c.in_ok-conclude.ensures.ok in
     record {
       ready = on.1;
+      waiting = waiting_none c.conclude.new.self (c.in_ok-conclude.ensures.head c.if-branch.false);
       inputs = on.4 ∙ c.in_ok-conflict.ensures.onward.inputs ∙ inv.inputs;
       recorded = c.in_ok-conclude.ensures.recorded;
       opened = c.in_ok-conclude.ensures.opened ∙ inv.opened;

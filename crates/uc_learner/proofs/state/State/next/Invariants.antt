@@ -1,5 +1,6 @@
 use Rattle.std.proofs.Common.{◌≡◌, ◌+◌, ◌^◌, ◌≤◌, ◌⊎◌, length}
 use Rattle.uc_learner.specs.Moves.{Ready, NoDecision, SettledOnce, left_of}
+use Rattle.uc_learner.specs.Propagated.{Waiting}
 use Rattle.uc_learner.specs.Opened.{known_now}
 use Rattle.uc_learner.specs.Recorded.{IsRecorded, Extends}
 use Rattle.uc_learner.specs.Answered.{Holds, NoneEmpty, inputs_count}
@@ -8,6 +9,7 @@ use Rattle.uc_learner.proofs.state.State.next.Given as goal
 abbrev pub invariant-loop-conflict : goal.invariant-loop-conflict
 invariant-loop-conflict g l = record {
   ready : Ready l.self;
+  waiting : Waiting l.self;
   inputs : l.self.inputs.items ≡ l.fn.self.inputs.items;
   recorded : IsRecorded l.terms (g.M.Meter.opened l.meter) (g.M.Meter.here l.meter) l.log;
   opened : g.M.Meter.opened l.meter ≡ g.M.Meter.opened l.fn.meter;

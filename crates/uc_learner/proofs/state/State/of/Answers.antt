@@ -4,11 +4,32 @@ use Rattle.uc_learner.specs.Learners.{input_flags}
 use Rattle.uc_learner.proofs.Adding.{first_sound}
 use Rattle.uc_learner.proofs.state.State.of.Goals as goal
 
-pub returns-clause-sound : goal.returns-clause-sound
-returns-clause-sound c =
+pub watch_from-requires-clause-sound : goal.watch_from-requires-clause-sound
+watch_from-requires-clause-sound c =
     first_sound _ c.args.p.now c.circuit-circuit.ensures.kept
     (c.in_ok-input_flags.ensures ∙ ap input_flags c.circuit-circuit.ensures.circuit)
     c.in_ok-clauses.ensures
     (c.in_ok-no_values.ensures ∙ ap (λ n. replicate n None) (c.len-2.ensures.len ∙ ap length c.circuit-circuit.ensures.circuit))
     c.new.ensures.items
     (let e = ap length c.in_ok-clauses.ensures in grind (arith, common_steps))
+
+pub watch_from-requires-clause-watched : goal.watch_from-requires-clause-watched
+watch_from-requires-clause-watched c = record { variables = 0; fewer = omega arith; linked = c.in_ok-new.ensures }
+
+pub returns-clause-whole : goal.returns-clause-whole
+returns-clause-whole c = record {
+  sound =
+      first_sound c.watch_from.new.self c.args.p.now c.circuit-circuit.ensures.kept
+      (c.in_ok-watch_from.ensures.inputs ∙ c.in_ok-input_flags.ensures ∙ ap input_flags c.circuit-circuit.ensures.circuit)
+      (c.in_ok-watch_from.ensures.clauses ∙ c.in_ok-clauses.ensures)
+      (c.in_ok-watch_from.ensures.values ∙ c.in_ok-no_values.ensures ∙ ap (λ n. replicate n None) (c.len-2.ensures.len ∙ ap length c.circuit-circuit.ensures.circuit))
+      (c.in_ok-watch_from.ensures.trail ∙ c.new.ensures.items)
+      (let e = ap length c.in_ok-clauses.ensures in grind (arith, common_steps));
+  watched = c.in_ok-watch_from.ensures.watched;
+}
+
+pub returns-clause-holds : goal.returns-clause-holds
+returns-clause-holds c = record {
+  inputs = c.in_ok-watch_from.ensures.inputs ∙ c.in_ok-input_flags.ensures ∙ ap input_flags c.circuit-circuit.ensures.circuit;
+  clauses = c.in_ok-watch_from.ensures.clauses ∙ c.in_ok-clauses.ensures;
+}
