@@ -1,6 +1,6 @@
 -- Rules for two bit-vectors.
-use Rattle.std.specs.Prelude.{◌≡◌, ℕ, ◌+◌, ◌*◌, ◌-◌, ◌/◌, ◌<◌, ◌≤◌, ◌^◌, ◌%◌, Bool, true, false, cond, nat_eq, bit_and, bit_or, bit_xor, IsTrue, List, [], ◌∷◌, length}
-use Rattle.std.proofs.Common.{refl, sym, ap, ◌∙◌, arith, subst, eqb-true, add-zero, div-one, inl, inr}
+use Rattle.std.specs.Prelude.{◌≡◌, ℕ, ◌+◌, ◌*◌, ◌-◌, ◌/◌, ◌<◌, ◌≤◌, ◌^◌, ◌%◌, Bool, true, false, cond, bit_and, bit_or, bit_xor, IsTrue, List, [], ◌∷◌, length}
+use Rattle.std.proofs.Common.{refl, sym, ap, ◌∙◌, arith, subst, eqb-true, add-zero, div-one}
 use Rattle.std.specs.Int.Bits.{or_zero_r, xor_zero_r, and_zero_r, and_self, xor_self, or_add_and}
 use Rattle.std.proofs.Math.Nat.{mod-eq_of_lt, mul-one, mod_self, add_comm, mul_comm, add-mul-mod_self_right}
 use Rattle.std.proofs.lemmas.Nat.{and_mask, and_comm, or_comm, xor_comm, pow_pos}
@@ -28,7 +28,7 @@ use Rattle.uc_terms.proofs.Fitting.{value-fits}
 use Rattle.uc_terms.proofs.Grown.{type-valid}
 use Rattle.uc_simplify.specs.declared.step.Step.{Step}
 use Rattle.uc_simplify.specs.declared.step.Step.TheVariants.{Other}
-use Rattle.uc_simplify.specs.Steps.{IsKnown, IsRight, Replaces, IsConstant, is_ones, is_neutral, is_absorbing, fills_with_zero, is_idempotent, cancels, is_commutative}
+use Rattle.uc_simplify.specs.Steps.{IsKnown, IsRight, Replaces, IsConstant, is_neutral, is_absorbing, fills_with_zero, is_idempotent, cancels, is_commutative}
 use Rattle.uc_simplify.proofs.Steps.{IsPlain, constant_replaces, plain_replaces}
 use Rattle.uc_simplify.proofs.Twos.{same-constant}
 use Rattle.uc_simplify.proofs.Folds.{two_there}

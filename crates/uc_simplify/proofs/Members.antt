@@ -1,5 +1,5 @@
 -- Conjunctions and disjunctions, whose parts are gathered and put in order.
-use Rattle.std.specs.Prelude.{◌≡◌, ◌≢◌, ◌⊎◌, ℕ, ◌+◌, ◌<◌, ◌≤◌, Bool, true, false, not, ◌&&◌, ◌||◌, nat_eq, List, [], ◌∷◌, ◌++◌, length, slice_index, All, Contains}
+use Rattle.std.specs.Prelude.{◌≡◌, ◌≢◌, ◌⊎◌, ℕ, ◌+◌, ◌<◌, Bool, true, false, not, ◌&&◌, ◌||◌, nat_eq, List, [], ◌∷◌, ◌++◌, length, slice_index, All, Contains}
 use Rattle.std.specs.List.{list_all, list_any}
 use Rattle.std.specs.List.Sorted.{IsPermutation}
 use Rattle.std.specs.List.Retain.{IsFiltered, DiffersFromLast}
@@ -13,20 +13,18 @@ use Rattle.std.proofs.lemmas.List.Elements.{All-nil, All-cons, All-head, All-tai
 use Rattle.uc_values.specs.Values.{truth_of}
 use Rattle.uc_values.specs.declared.ty.Ty.{Ty}
 use Rattle.uc_values.specs.declared.ty.Ty.TheVariants.{Bool as Boolean}
-use Rattle.uc_values.specs.declared.value.Value.{Value}
 use Rattle.uc_values.specs.declared.value.Value.TheVariants.{Bool as Holds}
 use Rattle.uc_ops.specs.declared.model.Model.{Model}
 use Rattle.uc_ops.specs.declared.op.Op.{Op}
-use Rattle.uc_ops.specs.declared.op.Op.TheVariants.{Const, And, Or}
+use Rattle.uc_ops.specs.declared.op.Op.TheVariants.{Const}
 use Rattle.uc_ops.specs.declared.node.Node.{Node}
 use Rattle.uc_ops.specs.Typing.{Suits, type_of, type_at, types_at}
 use Rattle.uc_ops.specs.Meaning.{apply}
-use Rattle.uc_terms.specs.Tables.{WellTyped}
 use Rattle.uc_terms.specs.Values.{value, values_at}
 use Rattle.uc_terms.specs.Subterms.{IsSubterm, IsBelow, itself}
 use Rattle.uc_simplify.specs.declared.step.Step.{Step}
 use Rattle.uc_simplify.specs.declared.step.Step.TheVariants.{Other}
-use Rattle.uc_simplify.specs.Steps.{IsRight, Replaces, IsTruth, IsNegation, IsApplied}
+use Rattle.uc_simplify.specs.Steps.{IsRight, Replaces, IsTruth, IsNegation}
 use Rattle.uc_simplify.specs.Junctions.{junction, IsJunction, Gives, Covered, GoesOn, Gathers, SameMembers, HasComplements}
 use Rattle.uc_simplify.proofs.Steps.{IsPlain, plain_replaces}
 use Rattle.uc_simplify.proofs.Twos.{truth_replaces}

@@ -1,5 +1,5 @@
 -- Rules for two parts.
-use Rattle.std.specs.Prelude.{◌≡◌, ℕ, ℤ, pos, negsuc, ◌<◌, ◌^◌, ◌%◌, Bool, true, false, not, ◌&&◌, nat_eq, nat_lt, nat_le, int_lt, int_le, IsTrue, List, [], ◌∷◌, length, Some}
+use Rattle.std.specs.Prelude.{◌≡◌, ℕ, ℤ, pos, negsuc, ◌<◌, Bool, true, false, not, ◌&&◌, nat_eq, nat_lt, nat_le, int_lt, int_le, IsTrue, List, [], ◌∷◌, length, Some}
 use Rattle.std.proofs.Common.{refl, sym, ap, ◌∙◌, arith, subst, eq-eqb}
 use Rattle.std.proofs.lemmas.Bool.Decides.{nat_tests, Decides-int_eq}
 use Rattle.std.proofs.lemmas.List.Elements.{All-nil, All-cons}
@@ -9,7 +9,7 @@ use Rattle.uc_values.specs.Operators.{signed_of}
 use Rattle.uc_values.specs.declared.ty.Ty.{Ty}
 use Rattle.uc_values.specs.declared.ty.Ty.TheVariants.{Bool as Boolean, Int as Integer, Bv as Bits, Enum as Label}
 use Rattle.uc_values.specs.declared.value.Value.{Value}
-use Rattle.uc_values.specs.declared.value.Value.TheVariants.{Bool as Holds, Bv}
+use Rattle.uc_values.specs.declared.value.Value.TheVariants.{Bool as Holds}
 use Rattle.uc_values.proofs.Shapes.{valid-Bool}
 use Rattle.uc_values.proofs.Fitting.{IsBits-fits, IsBoolean-fits, IsInteger-fits, IsLabel-fits, Truth-fits}
 use Rattle.uc_values.proofs.Agreement.{sameness-Bool, sameness-Int, sameness-Bv, sameness-Enum}
@@ -17,7 +17,7 @@ use Rattle.uc_ops.specs.declared.model.Model.{Model}
 use Rattle.uc_ops.specs.declared.op.Op.{Op}
 use Rattle.uc_ops.specs.declared.op.Op.TheVariants.{Const, Not, Eq as Equal, Le, Slt, Sle, Ult, Ule}
 use Rattle.uc_ops.specs.declared.node.Node.{Node}
-use Rattle.uc_ops.specs.Typing.{Suits, is_constant, type_of, type_at, types_at}
+use Rattle.uc_ops.specs.Typing.{is_constant, type_of, type_at, types_at}
 use Rattle.uc_ops.specs.Meaning.{apply}
 use Rattle.uc_terms.specs.Tables.{WellTyped}
 use Rattle.uc_terms.specs.Values.{value, values_at}

@@ -1,4 +1,4 @@
-use Rattle.std.proofs.Common.{◌≡◌, ◌∙◌, sym, ap, Some, subst, true, false}
+use Rattle.std.proofs.Common.{◌∙◌, sym, ap, Some, subst}
 use Rattle.uc_ops.specs.declared.op.Op.TheVariants.{And, Or}
 use Rattle.uc_simplify.specs.Junctions.{IsJunction}
 use Rattle.uc_simplify.proofs.Applied.{applied}

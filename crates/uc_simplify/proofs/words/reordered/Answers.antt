@@ -1,4 +1,4 @@
-use Rattle.std.proofs.Common.{◌≡◌, ◌∙◌, sym, ap, true, rules}
+use Rattle.std.proofs.Common.{◌∙◌, sym, ap}
 use Rattle.uc_ops.specs.Typing.{is_constant}
 use Rattle.uc_simplify.proofs.Identities.{turned_pair}
 use Rattle.uc_simplify.proofs.words.reordered.Goals as goal

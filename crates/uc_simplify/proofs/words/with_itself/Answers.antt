@@ -1,8 +1,4 @@
-use Rattle.std.proofs.Common.{◌≡◌, ◌∙◌, sym, ap, true, [], rules}
-use Rattle.uc_values.specs.declared.ty.Ty.TheVariants.{Bv as Bits}
-use Rattle.uc_values.specs.declared.value.Value.TheVariants.{Bv}
-use Rattle.uc_ops.specs.declared.op.Op.TheVariants.{Const}
-use Rattle.uc_simplify.specs.declared.step.Step.TheVariants.{Other}
+use Rattle.std.proofs.Common.{◌≡◌, ◌∙◌, sym, rules}
 use Rattle.uc_simplify.proofs.Identities.{idempotent_known, cancels_right}
 use Rattle.uc_simplify.proofs.words.with_itself.Goals as goal
 
