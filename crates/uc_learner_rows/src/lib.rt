@@ -1,0 +1,5 @@
+//! Worked rows of clause learning, which only tests run: pigeons, products and a contradiction.
+#![tactic(auto)]
+
+#[cfg(test)]
+mod searches;
