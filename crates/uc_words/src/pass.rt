@@ -32,7 +32,7 @@ pub fn words(
     ensures names_known { IfOk result (λ ws. NamesBelow (length names.new) (words_mention ws.items)) }
     ensures files_known { IfOk result (λ ws. (n : ℕ) → FilesBelow n (tokens_mention tokens.now) → FilesBelow n (words_mention ws.items)) }
 {
-    let mut words = Vec::new(alloc);
+    let mut words = Vec::with_capacity(alloc, tokens.len())?;
     for token in tokens {
         let kind = kind_of(alloc, names, text, token)?;
         words.push(Word {
