@@ -1,0 +1,2 @@
+pub mod Lowness
+mod Pairs
