@@ -1,0 +1,9 @@
+use Rattle.std.proofs.Common.{◌≡◌, drop}
+use Rattle.uc_grammar.specs.declared.word.Kind.TheVariants.{Comma}
+use Rattle.uc_printed.specs.Printed.{joined, behind}
+use Rattle.uc_printed.specs.Declarations.{binding_words}
+use Rattle.uc_page.specs.Text.{written}
+use Rattle.uc_printer.proofs.clauses.put_bindings.Given as goal
+
+abbrev pub invariant-rest : goal.invariant-rest
+invariant-rest l = written l.names l.page (behind Comma binding_words (drop l.one-index l.rest)).words ≡ written l.names l.fn.page (joined Comma binding_words l.bindings).words
