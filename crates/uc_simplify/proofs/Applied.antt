@@ -1,6 +1,6 @@
 -- Terms of a table, by their operation and their parts.
-use Rattle.std.specs.Prelude.{◌≡◌, ℕ, ◌<◌, List, length, Contains}
-use Rattle.std.proofs.Common.{sym, ap, ◌∙◌, subst, arith}
+use Rattle.std.specs.Prelude.{◌≡◌, ℕ, ◌<◌, List, [], ◌∷◌, length, Contains}
+use Rattle.std.proofs.Common.{sym, ap, ◌∙◌, subst, arith, get_or}
 use Rattle.std.proofs.lemmas.List.Elements.{All-weaker, All-contains_itself}
 use Rattle.uc_ops.specs.declared.op.Op.{Op}
 use Rattle.uc_ops.specs.declared.node.Node.{Node}
@@ -29,3 +29,11 @@ applied nodes t op parts w h o e =
       below = All-weaker (Contains r.0.parts) (IsSubterm nodes t) (λ p c. deeper t p itself (subst (λ ps. Contains ps p) (sym (parts-node nodes t r.0 r.1)) c)) r.0.parts (All-contains_itself r.0.parts);
       same = λ m. value-node m nodes t r.0 w r.1 ∙ ap (λ x. apply m x (types_at nodes r.0.parts) (values_at m nodes r.0.parts)) r.2;
     })
+
+-- a list of three
+pub three_listed : (xs : List ℕ) (x y z : ℕ) → length xs ≡ 3 → x ≡ get_or xs 0 x → y ≡ get_or xs 1 y → z ≡ get_or xs 2 z → x ∷ y ∷ z ∷ [] ≡ xs
+three_listed [] x y z h e f g = absurd (omega (arith, h))
+three_listed (a ∷ []) x y z h e f g = absurd (omega (arith, h))
+three_listed (a ∷ b ∷ []) x y z h e f g = absurd (omega (arith, h))
+three_listed (a ∷ b ∷ c ∷ []) x y z h e f g = λ i. e i ∷ f i ∷ g i ∷ []
+three_listed (a ∷ b ∷ c ∷ d ∷ xs) x y z h e f g = absurd (omega (arith, h))

@@ -8,3 +8,4 @@ pub mod Joins
 pub mod Identities
 pub mod Members
 pub mod Applied
+pub mod Made

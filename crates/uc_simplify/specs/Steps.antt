@@ -1,8 +1,9 @@
 -- By what an operation on parts may be replaced.
 use Rattle.std.specs.Prelude.{◌≡◌, ◌⊎◌, ℕ, ◌<◌, Bool as Truth, true, false, not, IsTrue, List, length, All, Option, Some, None, nat_eq}
-use Rattle.uc_values.specs.Values.{fits, truth_of}
+use Rattle.uc_values.specs.Values.{fits, truth_of, same_scalar}
 use Rattle.uc_values.specs.Operators.{complemented}
-use Rattle.uc_values.specs.declared.ty.Ty.TheVariants.{Bool as Boolean}
+use Rattle.uc_values.specs.declared.ty.Ty.{Ty}
+use Rattle.uc_values.specs.declared.ty.Ty.TheVariants.{Bool as Boolean, Int as Integer, Bv as Bits, Enum as Label, Un as Open}
 use Rattle.uc_values.specs.declared.value.Value.{Value}
 use Rattle.uc_values.specs.declared.value.Value.TheVariants.{Bool as Holds}
 use Rattle.uc_ops.specs.declared.model.Model.{Model}
@@ -152,3 +153,16 @@ pub record IsApplied (nodes : List Node) (t : ℕ) (op : Op) (parts : List ℕ) 
   pub ty : type_at nodes t ≡ type_of op (types_at nodes parts)
   pub below : All (IsSubterm nodes t) parts
   pub same : (m : Model) → value m nodes t ≡ apply m op (types_at nodes parts) (values_at m nodes parts)
+
+-- a scalar type: the types of the indices of arrays
+abbrev pub is_index : Ty → Truth
+is_index Boolean = true
+is_index Integer = true
+is_index (Bits width) = true
+is_index (Label number labels) = true
+is_index (Open number) = true
+is_index other = false
+
+-- two terms have different scalars under every model
+abbrev pub Differ : List Node → ℕ → ℕ → Type 0
+Differ nodes a b = (m : Model) → same_scalar (value m nodes a) (value m nodes b) ≡ false

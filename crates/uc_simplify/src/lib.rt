@@ -26,6 +26,9 @@
 //! | absorbing bits | `a * 0`, `a & 0`; `a \| ones` | `0`; `ones` |
 //! | bits with themselves | `a & a`, `a \| a`; `a - a`, `a ^ a` | `a`; `0` |
 //! | shifts | `a << n`, `a >> n` (filled with 0) by the width or more | `0` |
+//! | records | field `i` of a record that is made | its part `i` |
+//! | arrays | what `a` with `x` stored at `i` holds at `i` (`i` of a scalar type) | `x` |
+//! | | at a constant that is not the constant `i` | what `a` holds there |
 #![tactic(auto)]
 
 mod building;
@@ -33,7 +36,9 @@ mod copying;
 mod folding;
 mod gathering;
 mod junctions;
+mod opened;
 mod pairs;
+mod places;
 mod rebuild;
 mod simplifier;
 mod step;
