@@ -30,7 +30,12 @@ applied nodes t op parts w h o e =
       same = λ m. value-node m nodes t r.0 w r.1 ∙ ap (λ x. apply m x (types_at nodes r.0.parts) (values_at m nodes r.0.parts)) r.2;
     })
 
--- a list of three
+-- a list of one or three
+pub one_listed : (xs : List ℕ) (x : ℕ) → length xs ≡ 1 → x ≡ get_or xs 0 x → x ∷ [] ≡ xs
+one_listed [] x h e = absurd (omega (arith, h))
+one_listed (y ∷ []) x h e = λ i. e i ∷ []
+one_listed (y ∷ z ∷ xs) x h e = absurd (omega (arith, h))
+
 pub three_listed : (xs : List ℕ) (x y z : ℕ) → length xs ≡ 3 → x ≡ get_or xs 0 x → y ≡ get_or xs 1 y → z ≡ get_or xs 2 z → x ∷ y ∷ z ∷ [] ≡ xs
 three_listed [] x y z h e f g = absurd (omega (arith, h))
 three_listed (a ∷ []) x y z h e f g = absurd (omega (arith, h))

@@ -9,3 +9,4 @@ pub mod Identities
 pub mod Members
 pub mod Applied
 pub mod Made
+pub mod Integers

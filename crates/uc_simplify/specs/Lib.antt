@@ -3,3 +3,4 @@ pub mod Simplified
 pub mod Walking
 pub mod Steps
 pub mod Junctions
+pub mod Sums

@@ -26,6 +26,8 @@
 //! | absorbing bits | `a * 0`, `a & 0`; `a \| ones` | `0`; `ones` |
 //! | bits with themselves | `a & a`, `a \| a`; `a - a`, `a ^ a` | `a`; `0` |
 //! | shifts | `a << n`, `a >> n` (filled with 0) by the width or more | `0` |
+//! | sums | `a + 0`, `a + -1 * a`, of one integer `a`, of two constants | `a`, `0`, `a`, the constant where it has 128 bits |
+//! | multiples | `1 * a`; `0 * a`; `m * (n * a)` | `a`; `0`; `mn * a` where `mn` has 128 bits |
 //! | records | field `i` of a record that is made | its part `i` |
 //! | arrays | what `a` with `x` stored at `i` holds at `i` (`i` of a scalar type) | `x` |
 //! | | at a constant that is not the constant `i` | what `a` holds there |
@@ -42,6 +44,7 @@ mod places;
 mod rebuild;
 mod simplifier;
 mod step;
+mod sums;
 #[cfg(test)]
 mod tests;
 mod truths;

@@ -1,11 +1,22 @@
 //! Terms that are opened: the operation, and its parts.
 
 ghost use Rattle.std.specs.Prelude.{◌<◌, [], ◌∷◌, length, IfSome};
-ghost use Rattle.uc_ops.specs.declared.op.Op.TheVariants.{Store, MkRec};
+ghost use Rattle.uc_ops.specs.declared.op.Op.TheVariants.{Scale, Store, MkRec};
 ghost use Rattle.uc_simplify.specs.Steps.{IsApplied};
 
 use uc_terms::{Op, TermId, Terms};
 use uc_values::Ty;
+
+/// A multiple: the factor and the part.
+pub(crate) fn multiple(terms: &Terms, t: TermId) -> Option<(i128, TermId)>
+    requires { t < length terms.now }
+    ensures { IfSome result (λ r. IsApplied terms.now t (Scale r.0) (r.1 ∷ [])) }
+{
+    match (terms.op(t), terms.parts(t)) {
+        (Op::Scale(factor), [part]) => Some((*factor, *part)),
+        _ => None,
+    }
+}
 
 /// An array that stores an element: the array before, the index and the element.
 pub(crate) fn stored(terms: &Terms, t: TermId) -> Option<(TermId, TermId, TermId)>

@@ -14,6 +14,7 @@ use crate::junctions::{conjunct_alone, disjunct_alone, granted, refuted};
 use crate::pairs::{compared_constants, compared_to_false, compared_to_itself, compared_to_true};
 use crate::places::{field_made, selected};
 use crate::step::Step;
+use crate::sums::{scaled, sum_of_one, sum_of_two};
 use crate::truths::{chosen, condition_itself, condition_negated, turned, twice_negated, unchosen};
 use crate::words::{one_of_two, reordered, shifted_out, with_itself};
 use std::alloc::{AllocError, Global};
@@ -130,6 +131,13 @@ fn step_one(alloc: Global, terms: &Terms, op: &Op, a: TermId) -> Result<Option<S
         }
         Op::And => Ok(Some(conjunct_alone(terms, a))),
         Op::Or => Ok(Some(disjunct_alone(terms, a))),
+        Op::Add => Ok(Some(sum_of_one(terms, a))),
+        Op::Scale(factor) => {
+            if let Some(step) = folded_one(alloc, terms, op, a)? {
+                return Ok(Some(step));
+            }
+            scaled(alloc, terms, *factor, a)
+        }
         Op::GetField(place) => Ok(field_made(terms, *place, a)),
         _ => folded_one(alloc, terms, op, a),
     }
@@ -160,6 +168,7 @@ fn step_two(
     match op {
         Op::Eq => equality(alloc, terms, a, b),
         Op::Select => selected(alloc, terms, a, b),
+        Op::Add => Ok(sum_of_two(alloc, terms, a, b)),
         _ => on_words(alloc, terms, op, a, b),
     }
 }
