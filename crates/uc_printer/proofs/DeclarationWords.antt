@@ -1,6 +1,6 @@
 -- The text of each form of command, declaration and module.
 use Rattle.std.proofs.lemmas.List.{append-nil, drop_all}
-use Rattle.std.proofs.Common.{◌≡◌, ◌<◌, ◌≤◌, ◌+◌, ℕ, List, [], ◌∷◌, ◌++◌, length, drop, Option, Some, None, refl, sym, ap, ◌∙◌, append_assoc, arith}
+use Rattle.std.proofs.Common.{◌≡◌, ◌<◌, ◌≤◌, ◌+◌, ℕ, List, [], ◌∷◌, ◌++◌, length, drop, Some, None, refl, sym, ap, ◌∙◌, append_assoc, arith}
 use Rattle.std.specs.Prelude.{codes, get_or}
 use Rattle.uc_lexer.specs.declared.place.Place.{Place}
 use Rattle.uc_grammar.specs.declared.word.Kind.TheVariants as kinds
@@ -17,14 +17,14 @@ use Rattle.uc_syntax.specs.declared.declaration.Command.TheVariants.{Run}
 use Rattle.uc_syntax.specs.declared.declaration.Decl.TheVariants.{TypeAlias, Function, Define, Instance, Control}
 use Rattle.uc_syntax.specs.declared.declaration.Module.{Module}
 use Rattle.uc_printed.specs.Piece.{Piece, name, fixed}
-use Rattle.uc_printed.specs.Printed.{Printed, sign, identifier, ◌<+>◌, each, joined, in_parens}
+use Rattle.uc_printed.specs.Printed.{Printed, sign, identifier, ◌<+>◌, each, joined}
 use Rattle.uc_printed.specs.Types.{printed_type}
 use Rattle.uc_printed.specs.Expressions.{printed_expr, enclosed}
 use Rattle.uc_printed.specs.Declarations.{run_words, path_words, counterexample_words, command_words, parameter_words, code_words, clause_words, results_words, procedure_words, binding_words, decl_words, module_words}
 use Rattle.uc_page.specs.Text.{name_text, kind_text, with_word, spelling, written, spaced, design_text}
 use Rattle.uc_page.proofs.Written.{written_both, drop_more}
 use Rattle.uc_print_statements.proofs.StatementWords.{parens_and}
-use Rattle.uc_printer.specs.Parts.{function_head, formula, hyper_formula}
+use Rattle.uc_printer.specs.Parts.{function_head, formula}
 
 -- ---- commands
 

@@ -45,8 +45,6 @@ mod rebuild;
 mod simplifier;
 mod step;
 mod sums;
-#[cfg(test)]
-mod tests;
 mod truths;
 mod words;
 

@@ -1,4 +1,4 @@
-use Rattle.std.proofs.Common.{◌≡◌, refl, pos, inl, inr, rules}
+use Rattle.std.proofs.Common.{◌≡◌, refl, pos, inl, rules}
 use Rattle.uc_simplify.proofs.Integers.{first_known, second_known, opposite_right}
 use Rattle.uc_simplify.proofs.sums.sum_of_two.Goals as goal
 

@@ -2,7 +2,7 @@ use Rattle.std.proofs.Common.{refl, true}
 use Rattle.uc_values.proofs.Shapes.{valid-Bool}
 use Rattle.uc_values.proofs.Fitting.{Truth-fits}
 use Rattle.uc_terms.proofs.Sharing.{made-within}
-use Rattle.uc_simplify.proofs.tests.holds.Goals as goal
+use Rattle.uc_simplify_rows.proofs.simplified.holds.Goals as goal
 
 pub mk-requires-clause-suits : goal.mk-requires-clause-suits
 mk-requires-clause-suits c = (refl, valid-Bool, refl, Truth-fits true)

@@ -2,9 +2,9 @@
 
 ghost use Rattle.std.specs.Prelude.{◌<◌, length, IfOk};
 
-use crate::simplifier::simplify;
 use std::alloc::{AllocError, Global};
 use std::test::Fail;
+use uc_simplify::simplify;
 use uc_terms::{Op, TermId, Terms};
 use uc_values::{Ty, Value};
 

@@ -1,0 +1,5 @@
+//! Worked rows of the simplifier, which only tests run.
+#![tactic(auto)]
+
+#[cfg(test)]
+mod simplified;
