@@ -1,0 +1,5 @@
+//! Texts that are read and printed again, which only tests run.
+#![tactic(auto)]
+
+#[cfg(test)]
+mod tests;
