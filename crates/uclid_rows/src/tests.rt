@@ -77,7 +77,7 @@ const JUDGED: [Row; 7] = [
 ];
 
 /// Texts that are refused, each at its place.
-const REFUSED: [Row; 9] = [
+const REFUSED: [Row; 10] = [
     (b"module #", 3, b"error 3 in m.ucl at line 1, column 8\n"),
     (
         b"module main { var 1x : boolean; }",
