@@ -2,7 +2,7 @@
 use Rattle.std.specs.Prelude.{◌≡◌, ◌⊎◌, ℕ, Bool, true, false, nat_lt, nat_eq, if◌then◌else◌, List, [], ◌∷◌, Option, Some, None, Result, Ok, Err}
 use Rattle.uc_lexer.specs.declared.place.Place.{Place}
 use Rattle.uc_rules.specs.declared.rule.Rule.{Rule}
-use Rattle.uc_rules.specs.declared.rule.Rule.TheVariants.{UnknownName, DuplicateName, WrongType, Nonlinear, WideLiteral, Unbound, NotAssignable, BadPrime, BadCopy, NotModifies, BadWidth, ArrayShape, AxiomState, Cycle}
+use Rattle.uc_rules.specs.declared.rule.Rule.TheVariants.{UnknownName, DuplicateName, WrongType, Nonlinear, WideLiteral, Unbound, NotAssignable, BadPrime, BadCopy, NotModifies, BadWidth, ArrayShape, AxiomState, Cycle, TwiceAssigned, CyclicStep, SteppedTwice, TooLarge}
 use Rattle.uc_rules.specs.declared.fault.Fault.{Fault}
 
 -- the number under which a broken rule is reported
@@ -21,6 +21,10 @@ number_of BadWidth = 20
 number_of ArrayShape = 21
 number_of AxiomState = 22
 number_of Cycle = 23
+number_of TwiceAssigned = 24
+number_of CyclicStep = 25
+number_of SteppedTwice = 26
+number_of TooLarge = 27
 
 -- two numbers are compared, and what follows where they are the same
 abbrev pub less : ℕ → ℕ → Bool → Bool

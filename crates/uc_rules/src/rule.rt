@@ -20,6 +20,10 @@ pub enum Rule {
     ArrayShape,
     AxiomState,
     Cycle,
+    TwiceAssigned,
+    CyclicStep,
+    SteppedTwice,
+    TooLarge,
 }
 
 impl Rule {
@@ -42,6 +46,10 @@ impl Rule {
             Rule::ArrayShape => 21,
             Rule::AxiomState => 22,
             Rule::Cycle => 23,
+            Rule::TwiceAssigned => 24,
+            Rule::CyclicStep => 25,
+            Rule::SteppedTwice => 26,
+            Rule::TooLarge => 27,
         }
     }
 }

@@ -1,0 +1,10 @@
+pub mod Roots
+pub mod Mentions
+pub mod Paths
+pub mod Uses
+pub mod Writes
+pub mod Stepped
+pub mod Reads
+pub mod Dependence
+pub mod Sizes
+pub mod Order

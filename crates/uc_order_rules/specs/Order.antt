@@ -1,0 +1,62 @@
+-- All faults of order and size of a design that keeps the static rules.
+use Rattle.std.specs.Prelude.{◌≡◌, ℕ, zero, suc, Bool, true, false, ◌||◌, ◌&&◌, if◌then◌else◌, List, [], ◌∷◌, ◌++◌, Option, Some, None}
+use Rattle.std.specs.List.{flat_map, list_any}
+use Rattle.uc_lexer.specs.declared.place.Place.{Place}
+use Rattle.uc_syntax.specs.declared.declaration.Module.{Module}
+use Rattle.uc_meaning.specs.Lookup.{System, main_module}
+use Rattle.uc_meaning.specs.Cells.{as_list}
+use Rattle.uc_rules.specs.declared.fault.Fault.{Fault}
+use Rattle.uc_rules.specs.declared.rule.Rule.TheVariants.{TooLarge}
+use Rattle.uc_rules.specs.Faults.{breaks_where, IsFirst}
+use Rattle.uc_order_rules.specs.Roots.{rooted}
+use Rattle.uc_order_rules.specs.Uses.{use_cycles, has_long_chain}
+use Rattle.uc_order_rules.specs.Writes.{twice_assigned, is_empty}
+use Rattle.uc_order_rules.specs.Stepped.{stepped_twice}
+use Rattle.uc_order_rules.specs.Dependence.{cyclic_steps}
+use Rattle.uc_order_rules.specs.Sizes.{label_faults, turn_faults, has_deep_module, is_too_large}
+
+-- a module with the design of which it is the root
+abbrev pub Root : Type 0
+Root = System × Module
+
+unfoldable pub roots_from : System → ℕ → List Module → List Root
+roots_from system k [] = []
+roots_from system k (m ∷ ms) = (rooted system k, m) ∷ roots_from system (suc k) ms
+
+abbrev pub roots : System → List Root
+roots system = roots_from system 0 system.modules
+
+-- cycles of uses and calls
+abbrev pub cycles : System → List Fault
+cycles system = flat_map (λ r. use_cycles r.0) (roots system)
+
+-- enums and loops that are too large themselves
+abbrev pub size_faults : System → List Fault
+size_faults system = flat_map (λ m. label_faults m ++ turn_faults m) system.modules
+
+-- what is written or stepped twice, and cells that depend on themselves
+abbrev pub step_faults : Root → List Fault
+step_faults r = twice_assigned r.0 r.1 ++ (stepped_twice r.1 ++ cyclic_steps r.0)
+
+-- some chain is too long, or what main expands to is too large
+abbrev pub passes_limit : System → Bool
+passes_limit system = has_deep_module system || (list_any (λ r. has_long_chain r.0) (roots system) || is_too_large system)
+
+-- The limits on the whole rest on cycles, enums and loops: they are judged where none of these is at fault. The place is that of main.
+abbrev pub whole_faults : System → List Fault
+whole_faults system =
+    if is_empty (cycles system) && is_empty (size_faults system)
+    then flat_map (λ m. breaks_where (passes_limit system) TooLarge m.place) (as_list (main_module system))
+    else []
+
+-- All faults, in no order.
+unfoldable pub order_faults : System → List Fault
+order_faults system = cycles system ++ (flat_map step_faults (roots system) ++ (size_faults system ++ whole_faults system))
+
+-- No rule is broken.
+abbrev pub KeepsOrder : System → Type 0
+KeepsOrder system = order_faults system ≡ []
+
+-- A fault of the first place and, there, of the least number.
+abbrev pub IsFirstOrderFault : System → Fault → Type 0
+IsFirstOrderFault system f = IsFirst f (order_faults system)
