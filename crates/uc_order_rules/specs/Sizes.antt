@@ -1,5 +1,5 @@
 -- What a design expands to, and its limits.
-use Rattle.std.specs.Prelude.{ℕ, zero, suc, ◌+◌, ◌*◌, Bool, true, false, ◌||◌, nat_lt, if◌then◌else◌, List, [], ◌∷◌, ◌++◌, map, length, Option, Some, None}
+use Rattle.std.specs.Prelude.{ℕ, zero, suc, ◌+◌, ◌*◌, Bool, true, false, ◌||◌, nat_lt, nat_eq, if◌then◌else◌, List, [], ◌∷◌, ◌++◌, map, length, Option, Some, None}
 use Rattle.std.specs.List.{flat_map, list_any}
 use Rattle.std.specs.Option.{option_and_then}
 use Rattle.uc_lexer.specs.declared.place.Place.{Place}
@@ -207,16 +207,13 @@ abbrev pub instance_size : System → InstanceAt → Size
 instance_size system here =
     plus (code_size system here.path (init_of here.code)) (size 0 (total (map (nodes system here.path) (flat_map formula_in here.code.decls))))
 
--- the axioms of a module in use, once: at the path of its first instance
-abbrev pub axiom_nodes : System → Module → ℕ
-axiom_nodes system m = total (map (λ e. nodes_of_axiom (first_path (instances_in system)) e) (axioms_of m))
-  where
-    first_path : List InstanceAt → List ℕ
-    first_path [] = []
-    first_path (i ∷ is) = if nat_eq i.code.name m.name then i.path else first_path is
+abbrev pub first_path : ℕ → List InstanceAt → List ℕ
+first_path name [] = []
+first_path name (i ∷ is) = if nat_eq i.code.name name then i.path else first_path name is
 
-    nodes_of_axiom : List ℕ → Expr → ℕ
-    nodes_of_axiom path e = nodes system path e
+-- the axioms of a module in use, once: where its first instance is
+abbrev pub axiom_nodes : System → Module → ℕ
+axiom_nodes system m = total (map (nodes system (first_path m.name (instances_in system))) (axioms_of m))
 
 -- main's procedures, whether they are called or not
 abbrev pub procedure_size : System → Decl → Size
