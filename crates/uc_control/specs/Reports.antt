@@ -4,7 +4,7 @@ use Rattle.std.specs.List.{list_any}
 use Rattle.uc_syntax.specs.declared.declaration.Command.{Command}
 use Rattle.uc_syntax.specs.declared.declaration.Command.TheVariants.{Check, PrintResults}
 use Rattle.uc_control.specs.declared.report.Verdict.{Verdict}
-use Rattle.uc_control.specs.declared.report.Verdict.TheVariants.{Passed, Failed}
+use Rattle.uc_control.specs.declared.report.Verdict.TheVariants.{Passed, Failed, Undef}
 use Rattle.uc_control.specs.declared.report.Print.{Print}
 use Rattle.uc_control.specs.declared.report.Print.TheVariants.{Results}
 use Rattle.uc_control.specs.declared.report.Report.{Report}
@@ -13,20 +13,21 @@ use Rattle.uc_meaning.specs.Lines.{command_lines, commands_of}
 
 abbrev pub is_passed : Verdict → Bool
 is_passed Passed = true
-is_passed (Failed trace) = false
+is_passed other = false
 
 abbrev pub is_failed : Verdict → Bool
-is_failed Passed = false
 is_failed (Failed trace) = true
+is_failed other = false
 
--- no verdict is undecided yet
 abbrev pub is_undecided : Verdict → Bool
-is_undecided Passed = false
-is_undecided (Failed trace) = false
+is_undecided (Undef why) = true
+is_undecided other = false
 
--- 1 exactly where a line failed, else 0
+-- 1 exactly where a line failed, else 2 exactly where one is undecided, else 0
 abbrev pub status : Report → ℕ
-status report = if list_any (λ l. is_failed l.verdict) report.lines then 1 else 0
+status report =
+    if list_any (λ l. is_failed l.verdict) report.lines then 1
+    else (if list_any (λ l. is_undecided l.verdict) report.lines then 2 else 0)
 
 -- The prints of the commands from number n on. The commands before added so many lines; those of the last `check` go from `first` to `end`.
 unfoldable pub prints_from : System → ℕ → ℕ → ℕ → ℕ → List Command → List Print

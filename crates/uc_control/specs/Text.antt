@@ -18,7 +18,9 @@ use Rattle.uc_meaning.specs.declared.line.Line.{Line}
 use Rattle.uc_meaning.specs.Lookup.{System, module_at}
 use Rattle.uc_meaning.specs.Lines.{commands_of, main_declarations, procedure_numbered}
 use Rattle.uc_control.specs.declared.report.Verdict.{Verdict}
-use Rattle.uc_control.specs.declared.report.Verdict.TheVariants.{Passed, Failed}
+use Rattle.uc_control.specs.declared.report.Verdict.TheVariants.{Passed, Failed, Undef}
+use Rattle.uc_control.specs.declared.report.Why.{Why}
+use Rattle.uc_control.specs.declared.report.Why.TheVariants.{Budget, Memory}
 use Rattle.uc_control.specs.declared.report.LineResult.{LineResult}
 use Rattle.uc_control.specs.declared.report.Print.{Print}
 use Rattle.uc_control.specs.declared.report.Print.TheVariants.{Results}
@@ -27,9 +29,15 @@ use Rattle.uc_control.specs.Described.{name_of, file_of}
 use Rattle.uc_control.specs.Named.{named_places, name_in}
 use Rattle.uc_control.specs.Reports.{is_passed, is_failed, is_undecided}
 
+-- a line is undecided by its budget, or for want of memory
+abbrev pub why_text : Why → List ℕ
+why_text (Budget budget) = codes "UNDEF (budget " ++ decimal budget ++ codes ")"
+why_text Memory = codes "UNDEF (memory)"
+
 abbrev pub verdict_text : Verdict → List ℕ
 verdict_text Passed = codes "PASSED"
 verdict_text (Failed trace) = codes "FAILED"
+verdict_text (Undef why) = why_text why
 
 -- a command by its name, or by its word where it has none
 abbrev pub run_text : WrittenRun → List ℕ

@@ -8,5 +8,5 @@ mod tables;
 mod text;
 
 pub use design::DesignView;
-pub use report::{LineResult, Print, Report, Verdict, status_of};
+pub use report::{LineResult, Print, Report, Verdict, Why, status_of};
 pub use text::report_text;

@@ -7,12 +7,22 @@ ghost use Rattle.uc_control.specs.Reports.{status, is_passed, is_failed, is_unde
 use uc_items::Items;
 use uc_meaning::{Line, Trace};
 
+/// Why a line is undecided.
+#[derive(Clone, Copy, Debug, PartialEq, Eq)]
+pub enum Why {
+    /// The search spent all entries of this budget.
+    Budget(u64),
+    /// Memory was wanted.
+    Memory,
+}
+
 #[derive(Drop)]
 pub enum Verdict {
     /// No trace refutes the line.
     Passed,
     /// This one does.
     Failed(Trace),
+    Undef(Why),
 }
 
 /// A line with its verdict. The command is that of the line.
@@ -56,6 +66,7 @@ impl Verdict {
         match self {
             Verdict::Passed => false,
             Verdict::Failed(_) => false,
+            Verdict::Undef(_) => true,
         }
     }
 }
@@ -66,11 +77,23 @@ impl Report {
     {
         self.lines.as_slice().iter().any(|l| l.verdict.is_failed())
     }
+
+    fn has_undecided_line(&self) -> bool
+        ensures { result ≡ list_any (λ l. is_undecided l.verdict) self.now.lines }
+    {
+        self.lines.as_slice().iter().any(|l| l.verdict.is_undecided())
+    }
 }
 
 /// The status of a program that wrote the report.
 pub fn status_of(report: &Report) -> u8
     ensures { result ≡ status report.now }
 {
-    if report.has_failed_line() { 1 } else { 0 }
+    if report.has_failed_line() {
+        1
+    } else if report.has_undecided_line() {
+        2
+    } else {
+        0
+    }
 }

@@ -3,12 +3,13 @@
 ghost use Rattle.std.specs.Prelude.{◌≡◌, ◌++◌, OnOk, IfOk, decimal, slice_range};
 ghost use Rattle.std.specs.Option.{option_copied};
 ghost use Rattle.uc_control.specs.Described.{described};
+ghost use Rattle.uc_control.specs.declared.report.Why.TheVariants.{Budget};
 ghost use Rattle.uc_control.specs.Reports.{is_passed, is_failed, is_undecided};
 ghost use Rattle.uc_control.specs.Tables.{AreTables};
-ghost use Rattle.uc_control.specs.Text.{place_text, assertion_text, precondition_text, site_text, verdict_text, count_of, total_text, moment_text, path_text, clause_text, formula_text, subject_text, body_text, head_text, line_text, totals_text, print_text, report_text};
+ghost use Rattle.uc_control.specs.Text.{place_text, assertion_text, precondition_text, site_text, why_text, verdict_text, count_of, total_text, moment_text, path_text, clause_text, formula_text, subject_text, body_text, head_text, line_text, totals_text, print_text, report_text};
 
 use crate::design::DesignView;
-use crate::report::{LineResult, Print, Report, Verdict};
+use crate::report::{LineResult, Print, Report, Verdict, Why};
 use crate::tables::Tables;
 use itoa::Buffer;
 use std::alloc::{AllocError, Global};
@@ -47,13 +48,32 @@ fn put_clause(out: &mut Vec<u8>, procedure: &[u8], n: u32) -> Result<(), AllocEr
     Ok(())
 }
 
-fn verdict_text(verdict: &Verdict) -> &'static [u8]
-    ensures { result.now ≡ verdict_text verdict.now }
+fn put_verdict(out: &mut Vec<u8>, verdict: &Verdict) -> Result<(), AllocError>
+    ensures { OnOk result (out.new.items ≡ out.old.items ++ verdict_text verdict.now) }
 {
     match verdict {
-        Verdict::Passed => b"PASSED",
-        Verdict::Failed(_) => b"FAILED",
+        Verdict::Passed => put(out, b"PASSED"),
+        Verdict::Failed(_) => put(out, b"FAILED"),
+        Verdict::Undef(why) => put_why(out, *why),
     }
+}
+
+fn put_why(out: &mut Vec<u8>, why: Why) -> Result<(), AllocError>
+    ensures { OnOk result (out.new.items ≡ out.old.items ++ why_text why) }
+{
+    match why {
+        Why::Budget(budget) => put_budget(out, budget),
+        Why::Memory => put(out, b"UNDEF (memory)"),
+    }
+}
+
+fn put_budget(out: &mut Vec<u8>, budget: u64) -> Result<(), AllocError>
+    ensures { OnOk result (out.new.items ≡ out.old.items ++ why_text (Budget budget)) }
+{
+    put(out, b"UNDEF (budget ")?;
+    put_number(out, budget)?;
+    put(out, b")")?;
+    Ok(())
 }
 
 /// Puts the moment of a line, in brackets.
@@ -245,16 +265,18 @@ fn totals_of(lines: &[LineResult]) -> Totals
 {
     let mut passed = 0;
     let mut failed = 0;
+    let mut undecided = 0;
     for line in lines {
         match line.verdict {
             Verdict::Passed => passed += 1,
             Verdict::Failed(_) => failed += 1,
+            Verdict::Undef(_) => undecided += 1,
         }
     }
     Totals {
         passed,
         failed,
-        undecided: 0,
+        undecided,
     }
 }
 
@@ -298,7 +320,7 @@ fn put_line(
     ensures { OnOk result (out.new.items ≡ out.old.items ++ line_text (described d.now) line.now) }
 {
     put(out, b"  ")?;
-    put(out, verdict_text(&line.verdict))?;
+    put_verdict(out, &line.verdict)?;
     put(out, b" -> ")?;
     put_head(out, d, tables, &line.line)?;
     put(out, b"\n")?;

@@ -7,6 +7,7 @@ abbrev pub invariant-loop-line : goal.invariant-loop-line
 invariant-loop-line l =
     (l.passed ≡ count_of is_passed (take l.line-index l.lines))
     × (l.failed ≡ count_of is_failed (take l.line-index l.lines))
-    × (0 ≡ count_of is_undecided (take l.line-index l.lines))
+    × (l.undecided ≡ count_of is_undecided (take l.line-index l.lines))
     × (l.passed ≤ l.line-index)
     × (l.failed ≤ l.line-index)
+    × (l.undecided ≤ l.line-index)

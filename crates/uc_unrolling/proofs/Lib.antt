@@ -1,0 +1,3 @@
+pub mod Unrolled
+pub mod Judged
+pub mod Decided
