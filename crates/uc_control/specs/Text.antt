@@ -30,7 +30,7 @@ use Rattle.uc_control.specs.Named.{named_places, name_in}
 use Rattle.uc_control.specs.Reports.{is_passed, is_failed, is_undecided}
 
 -- a line is undecided by its budget, or for want of memory
-abbrev pub why_text : Why → List ℕ
+unfoldable pub why_text : Why → List ℕ
 why_text (Budget budget) = codes "UNDEF (budget " ++ decimal budget ++ codes ")"
 why_text Memory = codes "UNDEF (memory)"
 

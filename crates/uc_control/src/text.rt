@@ -3,7 +3,6 @@
 ghost use Rattle.std.specs.Prelude.{◌≡◌, ◌++◌, OnOk, IfOk, decimal, slice_range};
 ghost use Rattle.std.specs.Option.{option_copied};
 ghost use Rattle.uc_control.specs.Described.{described};
-ghost use Rattle.uc_control.specs.declared.report.Why.TheVariants.{Budget};
 ghost use Rattle.uc_control.specs.Reports.{is_passed, is_failed, is_undecided};
 ghost use Rattle.uc_control.specs.Tables.{AreTables};
 ghost use Rattle.uc_control.specs.Text.{place_text, assertion_text, precondition_text, site_text, why_text, verdict_text, count_of, total_text, moment_text, path_text, clause_text, formula_text, subject_text, body_text, head_text, line_text, totals_text, print_text, report_text};
@@ -29,11 +28,11 @@ fn put_number(out: &mut Vec<u8>, n: u64) -> Result<(), AllocError>
     put(out, buffer.format(n).as_bytes())
 }
 
-fn put_between(out: &mut Vec<u8>, before: &[u8], n: u32, after: &[u8]) -> Result<(), AllocError>
+fn put_between(out: &mut Vec<u8>, before: &[u8], n: u64, after: &[u8]) -> Result<(), AllocError>
     ensures { OnOk result (out.new.items ≡ out.old.items ++ (before.now ++ decimal n ++ after.now)) }
 {
     put(out, before)?;
-    put_number(out, u64::from(n))?;
+    put_number(out, n)?;
     put(out, after)?;
     Ok(())
 }
@@ -58,22 +57,14 @@ fn put_verdict(out: &mut Vec<u8>, verdict: &Verdict) -> Result<(), AllocError>
     }
 }
 
+#[tactic(auto, unfolding(crate::specs::Text::why_text))]
 fn put_why(out: &mut Vec<u8>, why: Why) -> Result<(), AllocError>
     ensures { OnOk result (out.new.items ≡ out.old.items ++ why_text why) }
 {
     match why {
-        Why::Budget(budget) => put_budget(out, budget),
+        Why::Budget(budget) => put_between(out, b"UNDEF (budget ", budget, b")"),
         Why::Memory => put(out, b"UNDEF (memory)"),
     }
-}
-
-fn put_budget(out: &mut Vec<u8>, budget: u64) -> Result<(), AllocError>
-    ensures { OnOk result (out.new.items ≡ out.old.items ++ why_text (Budget budget)) }
-{
-    put(out, b"UNDEF (budget ")?;
-    put_number(out, budget)?;
-    put(out, b")")?;
-    Ok(())
 }
 
 /// Puts the moment of a line, in brackets.
@@ -82,8 +73,8 @@ fn put_moment(out: &mut Vec<u8>, d: &DesignView<'_>, moment: At) -> Result<(), A
     ensures { OnOk result (out.new.items ≡ out.old.items ++ moment_text (described d.now) moment) }
 {
     match moment {
-        At::Exactly(j) => put_between(out, b" [step ", j, b"] "),
-        At::Base(j) => put_between(out, b" [base ", j, b"] "),
+        At::Exactly(j) => put_between(out, b" [step ", u64::from(j), b"] "),
+        At::Base(j) => put_between(out, b" [base ", u64::from(j), b"] "),
         At::Step(_) => put(out, b" [step] "),
         At::Body(procedure) => {
             put(out, b" [")?;
@@ -147,7 +138,7 @@ fn put_place(out: &mut Vec<u8>, d: &DesignView<'_>, place: Place) -> Result<(), 
     ensures { OnOk result (out.new.items ≡ out.old.items ++ place_text (described d.now) place) }
 {
     put(out, d.file(place.file))?;
-    put_between(out, b":", place.line, b":")?;
+    put_between(out, b":", u64::from(place.line), b":")?;
     put_number(out, u64::from(place.col))?;
     Ok(())
 }

@@ -2,6 +2,5 @@
 #![tactic(auto)]
 
 mod control;
-mod results;
 
 pub use control::run_control;

@@ -1,6 +1,9 @@
 -- States as terms: choices, init code and steps.
 use Rattle.std.specs.Prelude.{◌≡◌, ℕ, zero, suc, ◌+◌, ◌<◌, ◌≤◌, List, [], ◌∷◌, ◌++◌, map, length, drop, get_or, slice_set, slice_get, Some, All, Bool, true}
-use Rattle.std.proofs.Common.{refl, sym, ap, ◌∙◌, subst, arith, length-append}
+use Rattle.std.proofs.Common.{refl, sym, ap, ◌∙◌, subst, arith, length-append, ◌⊎◌, inl, inr}
+use Rattle.std.proofs.lemmas.Option.{slice_get_within, get_or_from_slice_get}
+use Rattle.uc_values.specs.declared.ty.Ty.TheVariants.{Bool as BoolTy}
+use Rattle.uc_ops.specs.declared.op.Op.TheVariants.{Symbol}
 use Rattle.std.proofs.lemmas.List.{map-append, map-set, length-map, drop_all}
 use Rattle.std.proofs.lemmas.List.Elements.{All-nil, All-push, All-set}
 use Rattle.std.proofs.Math.ListN.{length-set}
@@ -12,10 +15,10 @@ use Rattle.uc_syntax.specs.declared.statement.Stmt.TheVariants.{Assign}
 use Rattle.uc_values.specs.declared.value.Value.{Value}
 use Rattle.uc_ops.specs.declared.model.Model.{Model}
 use Rattle.uc_ops.specs.declared.node.Node.{Node}
-use Rattle.uc_terms.specs.Tables.{WellTyped}
+use Rattle.uc_terms.specs.Tables.{HasOp, WellTyped}
 use Rattle.uc_terms.specs.Values.{value as value_at, values_at}
 use Rattle.uc_lower.specs.Made.{Grows}
-use Rattle.uc_lower.proofs.Growing.{grows_not, grows_on, kept_values}
+use Rattle.uc_lower.proofs.Growing.{grows_not, grows_on, kept_values, kept_within, kept_op}
 use Rattle.uc_meaning.specs.Lookup.{System}
 use Rattle.uc_meaning.specs.Cells.{cell_of, cells_of}
 use Rattle.uc_meaning.specs.Steps.{state_of, main_next}
@@ -23,7 +26,7 @@ use Rattle.uc_meaning.specs.Fragment.{InFragment, variables, assigns, main_init}
 use Rattle.uc_meaning.proofs.Lists.{drop_turn}
 use Rattle.uc_runs.specs.Successors.{Move, move_of, cell_number, given, led, successor, first_state}
 use Rattle.uc_runs.proofs.Checks.{one_assigned, cell_found}
-use Rattle.uc_symbolic.specs.Terms.{IsPlain, Says, SayAll, choice, choices}
+use Rattle.uc_symbolic.specs.Terms.{IsPlain, Says, SayAll, AreSymbols, choice, choices}
 use Rattle.uc_symbolic.specs.Moves.{IsMove}
 use Rattle.uc_symbolic.proofs.Plain.{plain_within, all_kept_plain, says_same}
 use Rattle.uc_symbolic.proofs.Forms.{meaning_of}
@@ -49,6 +52,46 @@ choices_none n old ts w is = record {
   plain = subst (All (IsPlain n old)) (sym is) (All-nil (IsPlain n old));
   means = λ m. ap (values_at m old) is;
 }
+
+-- the same of the symbols themselves
+pub symbols_none : (old : List Node) (ts : List ℕ) → ts ≡ [] → AreSymbols old ts
+symbols_none old ts is = record {
+  there = subst (All (λ t. t < length old)) (sym is) (All-nil (λ t. t < length old));
+  each = λ k t at. no_element k t (sym (ap (λ xs. slice_get xs k) is) ∙ at);
+}
+  where
+    no_element : (k t : ℕ) → slice_get [] k ≡ Some t → HasOp old t (Symbol k BoolTy)
+    no_element k t at = cc
+
+pub kept_symbols : (old new : List Node) (ts : List ℕ) → Grows old new → AreSymbols old ts → AreSymbols new ts
+kept_symbols old new ts g a = record {
+  there = kept_within old new ts g a.there;
+  each = λ k t at. kept_op old new t (Symbol k BoolTy) g (there_at k t at) (a.each k t at);
+}
+  where
+    there_at : (k t : ℕ) → slice_get ts k ≡ Some t → t < length old
+    there_at k t at = subst (λ x. x < length old) (get_or_from_slice_get ts k t t at) (a.there k t (slice_get_within ts k t at))
+
+last_or_before : (ts : List ℕ) (t k x : ℕ) → slice_get (ts ++ t ∷ []) k ≡ Some x → (slice_get ts k ≡ Some x) ⊎ ((k ≡ length ts) × (x ≡ t))
+last_or_before [] t zero x at = inr (refl, cc)
+last_or_before [] t (suc k) x at = cc
+last_or_before (y ∷ ts) t zero x at = inl at
+last_or_before (y ∷ ts) t (suc k) x at = elim (last_or_before ts t k x at) [
+  | inl e ↦ inl e
+  | inr e ↦ inr (ap suc e.0, e.1)
+]
+
+pub symbols_more : (old new : List Node) (ts ts' : List ℕ) (k t : ℕ) → WellTyped old → length ts ≡ k → Grows old new → t < length new → AreSymbols old ts → HasOp new t (Symbol k BoolTy) → ts' ≡ ts ++ t ∷ [] → AreSymbols new ts'
+symbols_more old new ts ts' k t w count g l a has is = subst (AreSymbols new) (sym is) (record {
+  there = All-push (λ t. t < length new) ts t kept.there l;
+  each = λ j x at. elim (last_or_before ts t j x at) [
+    | inl e ↦ kept.each j x e
+    | inr e ↦ let j_is : k ≡ j = sym count ∙ sym e.0 in subst (λ n. HasOp new x (Symbol n BoolTy)) j_is (subst (λ y. HasOp new y (Symbol k BoolTy)) (sym e.1) has)
+  ];
+})
+  where
+    kept : AreSymbols new ts
+    kept = kept_symbols old new ts g a
 
 -- a cell that is set
 set_cells : (m : Model) (nodes : List Node) (cells cells' : List ℕ) (k t : ℕ) → cells' ≡ slice_set cells k t → values_at m nodes cells' ≡ slice_set (values_at m nodes cells) k (value_at m nodes t)

@@ -1,5 +1,5 @@
 -- Terms that are boolean throughout, and what they say under a model.
-use Rattle.std.specs.Prelude.{◌≡◌, ℕ, zero, suc, ◌<◌, List, [], ◌∷◌, ◌++◌, length, slice_get, All}
+use Rattle.std.specs.Prelude.{◌≡◌, ℕ, zero, suc, ◌<◌, List, [], ◌∷◌, ◌++◌, length, slice_get, Some, All}
 use Rattle.uc_values.specs.declared.ty.Ty.{Ty}
 use Rattle.uc_values.specs.declared.ty.Ty.TheVariants.{Bool}
 use Rattle.uc_values.specs.declared.value.Value.{Value}
@@ -36,6 +36,11 @@ pub record SayAll (n : ℕ) (old new : List Node) (ts : List ℕ) (meanings : Mo
   pub grown : Grows old new
   pub plain : All (IsPlain n new) ts
   pub means : (m : Model) → values_at m new ts ≡ meanings m
+
+-- the terms are the boolean symbols of the numbers from 0 on
+pub record AreSymbols (nodes : List Node) (ts : List ℕ) : Type 0 where
+  pub there : All (λ t. t < length nodes) ts
+  pub each : (k t : ℕ) → slice_get ts k ≡ Some t → HasOp nodes t (Symbol k Bool)
 
 -- the truth value that a model gives to a symbol
 abbrev pub choice : Model → ℕ → Value

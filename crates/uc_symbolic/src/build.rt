@@ -5,7 +5,9 @@ ghost use Rattle.std.specs.List.{list_any};
 ghost use Rattle.uc_values.specs.Values.{truth_of};
 ghost use Rattle.uc_values.specs.declared.value.Value.TheVariants.{Bool as Truth};
 ghost use Rattle.uc_ops.specs.Typing.{Suits, types_at};
-ghost use Rattle.uc_terms.specs.Tables.{WellTyped};
+ghost use Rattle.uc_terms.specs.Tables.{HasOp, WellTyped};
+ghost use Rattle.uc_ops.specs.declared.op.Op.TheVariants.{Symbol};
+ghost use Rattle.uc_values.specs.declared.ty.Ty.TheVariants.{Bool};
 ghost use Rattle.uc_terms.specs.Values.{value, values_at};
 ghost use Rattle.uc_lower.specs.Made.{Grows, IsMade, Within};
 ghost use Rattle.uc_symbolic.specs.Terms.{IsTruth, IsPlain, Says, choice};
@@ -45,6 +47,7 @@ pub(crate) fn literal(alloc: Global, terms: &mut Terms, b: bool) -> Result<TermI
 /// The symbol of a number.
 pub(crate) fn symbol(alloc: Global, terms: &mut Terms, number: u32) -> Result<TermId, AllocError>
     ensures says { IfOk result (λ t. (n : ℕ) → number < n → Says n terms.old terms.new t (λ m. choice m number)) }
+    ensures has { IfOk result (λ t. HasOp terms.new t (Symbol number Bool)) }
     ensures grown { Grows terms.old terms.new }
 {
     let t = made(alloc, terms, Op::Symbol(number, Ty::Bool), &[])?;

@@ -8,7 +8,7 @@ ghost use Rattle.uc_meaning.specs.Expressions.{value};
 ghost use Rattle.uc_meaning.specs.Steps.{state_of};
 ghost use Rattle.uc_meaning.specs.Fragment.{variables, assigns};
 ghost use Rattle.uc_runs.specs.Successors.{first_state, successor, move_of};
-ghost use Rattle.uc_symbolic.specs.Terms.{IsPlain, Says, SayAll, choices};
+ghost use Rattle.uc_symbolic.specs.Terms.{IsPlain, SayAll, AreSymbols, choices};
 ghost use Rattle.uc_symbolic.specs.Moves.{IsMove};
 
 use crate::build::symbol;
@@ -23,6 +23,7 @@ use uc_terms::{TermId, Terms};
 pub fn choices(alloc: Global, terms: &mut Terms, count: u32) -> Result<Items<TermId>, AllocError>
     ensures say { IfOk result (λ ts. SayAll count terms.old terms.new ts (choices count)) }
     ensures count { IfOk result (λ ts. length ts ≡ count) }
+    ensures symbols { IfOk result (AreSymbols terms.new) }
     ensures grown { Grows terms.old terms.new }
 {
     let _well_typed = terms.nodes();

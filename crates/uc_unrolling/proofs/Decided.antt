@@ -1,11 +1,11 @@
 -- From what the solver answers to a verdict on a formula.
-use Rattle.std.specs.Prelude.{◌≡◌, ◌≢◌, ℕ, zero, suc, ◌+◌, ◌<◌, ◌≤◌, ◌^◌, Bool as Truth, true, false, not, ◌&&◌, List, [], ◌∷◌, ◌++◌, length, take, get_or, slice_get, Option, Some, None, All, nat_le, Err, Result}
+use Rattle.std.specs.Prelude.{◌≡◌, ◌≢◌, ℕ, zero, suc, ◌+◌, ◌<◌, ◌≤◌, ◌^◌, Bool as Truth, true, false, not, ◌&&◌, List, [], ◌∷◌, ◌++◌, length, take, get_or, slice_get, Option, Some, None, All, Contains}
 use Rattle.std.specs.Option.{option_map}
 use Rattle.std.specs.List.{list_all}
-use Rattle.std.proofs.Common.{refl, sym, ap, ◌∙◌, subst, arith, length-append}
-use Rattle.std.proofs.lemmas.Bool.Decides.{nat_tests}
+use Rattle.std.proofs.Common.{refl, sym, ap, ◌∙◌, subst, arith, length-append, inl, inr}
 use Rattle.std.proofs.lemmas.List.{take_more, take_all}
-use Rattle.std.proofs.lemmas.Option.{slice_get-get_or}
+use Rattle.std.proofs.lemmas.Option.{slice_get-get_or, slice_get_within, get_or_from_slice_get}
+use Rattle.std.proofs.lemmas.List.Elements.{All-head, All-tail}
 use Rattle.std.proofs.lemmas.Grind.{list_all-append}
 use Rattle.uc_syntax.specs.declared.expression.Expr.{Expr}
 use Rattle.uc_values.specs.declared.ty.Ty.{Ty}
@@ -17,15 +17,19 @@ use Rattle.uc_values.proofs.Shapes.{and_true}
 use Rattle.uc_ops.specs.declared.model.Model.{Model}
 use Rattle.uc_ops.specs.declared.op.Op.TheVariants.{Symbol, App}
 use Rattle.uc_ops.specs.declared.node.Node.{Node}
-use Rattle.uc_ops.specs.Typing.{type_at, type_in, type_of, types_at}
+use Rattle.uc_ops.specs.Typing.{Suits, type_at, type_in, type_of, types_at}
 use Rattle.uc_ops.specs.Meaning.{fitting}
 use Rattle.uc_ops.proofs.Lists.{at_place}
 use Rattle.uc_ops.proofs.Fitting.{fitting-fits}
-use Rattle.uc_terms.specs.Tables.{HasOp, WellTyped}
+use Rattle.uc_terms.specs.Tables.{HasOp, WellTyped, NoTwoEqual}
 use Rattle.uc_terms.specs.Values.{value as value_at, values_at}
 use Rattle.uc_terms.specs.Subterms.{IsSubterm, EvenlyTyped, FitsTerm}
 use Rattle.uc_terms.specs.Laws.{IsModelOf}
+use Rattle.uc_values.specs.Sizes.{bit_count}
+use Rattle.uc_lower.specs.Bits.{bits_or, bits_at, IsSymbolBelow}
+use Rattle.uc_unrolling.proofs.Below.{Is, is_below, kept}
 use Rattle.uc_lower.specs.Made.{Grows, HasBits}
+use Rattle.uc_solver.specs.Stands.{HasBitsUpTo}
 use Rattle.uc_lower.specs.Lowering.{IsFiniteTerm}
 use Rattle.uc_lower.proofs.Growing.{grows_not, kept_value, kept_values, was_subterm}
 use Rattle.uc_meaning.specs.Lookup.{System}
@@ -36,11 +40,12 @@ use Rattle.uc_meaning.specs.Fragment.{InFragment}
 use Rattle.uc_meaning.specs.declared.line.Trace.{Trace}
 use Rattle.uc_meaning.specs.declared.scope.State.{State}
 use Rattle.uc_meaning.proofs.Judged.{state_fits, state_sized, state_truths}
-use Rattle.uc_runs.specs.Successors.{scope_in, first_state, state_after}
+use Rattle.uc_runs.specs.Successors.{scope_in, successor, first_state, state_after}
 use Rattle.uc_runs.specs.Trails.{FalseAfter, IsOutcome, trace_of}
-use Rattle.uc_symbolic.specs.Terms.{IsPlain, Says, choice, choices}
+use Rattle.uc_symbolic.specs.Terms.{IsPlain, Says, SayAll, AreSymbols, choice, choices}
 use Rattle.uc_symbolic.proofs.Plain.{kept_plain, all_kept_plain, plain_within}
 use Rattle.uc_symbolic.proofs.Forms.{meaning_of, holds_is}
+use Rattle.uc_symbolic.proofs.Steps.{kept_symbols}
 use Rattle.uc_unrolling.specs.Deciding.{AreCellsAfter}
 
 -- Choices.
@@ -174,7 +179,107 @@ no_outcome system f steps old mid new last cells h g formula after a b grown nev
 
 pub after_grows : (system : System) (steps : ℕ) (old new : List Node) (cells : List ℕ) → WellTyped old → Grows old new → AreCellsAfter system steps old cells → AreCellsAfter system steps new cells
 after_grows system steps old new cells w g a = record {
+  symbols = a.symbols;
+  are = kept_symbols old new a.symbols g a.are;
+  many = a.many;
   plain = all_kept_plain (length (cells_of system)) old new cells w g a.plain;
   count = a.count;
   means = λ m. kept_values m old new cells g (plain_within (length (cells_of system)) old cells a.plain) ∙ a.means m;
+}
+
+-- The symbols of a plain term are among those of the first numbers.
+
+no_types : (nodes : List Node) (parts : List ℕ) → types_at nodes parts ≡ [] → parts ≡ []
+no_types nodes [] h = refl
+no_types nodes (p ∷ ps) h = cc
+
+-- a node that is a symbol has no parts
+abbrev SymbolNode : List Node → ℕ → ℕ → Ty → Type 0
+SymbolNode nodes k number ty = (node : Node) × (slice_get nodes k ≡ Some node) × (node.op ≡ Symbol number ty) × (node.parts ≡ [])
+
+symbol_node : (nodes : List Node) (k number : ℕ) (ty : Ty) → WellTyped nodes → k < length nodes → HasOp nodes k (Symbol number ty) → SymbolNode nodes k number ty
+symbol_node nodes k number ty w l has =
+    let r = at_place nodes k l in
+    let same : Some r.0.op ≡ Some (Symbol number ty) = sym (ap (option_map (λ n. n.op)) r.1) ∙ has in
+    let op : r.0.op ≡ Symbol number ty = cc in
+    (r.0, r.1, op, no_types nodes r.0.parts (subst (λ o. Suits o (types_at nodes r.0.parts)) op (w k r.0 r.1).suits).0)
+
+one_symbol : (nodes : List Node) (j k number : ℕ) (ty : Ty) → WellTyped nodes → NoTwoEqual nodes → j < length nodes → k < length nodes → HasOp nodes j (Symbol number ty) → HasOp nodes k (Symbol number ty) → j ≡ k
+one_symbol nodes j k number ty w shared lj lk hj hk =
+    let a = symbol_node nodes j number ty w lj hj in
+    let b = symbol_node nodes k number ty w lk hk in
+    shared j k a.0 b.0 a.1 b.1 (a.2 ∙ sym b.2) (a.3 ∙ sym b.3)
+
+all_bits : (nodes : List Node) (ts : List ℕ) → All (λ t. type_at nodes t ≡ Bool) ts → bits_at nodes ts ≤ length ts
+all_bits nodes [] h = omega arith
+all_bits nodes (t ∷ ts) h =
+    let e : bits_or (bit_count (type_at nodes t)) ≡ 1 = ap (λ ty. bits_or (bit_count ty)) (All-head (λ t. type_at nodes t ≡ Bool) t ts h) ∙ boolean_count in
+    omega (arith, e, all_bits nodes ts (All-tail (λ t. type_at nodes t ≡ Bool) t ts h))
+  where
+    boolean_count : bits_or (bit_count Bool) ≡ 1
+    boolean_count = refl
+
+pub plain_bits : (nodes : List Node) (t : ℕ) (symbols : List ℕ) → WellTyped nodes → NoTwoEqual nodes → AreSymbols nodes symbols → IsPlain (length symbols) nodes t → HasBitsUpTo nodes t (length symbols)
+plain_bits nodes t symbols w shared are p =
+    let just = kept nodes (IsSymbolBelow nodes t) symbols is_symbol in
+    record {
+      symbols = just.list;
+      only = just.only;
+      all = λ k s.
+          let ty : s.symbol.ty ≡ Bool = sym (symbol_type nodes k s.symbol.number s.symbol.ty w (inside (length symbols) nodes t k w p s.below) s.symbol.has) ∙ p.boolean k s.below in
+          let l : s.symbol.number < length symbols = p.below k s.symbol.number s.symbol.ty s.below s.symbol.has in
+          let r = at_place symbols s.symbol.number l in
+          let here : r.0 < length nodes = subst (λ x. x < length nodes) (get_or_from_slice_get symbols s.symbol.number r.0 r.0 r.1) (are.there s.symbol.number r.0 l) in
+          let same : r.0 ≡ k = one_symbol nodes r.0 k s.symbol.number Bool w shared here (inside (length symbols) nodes t k w p s.below) (are.each s.symbol.number r.0 r.1) (subst (λ y. HasOp nodes k (Symbol s.symbol.number y)) ty s.symbol.has) in
+          just.all k (subst (Contains symbols) same (contains_at symbols s.symbol.number r.0 r.1)) s;
+      few = omega (arith, just.few, all_bits nodes symbols booleans);
+    }
+  where
+    booleans : All (λ t. type_at nodes t ≡ Bool) symbols
+    booleans k d l =
+        let e : slice_get symbols k ≡ Some (get_or symbols k d) = slice_get-get_or symbols k d l in
+        symbol_type nodes (get_or symbols k d) k Bool w (are.there k d l) (are.each k (get_or symbols k d) e)
+
+    is_symbol : (x : ℕ) → Contains symbols x → Is (IsSymbolBelow nodes t x)
+    is_symbol x c = elim (is_below nodes w x t p.there) [
+      | inl s ↦ inl (record { below = s; symbol = record { number = c.0; ty = Bool; has = are.each c.0 x (slice_get-get_or symbols c.0 x c.1 ∙ ap Some c.2) } })
+      | inr no ↦ inr (λ s. no s.below)
+    ]
+
+    contains_at : (xs : List ℕ) (k x : ℕ) → slice_get xs k ≡ Some x → Contains xs x
+    contains_at xs k x h = (k, slice_get_within xs k x h, get_or_from_slice_get xs k x x h)
+
+-- the goal has no more bits than there are cells
+pub goal_bits : (system : System) (steps : ℕ) (old new : List Node) (cells : List ℕ) (g : ℕ) → Grows old new → NoTwoEqual new → AreCellsAfter system steps old cells → IsPlain (length (cells_of system)) new g → HasBitsUpTo new g (length (cells_of system))
+goal_bits system steps old new cells g grown shared a p =
+    subst (HasBitsUpTo new g) a.many (plain_bits new g a.symbols grown.well shared (kept_symbols old new a.symbols grown a.are) (subst (λ n. IsPlain n new g) (sym a.many) p))
+
+-- the cells after one more step
+pub after_step : (system : System) (steps : ℕ) (old new : List Node) (cells next : List ℕ) → AreCellsAfter system steps old cells → SayAll (length (cells_of system)) old new next (λ m. (successor system (state_of (values_at m old cells))).cells)
+    → length next ≡ length (cells_of system) → AreCellsAfter system (steps + 1) new next
+unfolding state_after
+after_step system steps old new cells next a say count = record {
+  symbols = a.symbols;
+  are = kept_symbols old new a.symbols say.grown a.are;
+  many = a.many;
+  plain = say.plain;
+  count = count;
+  means = λ m.
+      let more : suc steps ≡ steps + 1 = omega arith in
+      say.means m
+      ∙ ap (λ vs. (successor system (state_of vs)).cells) (a.means m)
+      ∙ ap (λ k. (state_after system k (first_state system (choices (length (cells_of system)) m))).cells) more;
+}
+
+-- the cells after all init code
+pub after_init : (system : System) (n : ℕ) (none old new : List Node) (before cells : List ℕ) → n ≡ length (cells_of system) → SayAll n none old before (choices n) → AreSymbols old before → length before ≡ n
+    → SayAll (length (cells_of system)) old new cells (λ m. (first_state system (values_at m old before)).cells) → length cells ≡ length (cells_of system) → AreCellsAfter system 0 new cells
+unfolding state_after
+after_init system n none old new before cells is chosen are many say count = record {
+  symbols = before;
+  are = kept_symbols old new before say.grown are;
+  many = many ∙ is;
+  plain = say.plain;
+  count = count;
+  means = λ m. say.means m ∙ ap (λ vs. (first_state system vs).cells) (chosen.means m) ∙ ap (λ k. (first_state system (choices k m)).cells) is;
 }

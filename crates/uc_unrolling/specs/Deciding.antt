@@ -14,12 +14,15 @@ use Rattle.uc_runs.specs.Successors.{first_state, state_after}
 use Rattle.uc_runs.specs.Trails.{IsOutcome}
 use Rattle.uc_solver.specs.declared.answer.SolveError.{SolveError}
 use Rattle.uc_solver.specs.declared.answer.SolveError.TheVariants.{NoMemory as SolverMemory, Budget as SolverBudget}
-use Rattle.uc_symbolic.specs.Terms.{IsPlain, choices}
+use Rattle.uc_symbolic.specs.Terms.{IsPlain, AreSymbols, choices}
 use Rattle.uc_unrolling.specs.declared.deciding.Stop.{Stop}
 use Rattle.uc_unrolling.specs.declared.deciding.Stop.TheVariants.{NoMemory as StopMemory, Budget as StopBudget}
 
--- under every model the cells are those to which the choices of the model lead by so many steps
+-- Under every model the cells are those to which the choices of the model lead by so many steps. The choices are symbols of the table.
 pub record AreCellsAfter (system : System) (steps : ℕ) (nodes : List Node) (cells : List ℕ) : Type 0 where
+  pub symbols : List ℕ
+  pub are : AreSymbols nodes symbols
+  pub many : length symbols ≡ length (cells_of system)
   pub plain : All (IsPlain (length (cells_of system)) nodes) cells
   pub count : length cells ≡ length (cells_of system)
   pub means : (m : Model) → values_at m nodes cells ≡ (state_after system steps (first_state system (choices (length (cells_of system)) m))).cells

@@ -43,7 +43,7 @@ AcceptedRuns =
     (files : List (List ℕ)) (held : List ℕ → Option (List ℕ)) (system : System) (texts_faults texts_faults_now : ℕ) (sink_tells : Bool) (taken taken_now : List ℕ) (faults faults_now : ℕ) (o : Outcome) →
     is_form files ≡ true → IsAccepted held files system →
     Ends true files held texts_faults texts_faults_now sink_tells taken taken_now faults faults_now o →
-    (HasSession system o × ((o.status ≡ 0) ⊎ (o.status ≡ 1))) ⊎ EndedByFault texts_faults texts_faults_now faults faults_now o ⊎ (o.status ≡ 7)
+    (HasSession system o × ((o.status ≡ 0) ⊎ (o.status ≡ 1) ⊎ (o.status ≡ 2))) ⊎ EndedByFault texts_faults texts_faults_now faults faults_now o ⊎ (o.status ≡ 7)
 
 -- Where they are refused, a run on them ends with status 3 and without a session, but for the same.
 abbrev pub RefusedRuns : Type 0
@@ -60,13 +60,13 @@ AllPassed command report = All (λ l. l.command ≡ command → is_passed l.verd
 -- Where a later `check` follows an induction, and all of its lines passed: every invariant and hyperinvariant holds in all runs, and no run lists any site.
 abbrev pub PassedInduction : Type 0
 PassedInduction =
-    (system : System) (report : Report) (place : Place) (name : Option Identifier) (depth : Option ℕ) (before after : List Command) → InstancesApart system → 1 ≤ depth_of depth →
+    (system : System) (budget : ℕ) (report : Report) (place : Place) (name : Option Identifier) (depth : Option ℕ) (before after : List Command) → InstancesApart system → 1 ≤ depth_of depth →
     commands_of system ≡ before ++ (Run place name (Induction depth) ∷ after) → list_any is_check after ≡ true →
-    IsReport system report → AllPassed (length before) report → HoldsAlways system
+    IsReport system budget report → AllPassed (length before) report → HoldsAlways system
 
 -- The same of an unrolling, for the runs of at most so many steps.
 abbrev pub PassedUnroll : Type 0
 PassedUnroll =
-    (system : System) (report : Report) (place : Place) (name : Option Identifier) (depth : ℕ) (before after : List Command) → InstancesApart system →
+    (system : System) (budget : ℕ) (report : Report) (place : Place) (name : Option Identifier) (depth : ℕ) (before after : List Command) → InstancesApart system →
     commands_of system ≡ before ++ (Run place name (Unroll depth) ∷ after) → list_any is_check after ≡ true →
-    IsReport system report → AllPassed (length before) report → HoldsUpTo system depth
+    IsReport system budget report → AllPassed (length before) report → HoldsUpTo system depth
