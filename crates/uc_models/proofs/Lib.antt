@@ -1,0 +1,4 @@
+pub mod Giving
+pub mod Setting
+pub mod Reading
+pub mod Fitted
