@@ -132,7 +132,7 @@ took : (ty : Ty) (values : List Value) (f : Value × List Value → Placed) (q :
 took ty [] f q h = cc
 took ty (v ∷ rest) f q h = taken_if ty v rest f q (fits ty v) refl h
 
-fitting_is : (ty : Ty) (v : Value) → fits ty v ≡ true → fitting ty (Some v) ≡ v
+pub fitting_is : (ty : Ty) (v : Value) → fits ty v ≡ true → fitting ty (Some v) ≡ v
 fitting_is ty v h = ap (λ b. if b then v else zero_of ty) h
 
 -- the free value of a number, where it stands first
@@ -186,10 +186,10 @@ havoc_finds m types k false p q h =
 good_havoc : (m : Model) (types : List Ty) (k : ℕ) (listed : Truth) → Good m types (Havoc k listed)
 good_havoc m types k listed p q h = havoc_finds m types k listed p q (sym (runs_havoc m types k listed p) ∙ h)
 
-front_stands : (list : List Value) (a : ℕ) (f g : List Value) → StandAt list a (f ++ g) → StandAt list a f
+pub front_stands : (list : List Value) (a : ℕ) (f g : List Value) → StandAt list a (f ++ g) → StandAt list a f
 front_stands list a f g h k l = h k (omega (arith, l, length-append f g)) ∙ slice_get-front f g k l
 
-back_stands : (list : List Value) (a b : ℕ) (f g : List Value) → b ≡ a + length f → StandAt list a (f ++ g) → StandAt list b g
+pub back_stands : (list : List Value) (a b : ℕ) (f g : List Value) → b ≡ a + length f → StandAt list a (f ++ g) → StandAt list b g
 back_stands list a b f g e h k l = ap (slice_get list) (omega (arith, e)) ∙ h (length f + k) (omega (arith, l, length-append f g)) ∙ slice_get-back f g k
 
 statement_next : (m : Model) (types : List Ty) (x : Statement) (list : List Value) (r : Drawn) → (go m types list x r).next ≡ r.next + draws x

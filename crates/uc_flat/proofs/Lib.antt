@@ -6,3 +6,6 @@ pub mod Ordering
 pub mod Choosing
 pub mod Finding
 pub mod Constants
+pub mod Repeating
+pub mod Making
+pub mod Executing

@@ -5,3 +5,6 @@ pub mod Fine
 pub mod Running
 pub mod Order
 pub mod Laws
+pub mod Flats
+pub mod Unrolled
+pub mod Executions

@@ -1,6 +1,7 @@
 //! Laws of code over free values, and of ordered statements.
 
 ghost use Rattle.uc_flat.specs.Laws.{ExtendsLaw, KeepsLaw, CountsLaw, ConstantsLaw, RunsLaw, FindsLaw, OrderAllowsLaw, AllowsOrderLaw};
+ghost use Rattle.uc_flat.specs.Executions.{InitialLaw, InitialFoundLaw, StepLaw, StepFoundLaw};
 
 /// Code behind the free values that were read before.
 pub fn extends()
@@ -40,4 +41,24 @@ pub fn order_allows()
 /// A constraint as statements in order.
 pub fn allows_order()
     ensures { AllowsOrderLaw }
+{}
+
+/// Init code that goes on free values gives an initial state.
+pub fn initial_states()
+    ensures { InitialLaw }
+{}
+
+/// Each initial state is found on free values.
+pub fn initial_states_found()
+    ensures { InitialFoundLaw }
+{}
+
+/// A step's code that goes on free values gives a step.
+pub fn steps()
+    ensures { StepLaw }
+{}
+
+/// Each step is found on free values.
+pub fn steps_found()
+    ensures { StepFoundLaw }
 {}
