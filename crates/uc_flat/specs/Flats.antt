@@ -1,0 +1,34 @@
+-- Designs over numbered cells: the types of the cells, and which designs are sound.
+use Rattle.std.specs.Prelude.{◌≡◌, ℕ, zero, suc, ◌≤◌, List, [], ◌++◌, map, length, take, All}
+use Rattle.uc_values.specs.declared.ty.Ty.{Ty}
+use Rattle.uc_ops.specs.Typing.{AllValid}
+use Rattle.uc_flat.specs.declared.flat.Flat.{Flat}
+use Rattle.uc_flat.specs.declared.flat.Formula.{Formula}
+use Rattle.uc_flat.specs.Fine.{AreFine, IsTest, ReadsBelow, CodeReadsBelow}
+
+abbrev pub cell_types : Flat → List Ty
+cell_types f = map (λ c. c.ty) f.cells
+
+-- the types, so many times over
+unfoldable pub repeated : ℕ → List Ty → List Ty
+repeated zero types = []
+repeated (suc n) types = types ++ repeated n types
+
+abbrev pub axioms_of : Flat → List Formula
+axioms_of f = take f.axioms f.formulas
+
+-- a formula is a condition on the cells of its copies, and reads only constants that there are
+pub record IsFormula (f : Flat) (x : Formula) : Type 0 where
+  pub test : IsTest (repeated x.copies (cell_types f)) x.condition
+  pub reads : ReadsBelow (length f.constants) x.condition
+
+-- The types of the cells are types, all code and formulas fit them and read only constants that there are, and axioms speak of no copy.
+pub record IsSound (f : Flat) : Type 0 where
+  pub valid : AllValid (cell_types f)
+  pub init : AreFine (cell_types f) f.init
+  pub init_reads : CodeReadsBelow (length f.constants) f.init
+  pub step : AreFine (cell_types f ++ cell_types f) f.step
+  pub step_reads : CodeReadsBelow (length f.constants) f.step
+  pub formulas : All (IsFormula f) f.formulas
+  pub axioms : f.axioms ≤ length f.formulas
+  pub no_copy : All (λ x. x.copies ≡ 0) (axioms_of f)

@@ -1,0 +1,10 @@
+pub mod Reading
+pub mod Drawn
+pub mod Counts
+pub mod Fine
+pub mod Running
+pub mod Order
+pub mod Laws
+pub mod Flats
+pub mod Unrolled
+pub mod Executions

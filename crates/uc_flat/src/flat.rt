@@ -1,0 +1,109 @@
+//! A design over numbered cells.
+
+ghost use Rattle.std.specs.Prelude.{◌≡◌, ◌++◌, IfOk};
+ghost use Rattle.uc_flat.specs.Flats.{cell_types, repeated};
+
+use crate::expression::Expression;
+use crate::statement::Statement;
+use std::alloc::{AllocError, Global};
+use uc_items::Items;
+use uc_values::{Ty, copy_ty};
+
+/// A cell: the names of the instances from main down to its own, its name there, and its type.
+#[derive(Drop)]
+pub struct Cell {
+    pub path: Items<u32>,
+    pub name: u32,
+    pub ty: Ty,
+}
+
+#[derive(Drop)]
+pub struct Constant {
+    pub name: u32,
+    pub ty: Ty,
+}
+
+#[derive(Drop)]
+pub struct Function {
+    pub name: u32,
+    pub arguments: Items<Ty>,
+    pub result: Ty,
+}
+
+/// An assertion, which has number 0, or a `requires` of a call, numbered from 1, at a line and a column of its module's text.
+#[derive(Drop)]
+pub struct Site {
+    pub path: Items<u32>,
+    pub line: u32,
+    pub column: u32,
+    pub requires_: u32,
+}
+
+/// An axiom or a formula of an instance: the place of its declaration, of how many copies it speaks, and its condition over the cells of all copies, one copy after another. An axiom speaks of none.
+#[derive(Drop)]
+pub struct Formula {
+    pub path: Items<u32>,
+    pub decl: u32,
+    pub copies: u32,
+    pub condition: Expression,
+}
+
+#[derive(Drop)]
+pub struct Flat {
+    pub cells: Items<Cell>,
+    pub constants: Items<Constant>,
+    pub functions: Items<Function>,
+    /// All init code, over the cells.
+    pub init: Items<Statement>,
+    /// A step's code, over the old cells and, after them, the new cells. What is read of a new cell is written before.
+    pub step: Items<Statement>,
+    pub sites: Items<Site>,
+    /// The axioms, and then the formulas.
+    pub formulas: Items<Formula>,
+    pub axioms: u32,
+}
+
+/// The types of the cells, in order.
+pub fn types_of_cells(alloc: Global, f: &Flat) -> Result<Items<Ty>, AllocError>
+    ensures { IfOk result (λ types. types ≡ cell_types f.now) }
+{
+    let mut types = Items::new(alloc);
+    let cells = f.cells.as_slice();
+    for cell in cells {
+        types.push(copy_ty(alloc, &cell.ty)?)?;
+    }
+    Ok(types)
+}
+
+/// The same types again.
+fn copy_types(alloc: Global, types: &[Ty]) -> Result<Items<Ty>, AllocError>
+    ensures { IfOk result (λ all. all ≡ types.now) }
+{
+    let mut all = Items::new(alloc);
+    for ty in types {
+        all.push(copy_ty(alloc, ty)?)?;
+    }
+    Ok(all)
+}
+
+/// The types, and the same again.
+pub fn twice_types(alloc: Global, types: &[Ty]) -> Result<Items<Ty>, AllocError>
+    ensures { IfOk result (λ all. all ≡ types.now ++ types.now) }
+{
+    let mut all = copy_types(alloc, types)?;
+    let more = copy_types(alloc, types)?;
+    all.append(more)?;
+    Ok(all)
+}
+
+/// The types, so many times over.
+pub fn repeat_types(alloc: Global, types: &[Ty], n: u32) -> Result<Items<Ty>, AllocError>
+    ensures { IfOk result (λ all. all ≡ repeated n types.now) }
+{
+    let mut all = Items::new(alloc);
+    for turn in 0..n {
+        let more = copy_types(alloc, types)?;
+        all.append(more)?;
+    }
+    Ok(all)
+}

@@ -1,0 +1,17 @@
+//! Statements over numbered cells.
+
+use crate::expression::Expression;
+use uc_items::Items;
+
+#[derive(Drop)]
+pub enum Statement {
+    /// A cell takes a value.
+    Assign(u32, Expression),
+    /// A cell takes any value of its type. The flag tells whether that value is listed as a choice.
+    Havoc(u32, bool),
+    Assume(Expression),
+    /// The number of the site, and what is to be true there.
+    Assert(u32, Expression),
+    /// The condition, the statements where it is true, and those where it is false.
+    If(Expression, Items<Statement>, Items<Statement>),
+}
