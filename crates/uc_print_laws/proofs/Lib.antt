@@ -7,3 +7,4 @@ pub mod Distinct
 pub mod Worded
 pub mod Again
 pub mod Numbered
+pub mod Parsed

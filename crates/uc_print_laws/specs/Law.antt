@@ -89,3 +89,9 @@ TextIsReadBack = (levels limit : ℕ) (names after : List (List ℕ)) (modules :
 abbrev pub TextKeepsNames : Type 0
 TextKeepsNames = (names : List (List ℕ)) (modules : List Module) (file : ℕ) (tokens : List Token) → HaveSpellings names (modules_words modules).words → AreNumbered names (modules_words modules).words
     → Tokens file (design_text names modules) tokens → with_tokens names (design_text names modules) tokens ≡ names
+
+-- What the words of a text spell is shaped under the names of these words, and nests no deeper than they do. The names have
+-- all that is printed. So whatever was read is printed and read again, with no new names.
+abbrev pub ParsedIsShaped : Type 0
+ParsedIsShaped = (names : List (List ℕ)) (file : ℕ) (text : List ℕ) (words : List Word) (levels : ℕ) (modules : List Module) → IsText names file text words
+    → Spells grammar.rule levels grammar.text words modules → IsShaped names modules × ((modules_words modules).depth ≤ levels) × AreNumbered names (modules_words modules).words

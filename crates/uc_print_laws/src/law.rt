@@ -1,6 +1,6 @@
 //! The laws of printed texts, as contracts of functions that compute nothing.
 
-ghost use Rattle.uc_print_laws.specs.Law.{TextIsLexed, TextIsReadBack, TextIsSpelled, TextKeepsNames, TextShowsWords};
+ghost use Rattle.uc_print_laws.specs.Law.{ParsedIsShaped, TextIsLexed, TextIsReadBack, TextIsSpelled, TextKeepsNames, TextShowsWords};
 
 use uc_grammar::Modules;
 
@@ -35,3 +35,10 @@ pub fn text_is_read_back()
 pub fn text_keeps_names()
     ensures { TextKeepsNames }
 {}
+
+/// A law of the definitions: what the words of a text spell is shaped, so that it is printed and read again.
+pub fn parsed_is_shaped()
+    ensures { ParsedIsShaped }
+{
+    uc_shaped::spelled_is_shaped();
+}
