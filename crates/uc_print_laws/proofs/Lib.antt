@@ -1,0 +1,10 @@
+pub mod Blanks
+pub mod Numerals
+pub mod Fixed
+pub mod Lines
+pub mod Lexed
+pub mod Distinct
+pub mod Worded
+pub mod Again
+pub mod Numbered
+pub mod Parsed

@@ -1,0 +1,44 @@
+//! The laws of printed texts, as contracts of functions that compute nothing.
+
+ghost use Rattle.uc_print_laws.specs.Law.{ParsedIsShaped, TextIsLexed, TextIsReadBack, TextIsSpelled, TextKeepsNames, TextShowsWords};
+
+use uc_grammar::Modules;
+
+/// A law of the definitions: the tokens of a printed text are the printed words.
+pub fn text_is_lexed()
+    ensures { TextIsLexed }
+{}
+
+/// A law of the definitions: the words of a printed text are the printed words.
+pub fn text_shows_words()
+    ensures { TextShowsWords }
+{}
+
+/// A law of the definitions: the printed text of modules that are shaped spells them again, places and files aside.
+pub fn text_is_spelled()
+    ensures { TextIsSpelled }
+{
+    uc_printed::modules_are_spelled();
+}
+
+/// A law of the definitions: what is read of a printed text is what was printed, places and files aside.
+pub fn text_is_read_back()
+    ensures { TextIsReadBack }
+{
+    uc_grammar::spells_one_list();
+    uc_grammar::stands_alike();
+    uc_forms::levels_bound_depths::<Modules>();
+    uc_printed::modules_are_spelled();
+}
+
+/// A law of the definitions: reading a printed text adds no names where those that the grammar knows are there.
+pub fn text_keeps_names()
+    ensures { TextKeepsNames }
+{}
+
+/// A law of the definitions: what the words of a text spell is shaped, so that it is printed and read again.
+pub fn parsed_is_shaped()
+    ensures { ParsedIsShaped }
+{
+    uc_shaped::spelled_is_shaped();
+}

@@ -1,0 +1,10 @@
+pub mod Good
+pub mod Coded
+pub mod Steps
+pub mod Nest
+pub mod Types
+pub mod Levels
+pub mod Expressions
+pub mod Statements
+pub mod Declarations
+pub mod Nested
