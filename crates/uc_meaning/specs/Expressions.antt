@@ -309,10 +309,10 @@ selected system elsewhere (OnBits function arguments) selections s = select_all 
 selected system elsewhere (Old x) selections s = select_all s (name system elsewhere (at_entry s) x.name false) selections
 selected system elsewhere (Grouped e) selections s = select_all s (e s) selections
 
--- a conditional: the value of the first arm whose condition holds, else what stands behind the last `else`
+-- a conditional: the first arm whose condition holds, else what stands behind the last `else`; all of them have one type
 abbrev pub chosen : List (Branch Part) → Part → Part
 chosen [] otherwise s = otherwise s
-chosen (b ∷ bs) otherwise s = reads (b.value s).type (if holds (b.condition s).value then (b.value s).value else (chosen bs otherwise s).value)
+chosen (b ∷ bs) otherwise s = if holds (b.condition s).value then b.value s else chosen bs otherwise s
 
 -- an expression, by what its parts say
 abbrev pub reading_form : System → Elsewhere → Expr-F Part → Part

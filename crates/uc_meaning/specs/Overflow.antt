@@ -22,7 +22,7 @@ use Rattle.uc_meaning.specs.declared.scope.Scope.{Scope}
 use Rattle.uc_meaning.specs.Lookup.{System}
 use Rattle.uc_meaning.specs.Cells.{longest_chain}
 use Rattle.uc_meaning.specs.Operators.{holds, plus, minus, product}
-use Rattle.uc_meaning.specs.Expressions.{Part, Elsewhere, Source, OfBinding, Reached, reached, meaning_of, Applied, OfDefine, applied, at_entry, reading_form, elsewhere}
+use Rattle.uc_meaning.specs.Expressions.{Part, Elsewhere, Source, OfBinding, Reached, reached, meaning_of, Applied, OfDefine, applied, at_entry, reading_form, reading_through, elsewhere}
 
 -- The operations met on the way to the value of an expression, in each scope.
 abbrev pub Met : Type 0
@@ -144,7 +144,7 @@ met_by system elsewhere' others e = (fold-Expr Traced (traced_form system elsewh
 -- the same, through at most n uses of defines and bindings
 unfoldable pub met_through : ℕ → System → Scope → Expr → List Wide
 met_through zero system s e = []
-met_through (suc n) system s e = met_by system (elsewhere system) (met_through n system) e s
+met_through (suc n) system s e = met_by system (reading_through n system) (met_through n system) e s
 
 -- the operations met on the way to the value of an expression in a scope
 abbrev pub met : System → Scope → Expr → List Wide
