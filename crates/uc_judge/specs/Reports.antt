@@ -1,22 +1,15 @@
 -- What a report says of a design.
-use Rattle.std.specs.Prelude.{◌≡◌, ℕ, ◌+◌, ◌*◌, ◌≤◌, map, length, count_by}
+use Rattle.std.specs.Prelude.{◌≡◌, map}
 use Rattle.std.specs.List.{All}
 use Rattle.uc_meaning.specs.Lookup.{System}
-use Rattle.uc_meaning.specs.Cells.{cells_of}
 use Rattle.uc_meaning.specs.Lines.{all_lines}
 use Rattle.uc_control.specs.declared.report.Report.{Report}
 use Rattle.uc_control.specs.Reports.{prints_of}
-use Rattle.uc_control.specs.Verdicts.{IsRightVerdict, IsHonest, is_out_of_budget}
+use Rattle.uc_control.specs.Verdicts.{IsRightVerdict}
 
--- The lines are all lines of the design that a `check` follows, in order, each with its command and a right verdict, and the prints are those of the control block. A line is undecided by its budget only where the budget is below 2 to the
--- number of the line's free bits, which are the cells, since all values are boolean and nothing else is chosen.
-pub record IsReport (system : System) (budget : ℕ) (report : Report) : Type 0 where
+-- The lines are all lines of the design that a `check` follows, in order, each with its command and a right verdict, and the prints are those of the control block.
+pub record IsReport (system : System) (report : Report) : Type 0 where
   pub lines : map (λ l. l.line) report.lines ≡ all_lines system
   pub commands : All (λ l. l.command ≡ l.line.command) report.lines
   pub verdicts : All (λ l. IsRightVerdict system l.line l.verdict) report.lines
-  pub honest : All (λ l. IsHonest budget (length (cells_of system)) l.verdict) report.lines
   pub prints : report.prints ≡ prints_of system
-
--- for each line that is undecided by its budget as many entries were spent as the budget has
-abbrev pub IsSpentBy : ℕ → ℕ → ℕ → Report → Type 0
-IsSpentBy budget before after report = before + budget * count_by (λ l. is_out_of_budget l.verdict) report.lines ≤ after

@@ -1,58 +1,34 @@
 //! The commands of a control block.
 
-ghost use Rattle.std.specs.Prelude.{◌≡◌, ◌≤◌, ◌<◌, ◌^◌, [], ◌∷◌, length, true, IfOk, MatchOption};
+ghost use Rattle.std.specs.Prelude.{◌≡◌, [], true, IfOk, MatchOption};
 ghost use Rattle.std.specs.List.{list_all, flat_map};
 ghost use Rattle.uc_meaning.specs.Fragment.{at_most_one, is_control, unrolls};
 ghost use Rattle.uc_meaning.specs.Lines.{commands_in, commands_of};
-ghost use Rattle.uc_judge.specs.Reports.{IsReport, IsSpentBy};
+ghost use Rattle.uc_judge.specs.Reports.{IsReport};
 ghost use Rattle.uc_judge.specs.Unrolling.{Unrolls, control_unrolls};
-ghost use Rattle.uc_control.specs.declared.report.Print.TheVariants.{Results};
 
-use std::alloc::{AllocError, Global};
-use uc_control::{LineResult, Print, Report};
+use crate::results::report_of;
+use std::alloc::Global;
+use uc_control::Report;
 use uc_items::Items;
-use uc_log::Meter;
-use uc_meaning::Ordered;
+use uc_meaning::{EvalError, Ordered};
+use uc_search::judge_unroll;
 use uc_syntax::{Command, Decl, WrittenRun};
-use uc_unrolling::judge_unroll;
 
-/// The report of the design's control block. Each line has the budget for itself. Want of memory is answered too where a report would
-/// have 2^32 lines.
-pub fn run_control<M: Meter>(
-    alloc: Global,
-    d: &Ordered,
-    budget: u64,
-    meter: &mut M,
-) -> Result<Report, AllocError>
-    requires some { 1 ≤ budget }
-    requires total { M.total meter.old < 2 ^ 126 }
-    ensures report { IfOk result (IsReport d.now budget) }
-    ensures spent { IfOk result (IsSpentBy budget (M.total meter.old) (M.total meter.new)) }
-    ensures later { M.total meter.old ≤ M.total meter.new }
+/// The report of the design's control block. Want of memory is answered too where a report would have 2^32 lines.
+pub fn run_control(alloc: Global, d: &Ordered) -> Result<Report, EvalError>
+    ensures { IfOk result (IsReport d.now) }
 {
     match unrolled(d) {
         Some(depth) => {
-            let lines = judge_unroll(alloc, d, 0, depth, budget, meter)?;
-            let report = report_of(alloc, lines)?;
-            Ok(report)
+            let judgements = judge_unroll(alloc, d, 0, depth)?;
+            report_of(alloc, judgements)
         }
         None => Ok(Report {
             lines: Items::new(alloc),
             prints: Items::new(alloc),
         }),
     }
-}
-
-/// A report of these lines, all of which are printed once.
-fn report_of(alloc: Global, lines: Items<LineResult>) -> Result<Report, AllocError>
-    ensures { IfOk result (λ r. r ≡ record { lines = lines; prints = Results 0 (length lines) ∷ [] }) }
-{
-    let Ok(end) = u32::try_from(lines.len()) else {
-        return Err(AllocError);
-    };
-    let mut prints = Items::new(alloc);
-    prints.push(Print::Results { first: 0, end })?;
-    Ok(Report { lines, prints })
 }
 
 /// How many steps the control block unrolls, or none where there is no block.

@@ -2,5 +2,6 @@
 #![tactic(auto)]
 
 mod control;
+mod results;
 
 pub use control::run_control;

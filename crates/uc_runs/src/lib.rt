@@ -5,6 +5,6 @@ mod moves;
 mod starts;
 mod trails;
 
-pub use moves::successor;
+pub use moves::{scope_in, successor};
 pub use starts::first_state;
 pub use trails::trace_of;

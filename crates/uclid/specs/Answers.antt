@@ -1,5 +1,5 @@
 -- What a run is to answer to its words and its texts.
-use Rattle.std.specs.Prelude.{◌≡◌, ℕ, ◌≤◌, Bool, true, false, not, ◌&&◌, nat_le, nat_eq, codes, decimal, IsTrue, List, [], ◌∷◌, ◌++◌, length, slice_get, unwrap_or, Option, Some, None}
+use Rattle.std.specs.Prelude.{◌≡◌, ℕ, Bool, true, false, not, ◌&&◌, nat_le, nat_eq, codes, decimal, IsTrue, List, [], ◌∷◌, ◌++◌, length, slice_get, unwrap_or, Option, Some, None}
 use Rattle.std.specs.List.{list_all}
 use Rattle.uc_control.specs.Reports.{status}
 use Rattle.uc_control.specs.Text.{report_text}
@@ -7,7 +7,7 @@ use Rattle.uc_front.specs.declared.refusal.Refusal.{Refusal}
 use Rattle.uc_front.specs.Refusals.{number_of, place_of}
 use Rattle.uc_front.specs.Denotes.{IsAccepted}
 use Rattle.uc_front.specs.Refused.{IsRefused}
-use Rattle.uc_judge.specs.Reports.{IsReport, IsSpentBy}
+use Rattle.uc_judge.specs.Reports.{IsReport}
 use Rattle.uclid.specs.declared.answer.Session.{Session}
 use Rattle.uclid.specs.declared.answer.Answer.{Answer}
 use Rattle.uclid.specs.declared.answer.Answer.TheVariants.{Usage, Refused, Reported}
@@ -32,15 +32,11 @@ word_at words n = unwrap_or (slice_get words n) []
 
 -- ---- answers
 
--- how many entries the search for each line may spend
-abbrev pub budget : ℕ
-budget = 1048576
-
 -- The answer to files, given what is held under their names, where this is told.
 abbrev pub IsFilesAnswer : Bool → List (List ℕ) → (List ℕ → Option (List ℕ)) → Answer → Type 0
 IsFilesAnswer tells files held Usage = ⊥
 IsFilesAnswer tells files held (Refused r) = IsTrue tells → IsRefused held files r
-IsFilesAnswer tells files held (Reported s) = IsReport s.design budget s.report × (IsTrue tells → IsAccepted held files s.design)
+IsFilesAnswer tells files held (Reported s) = IsReport s.design s.report × (IsTrue tells → IsAccepted held files s.design)
 
 -- Words that are not of the form are answered with the usage line; else each is the name of a file.
 abbrev pub IsAnswerFor : Bool → Bool → List (List ℕ) → (List ℕ → Option (List ℕ)) → Answer → Type 0
@@ -58,16 +54,6 @@ status_of (Reported s) = status s.report
 abbrev pub session_of : Answer → Option Session
 session_of (Reported s) = Some s
 session_of other = None
-
--- The entries that were spent before the answer: for each line of a report that is undecided by its budget as many as the budget has.
-abbrev pub IsSpentOn : ℕ → ℕ → Answer → Type 0
-IsSpentOn before after (Reported s) = IsSpentBy budget before after s.report
-IsSpentOn before after other = before ≤ after
-
--- the same, by the session of an outcome
-abbrev pub IsSpent : ℕ → ℕ → Option Session → Type 0
-IsSpent before after (Some s) = IsSpentBy budget before after s.report
-IsSpent before after None = before ≤ after
 
 -- ---- bytes
 

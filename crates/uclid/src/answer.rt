@@ -1,19 +1,18 @@
 //! What a run is to answer, before a byte is written.
 
-ghost use Rattle.std.specs.Prelude.{◌≡◌, ◌≤◌, ◌<◌, ◌^◌, length, IsTrue, IsErrOf, IfOk};
+ghost use Rattle.std.specs.Prelude.{◌≡◌, ◌≤◌, length, IsTrue, IsErrOf, IfOk};
 ghost use Rattle.uc_io.specs.Faults.{Rose};
 ghost use Rattle.uc_front.specs.Sources.{words_of};
 ghost use Rattle.uc_judge.specs.Reports.{IsReport};
 ghost use Rattle.uclid.specs.declared.answer.Stop.TheVariants.{NoMemory, ReadFault};
-ghost use Rattle.uclid.specs.Answers.{is_form, are_names, IsAnswer, IsFilesAnswer, IsSpentOn, IsSpent, begins_with_dash, status_of, session_of};
+ghost use Rattle.uclid.specs.Answers.{is_form, are_names, IsAnswer, IsFilesAnswer, begins_with_dash, status_of, session_of};
 
-use std::alloc::{AllocError, Global};
+use std::alloc::Global;
 use uc_control::{Report, status_of};
 use uc_front::{FrontError, MAX_FILES, Refusal, read_design};
 use uc_io::Texts;
 use uc_judge::run_control;
-use uc_log::Meter;
-use uc_meaning::Ordered;
+use uc_meaning::{EvalError, Ordered};
 
 /// An accepted design and the report of its control block.
 #[derive(Drop)]
@@ -21,9 +20,6 @@ pub struct Session {
     pub design: Ordered,
     pub report: Report,
 }
-
-/// How many entries the search for each line may spend.
-const BUDGET: u64 = 1048576;
 
 /// What a run is to write.
 #[derive(Drop)]
@@ -43,58 +39,42 @@ pub(crate) enum Stop {
     ReadFault,
 }
 
-impl From<AllocError> for Stop {
+impl From<EvalError> for Stop {
     ghost from_gives = { λ _ e. e ≡ NoMemory };
 
-    fn from(_: AllocError) -> Stop {
+    fn from(_: EvalError) -> Stop {
         Stop::NoMemory
     }
 }
 
 /// What the words and the texts lead to.
-pub(crate) fn decide<X: Texts, M: Meter>(
-    alloc: Global,
-    words: &[&str],
-    texts: &mut X,
-    meter: &mut M,
-) -> Result<Answer, Stop>
-    requires total { M.total meter.old < 2 ^ 126 }
+pub(crate) fn decide<X: Texts>(alloc: Global, words: &[&str], texts: &mut X) -> Result<Answer, Stop>
     ensures answer { IfOk result (IsAnswer (X.tells texts.old) (words_of words.now) (X.held texts.old)) }
     ensures cause { IsErrOf result Stop.ReadFault → Rose (X.faults texts.old) (X.faults texts.new) }
     ensures no_fault { (¬ IsErrOf result Stop.ReadFault) → X.faults texts.new ≡ X.faults texts.old }
     ensures later { X.faults texts.old ≤ X.faults texts.new }
     ensures telling { X.tells texts.new ≡ X.tells texts.old }
     ensures holding { X.held texts.new ≡ X.held texts.old }
-    ensures spent { IfOk result (IsSpentOn (M.total meter.old) (M.total meter.new)) }
-    ensures rises { M.total meter.old ≤ M.total meter.new }
 {
     if !is_form(words) {
         return Ok(Answer::Usage);
     }
-    answer_files(alloc, words, texts, meter)
+    answer_files(alloc, words, texts)
 }
 
 /// What the texts of files lead to.
-fn answer_files<X: Texts, M: Meter>(
-    alloc: Global,
-    files: &[&str],
-    texts: &mut X,
-    meter: &mut M,
-) -> Result<Answer, Stop>
-    requires few { length files.now ≤ MAX_FILES }
-    requires total { M.total meter.old < 2 ^ 126 }
+fn answer_files<X: Texts>(alloc: Global, files: &[&str], texts: &mut X) -> Result<Answer, Stop>
+    requires { length files.now ≤ MAX_FILES }
     ensures answer { IfOk result (IsFilesAnswer (X.tells texts.old) (words_of files.now) (X.held texts.old)) }
     ensures cause { IsErrOf result Stop.ReadFault → Rose (X.faults texts.old) (X.faults texts.new) }
     ensures no_fault { (¬ IsErrOf result Stop.ReadFault) → X.faults texts.new ≡ X.faults texts.old }
     ensures later { X.faults texts.old ≤ X.faults texts.new }
     ensures telling { X.tells texts.new ≡ X.tells texts.old }
     ensures holding { X.held texts.new ≡ X.held texts.old }
-    ensures spent { IfOk result (IsSpentOn (M.total meter.old) (M.total meter.new)) }
-    ensures rises { M.total meter.old ≤ M.total meter.new }
 {
     match read_design(alloc, texts, files) {
         Ok(design) => {
-            let report = run_control(alloc, &design, BUDGET, meter)?;
+            let report = run_control(alloc, &design)?;
             Ok(Answer::Reported(Session { design, report }))
         }
         Err(FrontError::Refused(refusal)) => Ok(Answer::Refused(refusal)),

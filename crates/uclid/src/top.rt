@@ -1,15 +1,13 @@
 //! The top call.
 
-ghost use Rattle.std.specs.Prelude.{◌≡◌, ℕ, ◌≤◌, ◌<◌, ◌^◌, None};
+ghost use Rattle.std.specs.Prelude.{◌≡◌, ◌≤◌, None};
 ghost use Rattle.uc_front.specs.Sources.{words_of};
-ghost use Rattle.uclid.specs.Answers.{IsSpentOn, IsSpent};
 ghost use Rattle.uclid.specs.Runs.{Ends, HasWritten};
 
 use crate::answer::{Answer, Session, Stop, decide, session_of, status_of_answer};
 use crate::lines::text_of;
 use std::alloc::Global;
 use uc_io::{Sink, Texts, write_whole};
-use uc_log::Meter;
 
 /// How a run ended. The session is there where a report was to be written.
 #[derive(Drop)]
@@ -20,17 +18,9 @@ pub struct Outcome {
 
 /// Reads the files that the words name, in order, judges their design, and writes the report.
 ///
-/// Statuses: 0 where all lines passed, 1 where one failed, 2 where one is undecided and none failed, 3 where the texts are refused (an error line is written), 4 where the
+/// Statuses: 0 where all lines passed, 1 where one failed, 3 where the texts are refused (an error line is written), 4 where the
 /// words are none (the usage line is written), 5 after a fault of the texts, 6 after a fault of the sink, 7 for want of memory.
-/// Each line has a budget of 2^20 entries of its log for itself, which the meter counts.
-pub fn run<X: Texts, K: Sink, M: Meter>(
-    alloc: Global,
-    words: &[&str],
-    texts: &mut X,
-    out: &mut K,
-    meter: &mut M,
-) -> Outcome
-    requires total { M.total meter.old < 2 ^ 126 }
+pub fn run<X: Texts, K: Sink>(alloc: Global, words: &[&str], texts: &mut X, out: &mut K) -> Outcome
     ensures ends { Ends (X.tells texts.old) (words_of words.now) (X.held texts.old) (X.faults texts.old) (X.faults texts.new)
         (K.tells out.old) (K.taken out.old) (K.taken out.new) (K.faults out.old) (K.faults out.new) result }
     ensures texts_later { X.faults texts.old ≤ X.faults texts.new }
@@ -38,9 +28,8 @@ pub fn run<X: Texts, K: Sink, M: Meter>(
     ensures texts_telling { X.tells texts.new ≡ X.tells texts.old }
     ensures sink_telling { K.tells out.new ≡ K.tells out.old }
     ensures holding { X.held texts.new ≡ X.held texts.old }
-    ensures spent { IsSpent (M.total meter.old) (M.total meter.new) result.session }
 {
-    match decide(alloc, words, texts, meter) {
+    match decide(alloc, words, texts) {
         Ok(answer) => written(alloc, words, answer, out),
         Err(Stop::ReadFault) => stopped(5),
         Err(Stop::NoMemory) => stopped(7),
@@ -52,7 +41,6 @@ fn written<K: Sink>(alloc: Global, words: &[&str], answer: Answer, out: &mut K) 
     ensures ends { HasWritten (words_of words.now) answer (K.tells out.old) (K.taken out.old) (K.taken out.new) (K.faults out.old) (K.faults out.new) result }
     ensures later { K.faults out.old ≤ K.faults out.new }
     ensures telling { K.tells out.new ≡ K.tells out.old }
-    ensures spent { (before after : ℕ) → before ≤ after → IsSpentOn before after answer → IsSpent before after result.session }
 {
     let Ok(text) = text_of(alloc, words, &answer) else {
         return stopped(7);

@@ -23,8 +23,8 @@ passed_is_valid system line (Failed trace) h e = absurd cc
 passed_is_valid system line (Undef why) h e = absurd cc
 
 -- the lines of a command that all passed are valid
-all_valid : (system : System) (budget : ℕ) (report : Report) (command : ℕ) → IsReport system budget report → AllPassed command report → All (λ line. line.command ≡ command → IsValid system line) (all_lines system)
-all_valid system budget report command is passed = subst (All Wanted) is.lines (All-map Wanted (λ l. l.line) report.lines each)
+all_valid : (system : System) (report : Report) (command : ℕ) → IsReport system report → AllPassed command report → All (λ line. line.command ≡ command → IsValid system line) (all_lines system)
+all_valid system report command is passed = subst (All Wanted) is.lines (All-map Wanted (λ l. l.line) report.lines each)
   where
     Wanted : Line → Type 0
     Wanted line = line.command ≡ command → IsValid system line
@@ -33,8 +33,8 @@ all_valid system budget report command is passed = subst (All Wanted) is.lines (
     each i d lt e = passed_is_valid system _ _ (is.verdicts i d lt) (passed i d lt (is.commands i d lt ∙ e))
 
 pub passed_induction : PassedInduction
-passed_induction system budget report place name depth before after apart deep commands checked is passed = checked_induction_holds system place name depth before after apart deep commands checked (all_valid system budget report (length before) is passed)
+passed_induction system report place name depth before after apart deep commands checked is passed = checked_induction_holds system place name depth before after apart deep commands checked (all_valid system report (length before) is passed)
 
 pub passed_unroll : PassedUnroll
-passed_unroll system budget report place name depth before after apart commands checked is passed =
-    unroll_holds system (length before) depth apart (command_holds system place name (Unroll depth) before after commands checked (all_valid system budget report (length before) is passed))
+passed_unroll system report place name depth before after apart commands checked is passed =
+    unroll_holds system (length before) depth apart (command_holds system place name (Unroll depth) before after commands checked (all_valid system report (length before) is passed))

@@ -60,13 +60,13 @@ AllPassed command report = All (λ l. l.command ≡ command → is_passed l.verd
 -- Where a later `check` follows an induction, and all of its lines passed: every invariant and hyperinvariant holds in all runs, and no run lists any site.
 abbrev pub PassedInduction : Type 0
 PassedInduction =
-    (system : System) (budget : ℕ) (report : Report) (place : Place) (name : Option Identifier) (depth : Option ℕ) (before after : List Command) → InstancesApart system → 1 ≤ depth_of depth →
+    (system : System) (report : Report) (place : Place) (name : Option Identifier) (depth : Option ℕ) (before after : List Command) → InstancesApart system → 1 ≤ depth_of depth →
     commands_of system ≡ before ++ (Run place name (Induction depth) ∷ after) → list_any is_check after ≡ true →
-    IsReport system budget report → AllPassed (length before) report → HoldsAlways system
+    IsReport system report → AllPassed (length before) report → HoldsAlways system
 
 -- The same of an unrolling, for the runs of at most so many steps.
 abbrev pub PassedUnroll : Type 0
 PassedUnroll =
-    (system : System) (budget : ℕ) (report : Report) (place : Place) (name : Option Identifier) (depth : ℕ) (before after : List Command) → InstancesApart system →
+    (system : System) (report : Report) (place : Place) (name : Option Identifier) (depth : ℕ) (before after : List Command) → InstancesApart system →
     commands_of system ≡ before ++ (Run place name (Unroll depth) ∷ after) → list_any is_check after ≡ true →
-    IsReport system budget report → AllPassed (length before) report → HoldsUpTo system depth
+    IsReport system report → AllPassed (length before) report → HoldsUpTo system depth

@@ -2,7 +2,6 @@ use std::alloc::{AllocError, Global};
 use std::process::Abort;
 use std::test::Fail;
 use uc_io::{MemSink, MemTexts};
-use uc_log::CountMeter;
 use uclid::run;
 
 /// The status of a run, and what was written.
@@ -27,8 +26,7 @@ fn finish(
     files.push((String::from_str(alloc, "n.ucl")?, second.to_vec(alloc)?))?;
     let mut texts = MemTexts::new(files, 4096, failing_reads.to_vec(alloc)?);
     let mut sink = MemSink::new(alloc, 10, failing_writes.to_vec(alloc)?);
-    let mut meter = CountMeter::new();
-    let outcome = run(alloc, words, &mut texts, &mut sink, &mut meter);
+    let outcome = run(alloc, words, &mut texts, &mut sink);
     Ok(Ended {
         status: outcome.status,
         written: sink.bytes().to_vec(alloc)?,
