@@ -27,7 +27,9 @@ use Rattle.uc_symstep.specs.Stands.{holds, IsTruth}
 use Rattle.uc_flat.specs.declared.statement.Statement.{Statement}
 use Rattle.uc_flat.specs.Unrolled.{started, stepped, seen, initial, after_step, reached, formula_in, holds_in, axioms_hold, is_refuted}
 use Rattle.uc_symstep.specs.Unrolled.{shows, IsSeen, StartsAs, StepsAs}
-use Rattle.uc_symstep.specs.Designs.{ShowsAt, AreStates, Unrolls}
+use Rattle.uc_symstep.specs.Designs.{ShowsAt, AreStates, Unrolls, IsInitialWhereTaken, HasEachInitial, IsStepWhereTaken}
+use Rattle.uc_flat.specs.Executions.{IsInitial, IsStep, IsAt}
+use Rattle.uc_flat.proofs.Executing.{initial_is, initial_found, step_is}
 use Rattle.uc_symstep.proofs.Grown.{grows_on, grows_value, grows_type, grows_values, grows_length, cells_grow}
 use Rattle.uc_symstep.proofs.Formulas.{Meaning}
 use Rattle.uc_symstep.proofs.States.{same_drawn, truth_grows, choices_grow, sites_grow, choices_keep, sites_keep}
@@ -339,3 +341,23 @@ goal_ready a b f first n number states run s u q j = (u.states.each n s (last_st
 
 pub formula_fine : (f : Flat) (types all : List Ty) (x : Formula) → IsFormula f x → types ≡ cell_types f → all ≡ repeated x.copies types → IsTyped all x.condition
 formula_fine f types all x h i j = subst (λ ts. IsTyped ts x.condition) (sym (j ∙ ap (repeated x.copies) i)) h.test.typed
+
+pub init_taken : (old new : List Node) (f : Flat) (k n : ℕ) (s : SymState) → IsSound f → StartsAs old new (cell_types f) (initial f k) s n → IsInitialWhereTaken f new s
+init_taken old new f k n s h a m p =
+    subst (λ (d : Drawn). IsInitial f m d.cells d.chosen d.sites) (sym (a.same m)) (initial_is f m k h (ap (λ (d : Drawn). d.goes) (sym (a.same m)) ∙ p))
+
+at_place_as : (r d : Drawn) (cells choices : List Value) (sites : List ℕ) → r ≡ d → IsAt d cells choices sites → IsAt r cells choices sites
+at_place_as r d cells choices sites e a = subst (λ x. IsAt x cells choices sites) (sym e) a
+
+-- the number of the next free value does not matter
+other_number : (m : Model) (nodes : List Node) (s : SymState) (n : ℕ) (cells choices : List Value) (sites : List ℕ) → IsAt (shows m nodes s n) cells choices sites → IsAt (shows m nodes s 0) cells choices sites
+other_number m nodes s n cells choices sites a = record { goes = a.goes; cells = a.cells; chosen = a.chosen; sites = a.sites }
+
+pub init_each : (old new : List Node) (f : Flat) (k n : ℕ) (s : SymState) → IsSound f → StartsAs old new (cell_types f) (initial f k) s n → HasEachInitial f k new s
+init_each old new f k n s h a m cells choices sites c l i =
+    let w = initial_found f m k cells choices sites h c l i in
+    record { model = w.model; agrees = w.agrees; at = other_number w.model new s n cells choices sites (at_place_as _ _ cells choices sites (a.same w.model) w.at) }
+
+pub step_taken : (old new : List Node) (f : Flat) (k n : ℕ) (pre s : SymState) → IsSound f → StepsAs old new (cell_types f) (after_step f) pre k s n → IsStepWhereTaken f old pre new s
+step_taken old new f k n pre s h a m p =
+    subst (λ (d : Drawn). IsStep f m (map (value m old) pre.cells) d.cells d.chosen d.sites) (sym (a.same m)) (step_is f m (shows m old pre k) h (ap (λ (d : Drawn). d.goes) (sym (a.same m)) ∙ p))

@@ -10,6 +10,7 @@ ghost use Rattle.uc_flat.specs.Flats.{cell_types, repeated, axioms_of, IsSound, 
 ghost use Rattle.uc_flat.specs.Unrolled.{initial, after_step, formula_in, axioms_hold};
 ghost use Rattle.uc_symstep.specs.Growing.{Grows, IsTerm, AreCells};
 ghost use Rattle.uc_symstep.specs.Unrolled.{IsSeen, StartsAs, StepsAs};
+ghost use Rattle.uc_symstep.specs.Designs.{IsInitialWhereTaken, HasEachInitial, IsStepWhereTaken};
 
 use crate::build::{both, literal};
 use crate::formula::sym_expression;
@@ -76,6 +77,8 @@ pub fn sym_init(
 ) -> Result<SymState, AllocError>
     requires sound { IsSound f.now }
     ensures ok { IfOk result (λ s. StartsAs terms.old terms.new (cell_types f.now) (initial f.now fresh.old.next) s fresh.new.next) }
+    ensures initial { IfOk result (λ s. IsInitialWhereTaken f.now terms.new s) }
+    ensures each { IfOk result (λ s. HasEachInitial f.now fresh.old.next terms.new s) }
     ensures grown { Grows terms.old terms.new }
     ensures err { OnErr result (fresh.new ≡ fresh.old) }
 {
@@ -96,6 +99,7 @@ pub fn sym_step(
     requires sound { IsSound f.now }
     requires state { IsSeen terms.old (cell_types f.now) pre.now }
     ensures ok { IfOk result (λ s. StepsAs terms.old terms.new (cell_types f.now) (after_step f.now) pre.now fresh.old.next s fresh.new.next) }
+    ensures step { IfOk result (λ s. IsStepWhereTaken f.now terms.old pre.now terms.new s) }
     ensures grown { Grows terms.old terms.new }
     ensures err { OnErr result (fresh.new ≡ fresh.old) }
 {
