@@ -1,0 +1,6 @@
+use Rattle.std.proofs.Common.{rules}
+use Rattle.uc_symstep.proofs.States.{havoc_follows, read_type}
+use Rattle.uc_symstep.proofs.simple.havoc.Goals as goal
+
+pub returns-clause-ok : goal.returns-clause-ok
+returns-clause-ok c = havoc_follows _ _ _ _ _ _ _ _ _ _ _ c.requires.state (read_type c.args.types.now c.args.k _ c.requires.fine c.index-types-k.is).0 c.in_ok-t.ensures.ok c.set.ensures c.in_ok-choices.ensures (search rules)

@@ -1,0 +1,9 @@
+use Rattle.std.proofs.Common.{sym, subst, ◌≤◌, length}
+use Rattle.uc_symstep.proofs.Steps.{steps_as, long_enough}
+use Rattle.uc_symstep.proofs.unroll.step_on.Goals as goal
+
+pub returns-clause-ok : goal.returns-clause-ok
+returns-clause-ok c = steps_as _ _ _ _ _ _ _ _ _ _ _ _ _ c.requires.types c.as_slice.ensures c.in_ok-first.ensures.ok c.in_ok-last.ensures.ok c.as_slice-2.ensures c.in_ok-cells.ensures
+
+pub second_half-requires : goal.second_half-requires
+second_half-requires c = subst (λ xs. length c.args.types.now ≤ length xs) (sym c.as_slice-2.ensures) (long_enough _ _ _ _ c.in_ok-last.ensures.ok.state.cells c.requires.types)

@@ -1,0 +1,5 @@
+pub mod Growing
+pub mod Cost
+pub mod Stands
+pub mod Unrolled
+pub mod Designs

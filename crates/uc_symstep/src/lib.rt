@@ -1,0 +1,19 @@
+//! Symbolic code: terms for the values that statements give, for initial states, steps and formulas of a design, and goals.
+#![tactic(auto)]
+
+mod branch;
+mod build;
+mod code;
+mod copying;
+mod design;
+mod formula;
+mod goal;
+mod simple;
+mod state;
+mod unroll;
+
+pub use code::sym_code;
+pub use design::{sym_formula, sym_init, sym_step};
+pub use formula::sym_expression;
+pub use goal::{Goal, sym_goal};
+pub use state::{Choice, Fresh, Hit, SymState, Symbolic};

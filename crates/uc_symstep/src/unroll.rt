@@ -1,0 +1,170 @@
+//! Initial states and steps, over the types of the cells.
+
+ghost use Rattle.std.specs.Prelude.{◌≡◌, ◌≤◌, drop, ◌++◌, length, IfOk};
+ghost use Rattle.uc_ops.specs.Typing.{AllValid};
+ghost use Rattle.uc_flat.specs.Fine.{AreFine};
+ghost use Rattle.uc_symstep.specs.Growing.{Grows, AreCells};
+ghost use Rattle.uc_symstep.specs.Stands.{IsTruth};
+ghost use Rattle.uc_flat.specs.Unrolled.{started, stepped};
+ghost use Rattle.uc_symstep.specs.Unrolled.{IsSeen, Begins, Doubles, StartsAs, StepsAs};
+
+use crate::build::literal;
+use crate::code::sym_code;
+use crate::simple::symbol;
+use crate::state::{Choice, SymState, Symbolic};
+use std::alloc::{AllocError, Global};
+use uc_flat::Statement;
+use uc_items::Items;
+use uc_terms::{TermId, Terms};
+use uc_values::Ty;
+
+/// The state before all init code: each cell is a new symbol, which is a choice. `next` is the number of the first.
+#[tactic(auto, using(crate::proofs::Grown::grows_on))]
+pub(crate) fn begin(
+    terms: &mut Terms,
+    alloc: Global,
+    types: &[Ty],
+    next: u32,
+) -> Result<Symbolic, AllocError>
+    requires valid { AllValid types.now }
+    ensures ok { IfOk result (λ t. Begins terms.old terms.new types.now next t) }
+    ensures grown { Grows terms.old terms.new }
+{
+    let truth = literal(terms, alloc, true)?;
+    let mut cells = Items::new(alloc);
+    let mut choices = Items::new(alloc);
+    let mut number = next;
+    for ty in types {
+        let Some(after) = number.checked_add(1) else {
+            return Err(AllocError);
+        };
+        let term = symbol(terms, alloc, ty, number)?;
+        cells.push(term)?;
+        choices.push(Choice { term, taken: truth })?;
+        number = after;
+    }
+    Ok(Symbolic {
+        cells,
+        path: truth,
+        taken: truth,
+        choices,
+        sites: Items::new(alloc),
+        next: number,
+    })
+}
+
+/// The state that a step begins with: the cells of the old state, and for the new state the same terms.
+fn doubled(
+    terms: &mut Terms,
+    alloc: Global,
+    types: &[Ty],
+    both_types: &[Ty],
+    cells: &[TermId],
+    path: TermId,
+    next: u32,
+) -> Result<Symbolic, AllocError>
+    requires cells { AreCells terms.old types.now cells.now }
+    requires path { IsTruth terms.old path }
+    requires types { both_types.now ≡ types.now ++ types.now }
+    ensures ok { IfOk result (λ t. Doubles terms.old terms.new both_types.now cells.now path next t) }
+    ensures grown { Grows terms.old terms.new }
+{
+    let taken = literal(terms, alloc, true)?;
+    let mut twice = Items::from_slice(alloc, cells)?;
+    let copy = Items::from_slice(alloc, cells)?;
+    twice.append(copy)?;
+    Ok(Symbolic {
+        cells: twice,
+        path,
+        taken,
+        choices: Items::new(alloc),
+        sites: Items::new(alloc),
+        next,
+    })
+}
+
+/// The cells past as many as there are types.
+fn second_half(alloc: Global, types: &[Ty], cells: &[TermId]) -> Result<Items<TermId>, AllocError>
+    requires { length types.now ≤ length cells.now }
+    ensures { IfOk result (λ xs. xs ≡ drop (length types.now) cells.now) }
+{
+    let rest = &cells[types.len()..];
+    let xs = Items::from_slice(alloc, rest)?;
+    Ok(xs)
+}
+
+/// The state after the init code, with the number of the next symbol.
+pub(crate) fn start(
+    terms: &mut Terms,
+    alloc: Global,
+    types: &[Ty],
+    init: &[Statement],
+    next: u32,
+) -> Result<(SymState, u32), AllocError>
+    requires valid { AllValid types.now }
+    requires fine { AreFine types.now init.now }
+    ensures ok { IfOk result (λ r. StartsAs terms.old terms.new types.now (λ m. started m types.now init.now next) r.0 r.1) }
+    ensures grown { Grows terms.old terms.new }
+{
+    let first = begin(terms, alloc, types, next)?;
+    let last = sym_code(terms, alloc, types, first, init)?;
+    let Symbolic {
+        cells,
+        path,
+        taken: _,
+        choices,
+        sites,
+        next: after,
+    } = last;
+    let state = SymState {
+        cells,
+        path,
+        sites,
+        choices,
+    };
+    Ok((state, after))
+}
+
+/// The state after a step, whose code runs over the old and the new cells, with the number of the next symbol.
+pub(crate) fn step_on(
+    terms: &mut Terms,
+    alloc: Global,
+    types: &[Ty],
+    both_types: &[Ty],
+    pre: &SymState,
+    step: &[Statement],
+    next: u32,
+) -> Result<(SymState, u32), AllocError>
+    requires state { IsSeen terms.old types.now pre.now }
+    requires types { both_types.now ≡ types.now ++ types.now }
+    requires fine { AreFine both_types.now step.now }
+    ensures ok { IfOk result (λ r. StepsAs terms.old terms.new types.now (λ m. stepped m types.now step.now) pre.now next r.0 r.1) }
+    ensures grown { Grows terms.old terms.new }
+{
+    let first = doubled(
+        terms,
+        alloc,
+        types,
+        both_types,
+        pre.cells.as_slice(),
+        pre.path,
+        next,
+    )?;
+    let last = sym_code(terms, alloc, both_types, first, step)?;
+    let cells = second_half(alloc, types, last.cells.as_slice())?;
+    let Symbolic {
+        cells: _,
+        path,
+        taken: _,
+        choices,
+        sites,
+        next: after,
+    } = last;
+    let state = SymState {
+        cells,
+        path,
+        sites,
+        choices,
+    };
+    Ok((state, after))
+}
