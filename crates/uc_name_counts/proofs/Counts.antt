@@ -1,12 +1,12 @@
 -- How many names the words of a form declare: one step for each shape of form.
-use Rattle.std.proofs.Common.{◌≡◌, ◌⊎◌, inl, inr, ℕ, suc, ◌+◌, true, List, [], ◌∷◌, ◌++◌, length, Option, Some, None, refl, sym, ap, ◌∙◌, subst, arith}
-use Rattle.uc_forms.specs.Form.{Mark, quiet, declares, any, nothing, both, either, chain, until, made, ahead, deep, word, after, before, many, joined_by, goes_on_with, merged, ◌<|>◌}
-use Rattle.uc_forms.specs.Spelling.{Language, SpellChain, SpellUntil, SpellWith, Stand, stand, Standing, stands_chain, stands_until, stands_with}
+use Rattle.std.proofs.Common.{◌≡◌, ◌⊎◌, inl, inr, ℕ, ◌+◌, List, [], ◌∷◌, ◌++◌, Option, Some, None, refl, sym, ap, ◌∙◌, arith}
+use Rattle.uc_forms.specs.Form.{Mark, quiet, any, nothing, both, either, chain, until, made, ahead, word, after, before, many, joined_by, goes_on_with, merged, ◌<|>◌}
+use Rattle.uc_forms.specs.Spelling.{Language, SpellChain, SpellUntil, SpellWith, stand, Standing, stands_chain, stands_until, stands_with}
 use Rattle.uc_grammar.specs.declared.word.Word.{Word}
 use Rattle.uc_grammar.specs.declared.word.Kind.{Kind}
 use Rattle.uc_grammar.specs.Syntax.{words, Nested, Value, F, optional}
 use Rattle.uc_name_counts.specs.Names.{total, in_option}
-use Rattle.uc_name_counts.proofs.Tallied.{Tallied, mark_is, t_both, t_is, t_deeper, t_one}
+use Rattle.uc_name_counts.proofs.Tallied.{Tallied, mark_is, t_both, t_is, t_one}
 
 abbrev pub Deeper : Type 1
 Deeper = Language words Nested Value

@@ -1,15 +1,13 @@
 -- Trees without their places declare the same names.
 use Rattle.std.specs.Option.{option_map}
-use Rattle.std.proofs.Common.{◌≡◌, ℕ, ◌+◌, ◌≤◌, Bool, List, [], ◌∷◌, length, map, Option, Some, None, refl, sym, ap, ◌∙◌, subst, arith}
+use Rattle.std.proofs.Common.{◌≡◌, ℕ, List, [], ◌∷◌, length, map, Option, Some, None, refl, sym, ap, ◌∙◌, subst, arith}
 use Rattle.uc_lexer.specs.declared.place.Place.{Place}
-use Rattle.uc_syntax.specs.declared.place.Identifier.{Identifier}
 use Rattle.uc_syntax.specs.declared.type_expression.Parameter.{Parameter}
 use Rattle.uc_syntax.specs.declared.type_expression.TypeExpr.{TypeExpr}
 use Rattle.uc_syntax.specs.declared.type_expression.TypeExpr.TheOpen.{TypeExpr-F}
 use Rattle.uc_syntax.specs.declared.type_expression.TypeExpr.TheOpen.TypeExpr-F.{Boolean, Integer, Bits, Enumeration, Record, Array, Named, OfModule}
 use Rattle.uc_syntax.specs.declared.type_expression.TypeExpr.TheViews.{roll-TypeExpr}
 use Rattle.uc_syntax.specs.declared.type_expression.TypeExpr.TheFolds.{map-TypeExpr, fold-roll-TypeExpr, ind-TypeExpr}
-use Rattle.uc_syntax.specs.declared.expression.Expr.{Expr}
 use Rattle.uc_syntax.specs.declared.statement.Arm.{Arm}
 use Rattle.uc_syntax.specs.declared.statement.Stmt.{Stmt}
 use Rattle.uc_syntax.specs.declared.statement.Stmt.TheOpen.{Stmt-F}
@@ -23,11 +21,11 @@ use Rattle.uc_printed.specs.Printed.{nowhere, erased_identifier}
 use Rattle.uc_printed.specs.Types.{each_parameter, parameter_nowhere, erase_type_form, erased_type}
 use Rattle.uc_printed.specs.Expressions.{erased_expr}
 use Rattle.uc_printed.specs.Statements.{erased_target, erased_bound, each_arm, arm_nowhere, erase_stmt_form, erased_stmt}
-use Rattle.uc_printed.specs.Declarations.{erased_parameter, erased_procedure, erased_decl, erased_module, erased_modules}
+use Rattle.uc_printed.specs.Declarations.{erased_parameter, erased_decl, erased_module, erased_modules}
 use Rattle.uc_printed.proofs.TypeLaw.{map_record}
 use Rattle.uc_printed.proofs.StatementLaw.{map_if, map_case}
-use Rattle.uc_name_counts.specs.Names.{total, in_option, type_count, type_names, parameter_names, stmt_count, stmt_names, code_names, procedure_names, decl_names, module_names, HaveFewNames}
-use Rattle.uc_name_counts.proofs.Equations.{total_over, total_same, in_option_over, names_boolean, names_integer, names_bits, names_enumeration, names_record, names_array, names_named, names_of_module, names_local, names_skip, names_block, names_assert, names_assume, names_havoc, names_assign, names_if, names_case, names_for, names_call, names_next, arm_names}
+use Rattle.uc_name_counts.specs.Names.{total, in_option, type_count, type_names, parameter_names, stmt_count, stmt_names, code_names, decl_names, module_names, HaveFewNames}
+use Rattle.uc_name_counts.proofs.Equations.{total_over, total_same, names_boolean, names_integer, names_bits, names_enumeration, names_record, names_array, names_named, names_of_module, names_local, names_skip, names_block, names_assert, names_assume, names_havoc, names_assign, names_if, names_case, names_for, names_call, names_next, arm_names}
 
 length_over : {A B : Type 0} (f : A → B) (xs : List A) → length (map f xs) ≡ length xs
 length_over f [] = refl

@@ -1,26 +1,22 @@
 -- How many names the words of each form declare.
-use Rattle.std.proofs.Common.{◌≡◌, ◌⊎◌, inl, inr, ℕ, ◌+◌, Bool, true, false, List, [], ◌∷◌, length, Option, Some, None, refl, sym, ap, ◌∙◌, arith}
-use Rattle.uc_forms.specs.Form.{Mark, quiet, declares, any, both, either, chain, until, made, deep, word, one_of, after, before, many, member}
+use Rattle.std.proofs.Common.{◌≡◌, ◌⊎◌, inl, inr, ℕ, ◌+◌, true, List, [], ◌∷◌, length, Option, Some, None, refl, sym, arith}
+use Rattle.uc_forms.specs.Form.{Mark, quiet, declares, both, either, made, deep, word, one_of, after, before, many}
 use Rattle.uc_forms.specs.Plain.{is_silent}
 use Rattle.uc_grammar.specs.declared.word.Word.{Word}
 use Rattle.uc_grammar.specs.declared.word.Kind.{Kind}
 use Rattle.uc_grammar.specs.declared.word.Kind.TheVariants as kinds
 use Rattle.uc_grammar.specs.Code.{name_in, width_in}
-use Rattle.uc_grammar.specs.Syntax.{words, Nested, Value, F, rule, known, id, new_id, optional, listed as listed_form, enclosed as enclosed_form, has, enum_braces, record_braces, array, arguments, in_name, parens, brackets, sign_operand, if_expression, target_index, block, typed_name, range_bounds, negative_bound, call_targets, in_number, maybe_number, paths, control_braces, params, results, binds, bind_value, hyper_number, module_braces, named_type, ty, parameter as parameter_form, primary, selection, unary, product, summed, concatenated, bit_and, bit_xor, bit_or, compared, conjunction, disjunction, implication, equivalence, expression, expr, branch, target_part, target, bound, run, counterexample, command, label_of, labelled as labelled_form, statements, arm, if_statement, default_block, case_statement, loop_variable, for_statement, called_targets, call_statement, place_of, statement, clause, variable_kind, type_of, type_declaration, results_of, procedure_of, procedure, hyper_of, declaration}
+use Rattle.uc_grammar.specs.Syntax.{Nested, Value, F, rule, known, id, new_id, listed as listed_form, enclosed as enclosed_form, has, enum_braces, record_braces, array, block, typed_name, range_bounds, control_braces, params, results, binds, hyper_number, module_braces, named_type, ty, parameter as parameter_form, primary, selection, unary, product, summed, concatenated, bit_and, bit_xor, bit_or, compared, conjunction, disjunction, implication, equivalence, expression, expr, target_part, target, label_of, labelled as labelled_form, statements, arm, if_statement, default_block, case_statement, loop_variable, for_statement, called_targets, call_statement, place_of, statement, clause, type_of, type_declaration, results_of, procedure_of, procedure, hyper_of, declaration}
 use Rattle.uc_syntax.specs.declared.place.Identifier.{Identifier}
 use Rattle.uc_syntax.specs.declared.type_expression.Parameter.{Parameter}
 use Rattle.uc_syntax.specs.declared.type_expression.TypeExpr.{TypeExpr}
 use Rattle.uc_syntax.specs.declared.expression.Expr.{Expr}
-use Rattle.uc_syntax.specs.declared.statement.Arm.{Arm}
 use Rattle.uc_syntax.specs.declared.statement.Stmt.{Stmt}
 use Rattle.uc_syntax.specs.declared.statement.Stmt.TheVariants as stmts
-use Rattle.uc_syntax.specs.declared.statement.Stmt.TheViews as stmt_views
-use Rattle.uc_syntax.specs.declared.declaration.Decl.{Decl}
-use Rattle.uc_syntax.specs.declared.declaration.Decl.TheVariants as decls
 use Rattle.uc_name_counts.specs.Names.{total, in_option, type_names, parameter_names, stmt_names, code_names, procedure_names, decl_names}
-use Rattle.uc_name_counts.proofs.Counts.{Deeper, Inner, Counts, in_either, c_any, c_word, c_is, c_nothing, c_both, c_either, c_made, c_or, c_after, c_before, c_chain, c_until, c_many, c_joined, c_optional, c_ahead}
+use Rattle.uc_name_counts.proofs.Counts.{Deeper, Inner, Counts, in_either, c_any, c_word, c_is, c_both, c_either, c_made, c_or, c_after, c_before, c_chain, c_until, c_joined, c_optional, c_ahead}
 use Rattle.uc_name_counts.proofs.Tallied.{mark_is}
-use Rattle.uc_name_counts.proofs.Silent.{silent_table, silent, no_option, no_total, expr_silent, clauses_silent}
+use Rattle.uc_name_counts.proofs.Silent.{silent_table, silent, no_option, expr_silent, clauses_silent}
 use Rattle.uc_name_counts.proofs.Equations.{total_ones, names_boolean, names_integer, names_bits, names_enumeration, names_record, names_array, names_named, names_of_module, names_local, names_skip, names_block, names_assert, names_assume, names_havoc, names_assign, names_if, names_case, names_for, names_call, names_next, arm_names}
 
 abbrev pub nest_names : (n : Nested) → Value n → ℕ

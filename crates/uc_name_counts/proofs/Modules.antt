@@ -1,7 +1,7 @@
 -- The names of all modules of a text.
-use Rattle.std.proofs.Common.{◌≡◌, ◌⊎◌, inl, inr, ℕ, zero, suc, ◌+◌, ◌≤◌, List, [], ◌∷◌, ◌++◌, map, Option, Some, None, refl, sym, ap, ◌∙◌, subst, arith}
-use Rattle.uc_forms.specs.Form.{quiet, restarts, both, made, deep, chain, many, goes_on_with}
-use Rattle.uc_forms.specs.Spelling.{SpellChain, SpellWith, SpellAt, Spells, Stand, stand, one_deeper, stands_chain, stands_with, stands_at, stands, past_limit}
+use Rattle.std.proofs.Common.{◌≡◌, inl, ℕ, zero, suc, ◌+◌, ◌≤◌, List, [], ◌∷◌, ◌++◌, Option, Some, None, refl, sym, ap, ◌∙◌, subst, arith}
+use Rattle.uc_forms.specs.Form.{quiet, restarts, both, made, deep, goes_on_with}
+use Rattle.uc_forms.specs.Spelling.{SpellChain, SpellWith, SpellAt, Spells, Stand, stand, stands_chain, stands_with, stands_at, past_limit}
 use Rattle.uc_grammar.specs.declared.word.Word.{Word}
 use Rattle.uc_grammar.specs.declared.word.Kind.TheVariants as kinds
 use Rattle.uc_grammar.specs.Language.{grammar}
@@ -10,7 +10,7 @@ use Rattle.uc_syntax.specs.declared.declaration.Module.{Module}
 use Rattle.uc_name_counts.specs.Names.{module_names, HaveFewNames}
 use Rattle.uc_name_counts.specs.Law.{AreCounted}
 use Rattle.uc_name_counts.proofs.Tallied.{Tallied, t_is, t_deeper, past_few, past_within, past_anew}
-use Rattle.uc_name_counts.proofs.Counts.{Deeper, Inner, Counts, c_any, c_is, c_both}
+use Rattle.uc_name_counts.proofs.Counts.{Deeper, Inner, Counts, c_any, c_both}
 use Rattle.uc_name_counts.proofs.Silent.{rules_silent}
 use Rattle.uc_name_counts.proofs.Forms.{nest_names, n_enum_braces, n_record_braces, n_array, n_typed_name, n_params, n_results, n_block, n_module_braces, n_silent}
 

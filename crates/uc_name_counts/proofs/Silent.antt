@@ -1,12 +1,10 @@
 -- Forms that declare no name.
 use Rattle.std.specs.Prelude.{◌&&◌}
-use Rattle.std.proofs.Common.{◌≡◌, ◌⊎◌, inl, inr, ℕ, ◌+◌, Bool, true, false, List, [], ◌∷◌, Option, Some, None, refl, sym, arith}
+use Rattle.std.proofs.Common.{◌≡◌, ◌⊎◌, inl, inr, Bool, true, false, List, [], ◌∷◌, Option, Some, None, refl, sym, arith}
 use Rattle.std.proofs.lemmas.Bool.{and_parts}
-use Rattle.uc_forms.specs.Form.{Mark, quiet, declares, restarts, Form, any, nothing, both, either, chain, until, made, ahead, deep, many}
+use Rattle.uc_forms.specs.Form.{Mark, quiet, declares, restarts, any, nothing, both, either, chain, until, made, ahead, deep, many}
 use Rattle.uc_forms.specs.Plain.{is_quiet, is_silent}
-use Rattle.uc_forms.specs.Spelling.{SpellChain, SpellUntil, SpellWith}
-use Rattle.uc_grammar.specs.declared.word.Word.{Word}
-use Rattle.uc_grammar.specs.Syntax.{words, Nested, Value, F, rule, clause, enum_braces, record_braces, array, arguments, in_name, parens, brackets, sign_operand, if_expression, target_index, block, typed_name, range_bounds, negative_bound, call_targets, in_number, maybe_number, paths, control_braces, params, results, binds, bind_value, hyper_number, module_braces, expr, target, bound, command, primary, selection, unary, product, summed, concatenated, bit_and, bit_xor, bit_or, compared, conjunction, disjunction, implication, equivalence, expression, branch, target_part, run, counterexample}
+use Rattle.uc_grammar.specs.Syntax.{Nested, F, rule, clause, enum_braces, record_braces, array, block, typed_name, params, results, module_braces, expr, target, bound, command, primary, selection, unary, product, summed, concatenated, bit_and, bit_xor, bit_or, compared, conjunction, disjunction, implication, equivalence, expression, branch, target_part, run, counterexample}
 use Rattle.uc_name_counts.specs.Names.{total, in_option}
 use Rattle.uc_name_counts.proofs.Tallied.{mark_is}
 use Rattle.uc_name_counts.proofs.Counts.{Deeper, Inner, Counts, in_either, c_any, c_is, c_nothing, c_both, c_either, c_made, c_chain, c_until, c_ahead}

@@ -1,7 +1,7 @@
 -- Words that declare so many names, none of which starts the count again.
 use Rattle.std.specs.Prelude.{nat_lt, if◌then◌else◌}
 use Rattle.std.proofs.Common.{◌≡◌, ℕ, suc, ◌+◌, ◌≤◌, ◌<◌, Bool, true, false, List, [], ◌∷◌, ◌++◌, map, Option, None, Some, refl, sym, ap, ◌∙◌, subst, arith}
-use Rattle.std.proofs.lemmas.Bool.{lt-ltb, ltb-true, ltb-false}
+use Rattle.std.proofs.lemmas.Bool.{lt-ltb, ltb-true}
 use Rattle.uc_forms.specs.Form.{Mark, quiet, declares, restarts}
 use Rattle.uc_forms.specs.Spelling.{Stand, one_deeper, past_limit}
 

@@ -5,7 +5,7 @@ use Rattle.std.proofs.lemmas.Bool.{false≢true}
 use Rattle.std.proofs.lemmas.Bool.Decides.{nat_tests}
 use Rattle.uc_lexer.specs.declared.token.TokenKind.{TokenKind}
 use Rattle.uc_lexer.specs.declared.token.TokenKind.TheVariants.{Number, LessUnsigned, LessEqualUnsigned, GreaterUnsigned, GreaterEqualUnsigned}
-use Rattle.uc_lexer.specs.Bytes.{is_blank, is_digit, is_letter, is_word, AreAll}
+use Rattle.uc_lexer.specs.Bytes.{is_blank, is_digit, is_word, AreAll}
 use Rattle.uc_lexer.specs.Gap.{Skips, here, blank}
 use Rattle.uc_lexer.specs.Table.{signs, IsAmong}
 use Rattle.uc_lexer.specs.Spelling.{Spells, name, keyword, bv_type, number, bv_literal, sign, MayEnd, IsWithinLimits, RunsOn, IsToken}

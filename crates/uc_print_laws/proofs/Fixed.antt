@@ -1,12 +1,12 @@
 -- Each word has a token that its bytes spell.
 use Rattle.std.specs.Prelude.{codes, decimal, unwrap_or, ◌⊎◌}
-use Rattle.std.proofs.Common.{◌≡◌, ℕ, ◌^◌, ◌<◌, Bool, true, false, List, [], ◌∷◌, ◌++◌, Option, Some, None, refl, sym, ap, ◌∙◌, subst, arith, inl, inr}
+use Rattle.std.proofs.Common.{◌≡◌, ℕ, ◌^◌, ◌<◌, Bool, true, false, List, [], ◌∷◌, ◌++◌, Some, refl, sym, ap, ◌∙◌, subst, arith, inl, inr}
 use Rattle.std.proofs.lemmas.Bool.{false≢true}
 use Rattle.uc_lexer.specs.declared.token.TokenKind.{TokenKind}
 use Rattle.uc_lexer.specs.declared.token.TokenKind.TheVariants as token
 use Rattle.uc_lexer.specs.Bytes.{value_of}
 use Rattle.uc_lexer.specs.Table.{Entry, keywords, signs, IsAmong}
-use Rattle.uc_lexer.specs.Spelling.{IsDigits, Spells, keyword, bv_type, number, bv_literal, sign, IsWithinLimits}
+use Rattle.uc_lexer.specs.Spelling.{Spells, keyword, bv_type, number, bv_literal, sign, IsWithinLimits}
 use Rattle.uc_lexer.specs.Reading.{lookup}
 use Rattle.uc_lexer.proofs.Tables.{lookup-some}
 use Rattle.uc_lexer.proofs.Spellings.{word_longest}

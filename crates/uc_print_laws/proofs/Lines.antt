@@ -1,5 +1,5 @@
 -- The text of modules as their words, each with the blank behind it.
-use Rattle.std.proofs.Common.{◌≡◌, ℕ, true, false, List, [], ◌∷◌, ◌++◌, map, refl, sym, ap, ◌∙◌, append_assoc}
+use Rattle.std.proofs.Common.{◌≡◌, ℕ, true, List, [], ◌∷◌, ◌++◌, map, refl, sym, ap, ◌∙◌, append_assoc}
 use Rattle.std.proofs.lemmas.Bool.{false≢true}
 use Rattle.uc_lexer.specs.Bytes.{is_blank}
 use Rattle.uc_syntax.specs.declared.declaration.Module.{Module}

@@ -2,7 +2,7 @@
 use Rattle.std.specs.Str.{bytes_eq}
 use Rattle.std.specs.List.{list_any}
 use Rattle.std.proofs.lemmas.Slice.Eq.{bytes_eq-Decides}
-use Rattle.std.proofs.Common.{◌≡◌, ℕ, zero, suc, Bool, true, false, ◌||◌, List, [], ◌∷◌, slice_get, Option, Some, None, refl, sym, ap, ◌∙◌, subst}
+use Rattle.std.proofs.Common.{◌≡◌, ℕ, zero, suc, Bool, true, false, ◌||◌, List, [], ◌∷◌, slice_get, Option, Some, None, refl, ap, ◌∙◌, subst}
 use Rattle.uc_lexer.specs.declared.token.Token.{Token}
 use Rattle.uc_lexer.specs.Text.{Tokens}
 use Rattle.uc_lexer.proofs.Unique.{one_reading}
@@ -14,7 +14,7 @@ use Rattle.uc_words.specs.Fixed.{fixed_kind}
 use Rattle.uc_words.specs.Words.{bytes_of, with_kind, with_token, with_tokens}
 use Rattle.uc_printed.specs.Piece.{Piece, name, applied, fixed, is_name}
 use Rattle.uc_printed.specs.Declarations.{modules_words}
-use Rattle.uc_page.specs.Text.{found, name_text, kind_text, spelling, design_text}
+use Rattle.uc_page.specs.Text.{found, name_text, design_text}
 use Rattle.uc_print_laws.specs.Spelled.{IsSpelledName, HasSpelling, HaveSpellings, IsNumbered, AreNumbered}
 use Rattle.uc_print_laws.specs.Law.{IsWordKind, IsTokenOf, AreTokensOf}
 use Rattle.uc_print_laws.proofs.Lexed.{text_lexed}

@@ -2,9 +2,15 @@
 use Rattle.std.specs.Prelude.{if◌then◌else◌}
 use Rattle.std.specs.Str.{bytes_eq}
 use Rattle.std.proofs.lemmas.Slice.Eq.{bytes_eq-Decides}
-use Rattle.uc_syntax.specs.Numbering.{has_text}
-use Rattle.std.proofs.Common.{◌≡◌, ◌⊎◌, inl, inr, ℕ, ◌≤◌, Bool, true, false, not, List, [], ◌∷◌, slice_get, Option, Some, None, refl, sym, ap, ◌∙◌, subst}
-use Rattle.std.proofs.lemmas.Bool.{false≢true, not-true}
+use Rattle.uc_syntax.specs.Numbering.{has_text, AreDistinct}
+use Rattle.uc_syntax.proofs.Numbering.{keep_same}
+use Rattle.uc_name_counts.specs.Names.{HaveFewNames}
+use Rattle.uc_name_counts.specs.Law.{NamesAreCounted}
+use Rattle.std.proofs.Common.{◌≡◌, inl, inr, ℕ, ◌≤◌, Bool, true, false, not, List, [], ◌∷◌, slice_get, Option, Some, None, refl, sym, ap, ◌∙◌, subst, arith}
+use Rattle.std.proofs.lemmas.Bool.{false≢true}
+use Rattle.uc_forms.specs.Answer.{Answer, IsAnswer}
+use Rattle.uc_forms.specs.Answer as answers
+use Rattle.uc_forms.specs.Law.{DepthsBoundLevels}
 use Rattle.uc_forms.specs.Spelling.{Spells as SpellsModules}
 use Rattle.uc_lexer.specs.declared.token.Token.{Token}
 use Rattle.uc_lexer.specs.declared.token.TokenKind.{TokenKind}
@@ -20,13 +26,14 @@ use Rattle.uc_grammar.specs.Code.{name_in}
 use Rattle.uc_grammar.specs.Language.{grammar}
 use Rattle.uc_words.specs.Fixed.{fixed_kind}
 use Rattle.uc_words.specs.Known.{Entry, known_names, kind_in}
-use Rattle.uc_words.specs.Words.{bytes_of, IsNamed, IsKind, IsWord, AreWords, IsText}
+use Rattle.uc_words.specs.Words.{bytes_of, IsKind, AreWords, IsText}
 use Rattle.uc_printed.specs.Piece.{Piece, name, applied, fixed, is_name, is_on_bits, numbered}
 use Rattle.uc_printed.specs.Declarations.{modules_words}
-use Rattle.uc_page.specs.Text.{found, name_text, kind_text}
+use Rattle.uc_page.specs.Text.{found, name_text, kind_text, design_text}
 use Rattle.uc_shaped.specs.Kept.{is_own, Reprints, IsAmong, AreAll}
 use Rattle.uc_shaped.specs.Law.{SpelledIsShaped}
 use Rattle.uc_print_laws.specs.Spelled.{IsSpelledName, IsSpelledWord, HasSpelling, HaveSpellings, IsShaped, IsNumbered, AreNumbered}
+use Rattle.uc_print_laws.specs.Law.{TextIsReadBack, ParsedIsShaped, IsReadBack, IsSpelledAgain}
 use Rattle.uc_print_laws.proofs.Numbered.{number_has_text}
 use Rattle.uc_print_laws.proofs.Worded.{name_kind}
 
@@ -209,3 +216,22 @@ parsed_shaped law names file text words levels modules is s =
     let kept = law levels words modules s in
     let spelled = reads_spelled file text 0 is.tokens None is.are_tokens in
     (record { spelled = all_spelled names (IsAmong words) (modules_words modules).words (among_spelled names text is.tokens words spelled is.are_words) kept.among; nodes = kept.nodes }, kept.depth, all_numbered names (IsAmong words) (modules_words modules).words (among_numbered names text is.tokens words is.are_words) kept.among)
+
+-- ---- printed and read again
+
+pub printed_back : TextIsReadBack → ParsedIsShaped → DepthsBoundLevels grammar → NamesAreCounted → (levels limit : ℕ) (names : List (List ℕ)) (file : ℕ) (text : List ℕ) (words : List Word) (modules : List Module) → AreDistinct names → IsText names file text words → IsAnswer grammar levels limit words (answers.spelled modules)
+    → (other : ℕ) (printed : List Word) (answer : Answer Word (List Module)) → IsText names other (design_text names modules) printed → IsAnswer grammar levels limit printed answer → IsSpelledAgain modules answer
+printed_back back shaped bound counted levels limit names file text words modules distinct is i other printed answer again j =
+    by answer (back levels limit names names modules other printed answer h.0 distinct (keep_same names) again j)
+  where
+    h : IsShaped names modules × ((modules_words modules).depth ≤ levels) × AreNumbered names (modules_words modules).words
+    h = shaped names file text words levels modules is (bound levels i.0 words modules i.1 i.2.0)
+
+    few : HaveFewNames limit modules
+    few = (counted limit i.0 words modules i.1).within i.2.1
+
+    by : (r : Answer Word (List Module)) → IsReadBack levels limit modules r → IsSpelledAgain modules r
+    by (answers.spelled ms) b = b
+    by (answers.wrong rest) b = b
+    by (answers.too_deep rest) b = (let d = h.1 in omega arith)
+    by (answers.too_many x) b = b few

@@ -1,11 +1,10 @@
 -- The words of tokens that are printed words show what was printed.
 use Rattle.std.specs.Prelude.{codes, if◌then◌else◌}
 use Rattle.std.specs.Str.{bytes_eq}
-use Rattle.std.proofs.Common.{◌≡◌, ℕ, Bool, true, false, List, [], ◌∷◌, ◌++◌, length, slice_get, Option, Some, None, refl, sym, ap, ◌∙◌, subst}
+use Rattle.std.proofs.Common.{◌≡◌, ℕ, Bool, true, false, List, [], ◌∷◌, length, slice_get, Option, Some, None, refl, sym, ap, ◌∙◌, subst}
 use Rattle.uc_lexer.specs.declared.token.Token.{Token}
 use Rattle.uc_lexer.specs.declared.token.TokenKind.{TokenKind}
 use Rattle.uc_lexer.specs.declared.token.TokenKind.TheVariants as token
-use Rattle.uc_lexer.specs.Text.{Tokens}
 use Rattle.uc_lexer.proofs.Unique.{one_reading}
 use Rattle.uc_syntax.specs.Numbering.{has_text, number_of, with_text, AreDistinct, KeepNumbers}
 use Rattle.uc_syntax.proofs.Numbering.{text_at, known_stays, new_at_end, last_at, keep_same, keep_with_text}
@@ -21,9 +20,9 @@ use Rattle.uc_words.specs.Known.{Entry, known_names, kind_in}
 use Rattle.uc_words.specs.Words.{bytes_of, IsNamed, IsKind, IsWord, AreWords, IsText, with_kind, with_token, with_tokens}
 use Rattle.uc_words.proofs.Names.{name_stays, kept_twice}
 use Rattle.uc_words.proofs.TokenByToken.{words_stay}
-use Rattle.uc_printed.specs.Piece.{Piece, name, applied, fixed, is_name, is_on_bits, numbered, Shows, Shown}
+use Rattle.uc_printed.specs.Piece.{Piece, name, applied, fixed, is_name, is_on_bits, Shows, Shown}
 use Rattle.uc_printed.specs.Declarations.{modules_words}
-use Rattle.uc_page.specs.Text.{found, name_text, function_text, kind_text, spelling, design_text}
+use Rattle.uc_page.specs.Text.{found, name_text, function_text, kind_text, design_text}
 use Rattle.uc_print_laws.specs.Spelled.{IsSpelledName, IsSpelledWord, HasSpelling, HaveSpellings}
 use Rattle.uc_print_laws.specs.Law.{IsKindOf, IsTokenOf, AreTokensOf}
 use Rattle.uc_print_laws.proofs.Lexed.{text_lexed}

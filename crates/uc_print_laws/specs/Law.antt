@@ -16,6 +16,7 @@ use Rattle.uc_words.specs.Words.{bytes_of, with_tokens, AreWords, IsText}
 use Rattle.uc_printed.specs.Piece.{Piece, name, applied, fixed, is_name, Shown}
 use Rattle.uc_printed.specs.Declarations.{modules_words, erased_modules}
 use Rattle.uc_page.specs.Text.{spelling, design_text}
+use Rattle.uc_name_counts.specs.Names.{HaveFewNames}
 use Rattle.uc_print_laws.specs.Spelled.{HaveSpellings, IsShaped, AreNumbered}
 
 -- ---- tokens
@@ -72,18 +73,18 @@ abbrev pub TextIsSpelled : Type 0
 TextIsSpelled = (names : List (List ℕ)) (modules : List Module) (file : ℕ) → AreDistinct names → IsShaped names modules → SpellsAgain names file (design_text names modules) modules
 
 -- What reading the text of these modules is to answer: the same modules, places aside, unless they nest deeper than may be, or
--- one of them declares too many names.
-abbrev pub IsReadBack : ℕ → List Module → Answer Word (List Module) → Type 0
-IsReadBack levels modules (spelled again) = erased_modules again ≡ erased_modules modules
-IsReadBack levels modules (wrong rest) = ⊥
-IsReadBack levels modules (too_deep rest) = levels < (modules_words modules).depth
-IsReadBack levels modules (too_many declared) = Unit {0}
+-- one of them declares more names than may be.
+abbrev pub IsReadBack : ℕ → ℕ → List Module → Answer Word (List Module) → Type 0
+IsReadBack levels limit modules (spelled again) = erased_modules again ≡ erased_modules modules
+IsReadBack levels limit modules (wrong rest) = ⊥
+IsReadBack levels limit modules (too_deep rest) = levels < (modules_words modules).depth
+IsReadBack levels limit modules (too_many declared) = HaveFewNames limit modules → ⊥
 
 -- So whatever is to be answered for the words of the printed text, under the same names or these with further ones behind them,
 -- it is these modules.
 abbrev pub TextIsReadBack : Type 0
 TextIsReadBack = (levels limit : ℕ) (names after : List (List ℕ)) (modules : List Module) (file : ℕ) (words : List Word) (answer : Answer Word (List Module)) → IsShaped names modules
-    → AreDistinct after → KeepNumbers names after → IsText after file (design_text names modules) words → IsAnswer grammar levels limit words answer → IsReadBack levels modules answer
+    → AreDistinct after → KeepNumbers names after → IsText after file (design_text names modules) words → IsAnswer grammar levels limit words answer → IsReadBack levels limit modules answer
 
 -- Reading the text adds no names where those that the grammar knows are there.
 abbrev pub TextKeepsNames : Type 0
@@ -95,3 +96,14 @@ TextKeepsNames = (names : List (List ℕ)) (modules : List Module) (file : ℕ) 
 abbrev pub ParsedIsShaped : Type 0
 ParsedIsShaped = (names : List (List ℕ)) (file : ℕ) (text : List ℕ) (words : List Word) (levels : ℕ) (modules : List Module) → IsText names file text words
     → Spells grammar.rule levels grammar.text words modules → IsShaped names modules × ((modules_words modules).depth ≤ levels) × AreNumbered names (modules_words modules).words
+
+-- the same modules, places and files aside
+abbrev pub IsSpelledAgain : List Module → Answer Word (List Module) → Type 0
+IsSpelledAgain modules (spelled again) = erased_modules again ≡ erased_modules modules
+IsSpelledAgain modules other = ⊥
+
+-- So where a text is to be answered with modules, within limits of nesting and of names, the text that is printed of them is to be
+-- answered with the same modules, within the same limits and under the same names.
+abbrev pub ReadIsPrintedBack : Type 0
+ReadIsPrintedBack = (levels limit : ℕ) (names : List (List ℕ)) (file : ℕ) (text : List ℕ) (words : List Word) (modules : List Module) → AreDistinct names → IsText names file text words → IsAnswer grammar levels limit words (spelled modules)
+    → (other : ℕ) (printed : List Word) (answer : Answer Word (List Module)) → IsText names other (design_text names modules) printed → IsAnswer grammar levels limit printed answer → IsSpelledAgain modules answer

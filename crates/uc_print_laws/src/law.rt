@@ -1,6 +1,6 @@
 //! The laws of printed texts, as contracts of functions that compute nothing.
 
-ghost use Rattle.uc_print_laws.specs.Law.{ParsedIsShaped, TextIsLexed, TextIsReadBack, TextIsSpelled, TextKeepsNames, TextShowsWords};
+ghost use Rattle.uc_print_laws.specs.Law.{ParsedIsShaped, ReadIsPrintedBack, TextIsLexed, TextIsReadBack, TextIsSpelled, TextKeepsNames, TextShowsWords};
 
 use uc_grammar::Modules;
 
@@ -29,6 +29,8 @@ pub fn text_is_read_back()
     uc_grammar::stands_alike();
     uc_forms::levels_bound_depths::<Modules>();
     uc_printed::modules_are_spelled();
+    uc_name_counts::names_are_counted();
+    uc_name_counts::names_without_places();
 }
 
 /// A law of the definitions: reading a printed text adds no names where those that the grammar knows are there.
@@ -41,4 +43,14 @@ pub fn parsed_is_shaped()
     ensures { ParsedIsShaped }
 {
     uc_shaped::spelled_is_shaped();
+}
+
+/// A law of the definitions: what is to be read of a text is to be read again of the text that is printed of it.
+pub fn read_is_printed_back()
+    ensures { ReadIsPrintedBack }
+{
+    text_is_read_back();
+    parsed_is_shaped();
+    uc_forms::depths_bound_levels::<Modules>();
+    uc_name_counts::names_are_counted();
 }

@@ -8,6 +8,6 @@
 mod law;
 
 pub use law::{
-    parsed_is_shaped, text_is_lexed, text_is_read_back, text_is_spelled, text_keeps_names,
-    text_shows_words,
+    parsed_is_shaped, read_is_printed_back, text_is_lexed, text_is_read_back, text_is_spelled,
+    text_keeps_names, text_shows_words,
 };

@@ -1,13 +1,16 @@
 //! The text of a design.
 
-ghost use Rattle.std.specs.Prelude.{◌≡◌, ◌++◌, ◌∷◌, [], IfOk, OnOk};
+ghost use Rattle.std.specs.Prelude.{◌≡◌, ◌++◌, ◌∷◌, [], ℕ, IfOk, OnOk};
 ghost use Rattle.uc_page.specs.Text.{design_text, spaced};
 ghost use Rattle.uc_printed.specs.Declarations.{module_words};
+ghost use Rattle.uc_print_laws.specs.Law.{SpellsAgain};
+ghost use Rattle.uc_print_laws.specs.Spelled.{IsShaped};
 
 use crate::declarations::put_declarations;
 use std::alloc::{AllocError, Global};
 use uc_grammar::Kind;
 use uc_page::{Page, put_name, put_sign};
+use uc_print_laws::text_is_spelled;
 use uc_syntax::{Design, Module, Names};
 
 /// Puts a module, and a line feed behind it.
@@ -41,9 +44,15 @@ pub fn print_modules(
     Ok(page.into_bytes())
 }
 
-/// The text of a design: that of its modules under its names.
+/// The text of a design: that of its modules under its names. Where the names and literals in its modules have spellings and its
+/// nodes are those of the grammar, the text spells the same modules again, places and files aside, as a text of any file that is read
+/// into the design's names.
 pub fn print(alloc: Global, design: &Design) -> Result<Vec<u8>, AllocError>
-    ensures { IfOk result (λ text. text.items ≡ design_text design.now.names design.now.modules) }
+    ensures text { IfOk result (λ text. text.items ≡ design_text design.now.names design.now.modules) }
+    ensures spelled { IfOk result (λ text. IsShaped design.now.names design.now.modules → (file : ℕ) → SpellsAgain design.now.names file text.items design.now.modules) }
 {
-    print_modules(alloc, design.names(), design.modules().as_slice())
+    let names = design.names();
+    let _count = names.len();
+    text_is_spelled();
+    print_modules(alloc, names, design.modules().as_slice())
 }

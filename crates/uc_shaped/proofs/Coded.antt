@@ -1,6 +1,6 @@
 -- The kinds of words by their codes, and what each may be printed as.
 use Rattle.std.specs.Prelude.{◌||◌, ◌==◌}
-use Rattle.std.proofs.Common.{◌≡◌, ℕ, Bool, true, false, List, [], ◌∷◌, slice_get, Option, Some, refl, sym, ap, ◌∙◌, subst}
+use Rattle.std.proofs.Common.{◌≡◌, ℕ, Bool, true, false, List, [], ◌∷◌, slice_get, Some, refl, sym, ap, ◌∙◌}
 use Rattle.std.proofs.lemmas.Bool.{eqb-true, false≢true}
 use Rattle.uc_forms.specs.Form.{member, codes_of}
 use Rattle.uc_grammar.specs.declared.word.Kind.{Kind}
@@ -8,7 +8,7 @@ use Rattle.uc_grammar.specs.declared.word.Kind.TheVariants as kinds
 use Rattle.uc_grammar.specs.Code.{code_of, name_in, value_in, width_in}
 use Rattle.uc_grammar.specs.Syntax.{words, known}
 use Rattle.uc_syntax.specs.declared.expression.BitFunction.TheVariants.{ZeroExtend}
-use Rattle.uc_printed.specs.Piece.{Piece, name, applied, fixed, is_name, is_on_bits, numbered}
+use Rattle.uc_printed.specs.Piece.{name, fixed, is_name, numbered}
 use Rattle.uc_shaped.specs.Kept.{is_own, Reprints}
 
 -- each kind at its code, with zeros for its numbers

@@ -1,37 +1,32 @@
 -- Commands, declarations and modules.
-use Rattle.std.proofs.Common.{◌≡◌, ◌⊎◌, inl, inr, ℕ, suc, Bool, true, false, List, [], ◌∷◌, Option, Some, None, map, refl}
-use Rattle.uc_forms.specs.Form.{quiet, declares, restarts, any, both, either, deep, made, word, one_of, after, before, member, codes_of}
+use Rattle.std.proofs.Common.{◌≡◌, ◌⊎◌, inl, inr, ℕ, suc, true, List, [], ◌∷◌, Option, Some, None, refl}
+use Rattle.uc_forms.specs.Form.{quiet, declares, restarts, both, deep, made, word, one_of, after, before, member, codes_of}
 use Rattle.uc_lexer.specs.declared.place.Place.{Place}
 use Rattle.uc_grammar.specs.declared.word.Word.{Word}
 use Rattle.uc_grammar.specs.declared.word.Kind.{Kind}
 use Rattle.uc_grammar.specs.declared.word.Kind.TheVariants as kinds
 use Rattle.uc_grammar.specs.Code.{code_of, name_in, value_in}
-use Rattle.uc_grammar.specs.Syntax.{F, words, rule, listed as listed_form, id, new_id, flat, optional, expr, ty, statements, labelled as labelled_form, params, results, binds, bind_value, hyper_number, in_number, maybe_number, in_name, paths, control_braces, module_braces, run, counterexample, Ending, command_of, led, named_command, command, clause, variable_kind, type_of, type_declaration, results_of, procedure_of, procedure, hyper_of, declaration, module_form, text}
+use Rattle.uc_grammar.specs.Syntax.{F, words, rule, listed as listed_form, id, new_id, flat, optional, expr, ty, params, results, binds, bind_value, hyper_number, in_number, maybe_number, in_name, paths, control_braces, module_braces, run, counterexample, Ending, command_of, led, named_command, command, clause, variable_kind, type_of, type_declaration, results_of, procedure_of, procedure, hyper_of, declaration, module_form, text}
 use Rattle.uc_syntax.specs.declared.place.Identifier.{Identifier}
 use Rattle.uc_syntax.specs.declared.type_expression.Parameter.{Parameter}
 use Rattle.uc_syntax.specs.declared.type_expression.TypeExpr.{TypeExpr}
 use Rattle.uc_syntax.specs.declared.expression.BitFunction.TheVariants.{ZeroExtend}
 use Rattle.uc_syntax.specs.declared.expression.Expr.{Expr}
-use Rattle.uc_syntax.specs.declared.declaration.Clause.{Clause}
 use Rattle.uc_syntax.specs.declared.declaration.WrittenRun.{WrittenRun}
 use Rattle.uc_syntax.specs.declared.declaration.WrittenRun.TheVariants as runs
 use Rattle.uc_syntax.specs.declared.declaration.Command.{Command}
-use Rattle.uc_syntax.specs.declared.declaration.Command.TheVariants as commands
-use Rattle.uc_syntax.specs.declared.declaration.Decl.{Decl}
 use Rattle.uc_syntax.specs.declared.declaration.Decl.TheVariants as decls
-use Rattle.uc_syntax.specs.declared.declaration.Module.{Module}
 use Rattle.uc_printed.specs.Piece.{Piece, name, fixed, is_name}
-use Rattle.uc_printed.specs.Printed.{Printed, none, sign, identifier, ◌<+>◌, nested, when, each, joined, listed, has_one, in_parens}
+use Rattle.uc_printed.specs.Printed.{sign, identifier, ◌<+>◌, nested, listed, in_parens}
 use Rattle.uc_printed.specs.Types.{printed_type}
-use Rattle.uc_printed.specs.Expressions.{printed_expr, enclosed}
-use Rattle.uc_printed.specs.Declarations.{run_words, path_words, paths_words, counterexample_words, command_words, parameter_words, code_words, clause_words, results_words, procedure_words, binding_words, variable_kind as kind_of_variables, decl_words, module_words, modules_words}
+use Rattle.uc_printed.specs.Expressions.{printed_expr}
+use Rattle.uc_printed.specs.Declarations.{run_words, path_words, paths_words, counterexample_words, command_words, parameter_words, clause_words, results_words, procedure_words, binding_words, variable_kind as kind_of_variables, decl_words, module_words, modules_words}
 use Rattle.uc_shaped.specs.Kept.{Reprints}
-use Rattle.uc_shaped.proofs.Good.{Good, Each, good_is, g_none, g_piece, g_both, g_nested, g_when, g_each, g_behind}
+use Rattle.uc_shaped.proofs.Good.{Good, g_none, g_piece, g_both, g_nested, g_when, g_each, g_behind}
 use Rattle.uc_shaped.proofs.Coded.{IsTold, told, one_code, a_name_is, named_by_code}
 use Rattle.uc_shaped.proofs.Steps.{Deeper, Keeps, Joined, k_any, k_word, k_number, k_name, k_both, k_either, k_made, k_or, k_after, k_before, k_until, k_many, k_joined, k_optional, k_weak}
 use Rattle.uc_shaped.proofs.Nest.{Nest, Deep}
 use Rattle.uc_shaped.proofs.Types.{k_id, k_new_id, k_listed, k_enclosed, k_in_parens, k_ty, k_parameter}
-use Rattle.uc_shaped.proofs.Expressions.{k_expr}
 use Rattle.uc_shaped.proofs.Statements.{k_labelled, k_statements, k_condition}
 
 abbrev variable_codes : List ℕ

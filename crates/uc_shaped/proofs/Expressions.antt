@@ -1,12 +1,11 @@
 -- Expressions.
-use Rattle.std.proofs.Common.{◌≡◌, ◌⊎◌, inl, inr, ℕ, suc, Bool, true, false, List, [], ◌∷◌, Option, Some, None, map, refl, ap, arith}
+use Rattle.std.proofs.Common.{◌≡◌, ◌⊎◌, inl, inr, ℕ, suc, true, List, [], ◌∷◌, map, refl, ap, arith}
 use Rattle.uc_forms.specs.Form.{quiet}
-use Rattle.uc_lexer.specs.declared.place.Place.{Place}
 use Rattle.uc_grammar.specs.declared.word.Word.{Word}
 use Rattle.uc_grammar.specs.declared.word.Kind.{Kind}
 use Rattle.uc_grammar.specs.declared.word.Kind.TheVariants as kinds
 use Rattle.uc_grammar.specs.Code.{name_in, value_in}
-use Rattle.uc_grammar.specs.Syntax.{F, rule, Placed, Head, known, a_name, id, listed as listed_form, arguments, in_name, parens, brackets, sign_operand, if_expression, bind_value, applied as applied_form, named, primary, selection, selected_of, unary_operator, unary, product, summed, concatenated, bit_and, bit_xor, bit_or, compared, conjunction, disjunction, implication, equivalence, expression, expr, branch}
+use Rattle.uc_grammar.specs.Syntax.{rule, Head, known, arguments, in_name, parens, brackets, sign_operand, if_expression, bind_value, applied as applied_form, named, primary, selection, selected_of, unary_operator, unary, product, summed, concatenated, bit_and, bit_xor, bit_or, compared, conjunction, disjunction, implication, equivalence, expression, expr, branch}
 use Rattle.uc_syntax.specs.declared.place.Identifier.{Identifier}
 use Rattle.uc_syntax.specs.declared.expression.Branch.{Branch}
 use Rattle.uc_syntax.specs.declared.expression.Selection.{Selection}
@@ -16,15 +15,15 @@ use Rattle.uc_syntax.specs.declared.expression.Primary.TheVariants as primaries
 use Rattle.uc_syntax.specs.declared.expression.Expr.{Expr}
 use Rattle.uc_syntax.specs.declared.expression.Expr.TheViews as exprs
 use Rattle.uc_printed.specs.Piece.{Piece, name, applied, fixed, is_name}
-use Rattle.uc_printed.specs.Printed.{Printed, none, sign, identifier, ◌<+>◌, nested, when, each, joined, has_one, in_parens}
-use Rattle.uc_printed.specs.Expressions.{Leveled, at, whole, each_branch, branch_words, unary_kind, each_selection, selection_words, each_primary, primary_words, is_selected, leveled, printed_expr, enclosed}
+use Rattle.uc_printed.specs.Printed.{Printed, identifier, each, in_parens}
+use Rattle.uc_printed.specs.Expressions.{Leveled, whole, each_branch, branch_words, unary_kind, each_selection, selection_words, each_primary, primary_words, is_selected, leveled, printed_expr, enclosed}
 use Rattle.uc_printed.proofs.Maps.{joined_over}
 use Rattle.uc_shaped.specs.Kept.{Reprints}
 use Rattle.uc_shaped.proofs.Good.{Good, Each, good_is, g_none, g_piece, g_both, g_nested, g_when, g_in_parens, g_whole, g_grouped, g_looser}
 use Rattle.uc_shaped.proofs.Coded.{a_number, is_a_name}
-use Rattle.uc_shaped.proofs.Steps.{Deeper, Keeps, k_any, k_word, k_number, k_literal, k_name, k_nothing, k_both, k_either, k_made, k_or, k_after, k_before, k_many, k_ahead, k_weak}
+use Rattle.uc_shaped.proofs.Steps.{Deeper, Keeps, k_any, k_word, k_number, k_literal, k_nothing, k_both, k_either, k_made, k_or, k_after, k_before, k_many, k_ahead, k_weak}
 use Rattle.uc_shaped.proofs.Nest.{At, Nest, Deep}
-use Rattle.uc_shaped.proofs.Types.{k_id, k_listed, k_enclosed, k_in_parens}
+use Rattle.uc_shaped.proofs.Types.{k_id, k_enclosed, k_in_parens}
 use Rattle.uc_shaped.proofs.Levels.{leveled_iff, leveled_implies, leveled_or, leveled_and, leveled_bit_or, leveled_bit_xor, leveled_bit_and, leveled_concat, leveled_product, leveled_unary, leveled_if, leveled_selected, at_is, k_level, k_sum, k_compared, unary_word}
 
 abbrev primary_of : Primary Expr → Printed

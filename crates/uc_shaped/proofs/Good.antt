@@ -1,12 +1,12 @@
 -- What is printed of trees that words spell, put together.
 use Rattle.std.specs.Prelude.{◌&&◌, nat_le, if◌then◌else◌}
-use Rattle.std.proofs.Common.{◌≡◌, ℕ, zero, suc, ◌≤◌, max, Bool, true, false, List, [], ◌∷◌, ◌++◌, refl, sym, subst, arith}
+use Rattle.std.proofs.Common.{◌≡◌, ℕ, suc, ◌≤◌, Bool, true, false, List, [], ◌∷◌, ◌++◌, refl, sym, subst, arith}
 use Rattle.std.proofs.lemmas.Bool.{le-leb, leb-true}
 use Rattle.uc_grammar.specs.declared.word.Kind.{Kind}
-use Rattle.uc_grammar.specs.declared.word.Kind.TheVariants.{LeftParen, RightParen, Comma}
+use Rattle.uc_grammar.specs.declared.word.Kind.TheVariants.{LeftParen, RightParen}
 use Rattle.uc_printed.specs.Piece.{Piece, fixed}
-use Rattle.uc_printed.specs.Printed.{Printed, none, piece, sign, ◌<+>◌, nested, when, each, behind, joined, listed, has_one, in_parens}
-use Rattle.uc_printed.specs.Expressions.{Leveled, at, enclosed}
+use Rattle.uc_printed.specs.Printed.{Printed, none, piece, ◌<+>◌, nested, when, each, behind, in_parens}
+use Rattle.uc_printed.specs.Expressions.{Leveled, at}
 use Rattle.uc_shaped.specs.Kept.{AreAll}
 
 -- the grammar has such a tree, it nests no deeper, and P holds of the words

@@ -1,7 +1,6 @@
 -- The levels of expressions.
-use Rattle.std.specs.Prelude.{◌==◌}
-use Rattle.std.proofs.Common.{◌≡◌, ◌⊎◌, inl, inr, ℕ, zero, suc, ◌≤◌, Bool, true, false, List, [], ◌∷◌, Option, Some, None, map, refl, sym, ap, ◌∙◌, subst, arith}
-use Rattle.uc_forms.specs.Form.{quiet, both, made, many, any, word, one_of, member, codes_of}
+use Rattle.std.proofs.Common.{◌≡◌, ℕ, suc, true, List, [], ◌∷◌, Option, Some, None, map, refl, sym, ap, ◌∙◌, subst, arith}
+use Rattle.uc_forms.specs.Form.{quiet, both, made, many, one_of, member, codes_of}
 use Rattle.uc_lexer.specs.declared.place.Place.{Place}
 use Rattle.uc_grammar.specs.declared.word.Word.{Word}
 use Rattle.uc_grammar.specs.declared.word.Kind.{Kind}
@@ -20,11 +19,11 @@ use Rattle.uc_syntax.specs.declared.expression.Expr.TheViews as exprs
 use Rattle.uc_syntax.specs.declared.expression.Expr.TheViews.{roll-Expr}
 use Rattle.uc_syntax.specs.declared.expression.Expr.TheFolds.{fold-roll-Expr}
 use Rattle.uc_printed.specs.Piece.{Piece, fixed}
-use Rattle.uc_printed.specs.Printed.{Printed, none, sign, ◌<+>◌, nested, when, each, behind, joined, has_one}
+use Rattle.uc_printed.specs.Printed.{sign, ◌<+>◌, nested, when, each, behind, has_one}
 use Rattle.uc_printed.specs.Expressions.{Leveled, at, is_marked, is_chain, chain, sum_kind, terms, sum_words, comparison_kind, each_branch, branch_words, unary_kind, each_selection, selection_words, each_primary, primary_words, is_selected, expr_form, leveled}
 use Rattle.uc_printed.proofs.ExpressionEquations.{map_if, map_selected}
 use Rattle.uc_shaped.specs.Kept.{Reprints}
-use Rattle.uc_shaped.proofs.Good.{Good, Each, good_is, g_none, g_piece, g_both, g_when, g_at, g_looser}
+use Rattle.uc_shaped.proofs.Good.{Good, Each, g_none, g_piece, g_both, g_when, g_at, g_looser}
 use Rattle.uc_shaped.proofs.Coded.{IsTold}
 use Rattle.uc_shaped.proofs.Steps.{Deeper, Keeps, k_any, k_word, k_both, k_made, k_many, k_optional, k_weak}
 use Rattle.uc_shaped.proofs.Nest.{At}

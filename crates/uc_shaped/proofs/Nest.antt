@@ -1,11 +1,11 @@
 -- What is printed of each nested form.
-use Rattle.std.proofs.Common.{◌≡◌, ℕ, suc, true, List, [], ◌∷◌, Option, Some, None, map}
+use Rattle.std.proofs.Common.{ℕ, Some, None}
 use Rattle.uc_forms.specs.Form.{deep}
 use Rattle.uc_grammar.specs.declared.word.Kind.TheVariants as kinds
 use Rattle.uc_grammar.specs.Syntax.{Nested, Value, enum_braces, record_braces, array, arguments, in_name, parens, brackets, sign_operand, if_expression, target_index, block, typed_name, range_bounds, negative_bound, call_targets, in_number, maybe_number, paths, control_braces, params, results, binds, bind_value, hyper_number, module_braces}
 use Rattle.uc_syntax.specs.declared.expression.Expr.{Expr}
 use Rattle.uc_printed.specs.Piece.{Piece}
-use Rattle.uc_printed.specs.Printed.{Printed, sign, identifier, ◌<+>◌, nested, each, joined, listed, in_parens}
+use Rattle.uc_printed.specs.Printed.{Printed, sign, identifier, ◌<+>◌, nested, each, listed, in_parens}
 use Rattle.uc_printed.specs.Types.{printed_type}
 use Rattle.uc_printed.specs.Expressions.{leveled, at, printed_expr, enclosed, each_selection, selection_words}
 use Rattle.uc_printed.specs.Statements.{part_words, target_words, bound_words}

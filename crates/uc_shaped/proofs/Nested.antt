@@ -1,15 +1,14 @@
 -- Every nested form, and texts.
-use Rattle.std.proofs.Common.{◌≡◌, ◌⊎◌, inl, inr, ℕ, zero, suc, List, [], ◌∷◌}
+use Rattle.std.proofs.Common.{inl, inr, ℕ, zero, suc, List, [], ◌∷◌}
 use Rattle.uc_forms.specs.Spelling.{SpellAt, Spells}
 use Rattle.uc_grammar.specs.declared.word.Word.{Word}
 use Rattle.uc_grammar.specs.Language.{grammar}
-use Rattle.uc_grammar.specs.Syntax.{rule, text, Nested, Value, enum_braces, record_braces, array, arguments, in_name, parens, brackets, sign_operand, if_expression, target_index, block, typed_name, range_bounds, negative_bound, call_targets, in_number, maybe_number, paths, control_braces, params, results, binds, bind_value, hyper_number, module_braces}
+use Rattle.uc_grammar.specs.Syntax.{rule, Nested, Value, enum_braces, record_braces, array, arguments, in_name, parens, brackets, sign_operand, if_expression, target_index, block, typed_name, range_bounds, negative_bound, call_targets, in_number, maybe_number, paths, control_braces, params, results, binds, bind_value, hyper_number, module_braces}
 use Rattle.uc_syntax.specs.declared.declaration.Module.{Module}
 use Rattle.uc_printed.specs.Piece.{Piece}
 use Rattle.uc_printed.specs.Declarations.{modules_words}
-use Rattle.uc_shaped.specs.Kept.{Reprints, IsAmong}
+use Rattle.uc_shaped.specs.Kept.{IsAmong}
 use Rattle.uc_shaped.specs.Law.{IsKept}
-use Rattle.uc_shaped.proofs.Good.{Good}
 use Rattle.uc_shaped.proofs.Steps.{Allows, Deeper, Keeps}
 use Rattle.uc_shaped.proofs.Nest.{Nest, Deep}
 use Rattle.uc_shaped.proofs.Types.{r_enum_braces, r_record_braces, r_array}

@@ -1,12 +1,12 @@
 -- Statements.
 use Rattle.std.specs.Option.{option_map}
-use Rattle.std.proofs.Common.{◌≡◌, ◌⊎◌, inl, inr, ℕ, suc, Bool, true, false, List, [], ◌∷◌, Option, Some, None, map, refl, ap, ◌∙◌}
-use Rattle.uc_forms.specs.Form.{Mark, quiet, both, either, chain, deep, made, word, after, before}
+use Rattle.std.proofs.Common.{◌≡◌, ◌⊎◌, inl, inr, ℕ, suc, Bool, true, List, [], ◌∷◌, Option, Some, None, map, refl, ap, ◌∙◌}
+use Rattle.uc_forms.specs.Form.{Mark, quiet, both, either, deep, made, word, after, before}
 use Rattle.uc_lexer.specs.declared.place.Place.{Place}
 use Rattle.uc_grammar.specs.declared.word.Word.{Word}
 use Rattle.uc_grammar.specs.declared.word.Kind.TheVariants as kinds
-use Rattle.uc_grammar.specs.Code.{name_in, value_in, width_in}
-use Rattle.uc_grammar.specs.Syntax.{F, rule, id, new_id, identifier as identifier_of, known, expr, ty, has, optional, listed as listed_form, arguments, in_name, target_index, block, typed_name, range_bounds, negative_bound, call_targets, label_of, labelled as labelled_form, target_of, target_part, target, targets, bound, statements, arm, if_statement, default_block, case_statement, loop_variable, for_statement, called_targets, call_statement, place_of, statement}
+use Rattle.uc_grammar.specs.Code.{name_in}
+use Rattle.uc_grammar.specs.Syntax.{F, rule, new_id, known, expr, ty, has, optional, listed as listed_form, arguments, in_name, target_index, block, typed_name, range_bounds, negative_bound, call_targets, label_of, labelled as labelled_form, target_of, target_part, target, targets, bound, statements, arm, if_statement, default_block, case_statement, loop_variable, for_statement, called_targets, call_statement, place_of, statement}
 use Rattle.uc_syntax.specs.declared.place.Identifier.{Identifier}
 use Rattle.uc_syntax.specs.declared.type_expression.Parameter.{Parameter}
 use Rattle.uc_syntax.specs.declared.type_expression.TypeExpr.{TypeExpr}
@@ -22,10 +22,9 @@ use Rattle.uc_syntax.specs.declared.statement.Stmt.TheViews as stmt_views
 use Rattle.uc_syntax.specs.declared.statement.Stmt.TheViews.{roll-Stmt}
 use Rattle.uc_syntax.specs.declared.statement.Stmt.TheFolds.{fold-roll-Stmt}
 use Rattle.uc_printed.specs.Piece.{Piece, name, fixed}
-use Rattle.uc_printed.specs.Printed.{Printed, none, piece, sign, identifier, ◌<+>◌, nested, when, each, joined, listed, has_one, in_parens}
-use Rattle.uc_printed.specs.Types.{printed_type}
+use Rattle.uc_printed.specs.Printed.{Printed, sign, identifier, ◌<+>◌, when, each, listed, has_one, in_parens}
 use Rattle.uc_printed.specs.Expressions.{printed_expr, enclosed, prime}
-use Rattle.uc_printed.specs.Statements.{part_words, target_words, bound_words, block_words, labelled, arm_words, further_words, else_words, choice_words, case_words, default_words, variable_words, called_words, stmt_form, printed_stmt, each_arm}
+use Rattle.uc_printed.specs.Statements.{part_words, target_words, bound_words, labelled, arm_words, further_words, else_words, choice_words, case_words, default_words, variable_words, called_words, stmt_form, printed_stmt, each_arm}
 use Rattle.uc_printed.specs.Declarations.{code_words, parameter_words}
 use Rattle.uc_printed.proofs.StatementLaw.{map_if, map_case}
 use Rattle.uc_shaped.proofs.Good.{Good, Each, good_is, g_none, g_piece, g_both, g_nested, g_when, g_each}

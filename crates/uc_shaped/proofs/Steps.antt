@@ -1,13 +1,13 @@
 -- What holds of whatever words spell in a form: one step for each shape of form.
-use Rattle.std.proofs.Common.{◌≡◌, ℕ, true, false, List, [], ◌∷◌, ◌++◌, Option, Some, None, refl, sym, ap, subst, inl, inr, ◌⊎◌}
-use Rattle.uc_forms.specs.Form.{Mark, quiet, declares, any, nothing, both, either, chain, until, made, ahead, deep, word, after, before, many, joined_by, goes_on_with, merged, ◌<|>◌, member, codes_of}
+use Rattle.std.proofs.Common.{◌≡◌, true, List, [], ◌∷◌, ◌++◌, Option, Some, None, sym, subst, inl, inr, ◌⊎◌}
+use Rattle.uc_forms.specs.Form.{Mark, quiet, any, nothing, both, either, chain, until, made, ahead, word, after, before, many, joined_by, goes_on_with, merged, ◌<|>◌, member, codes_of}
 use Rattle.uc_forms.specs.Spelling.{Language, SpellChain, SpellUntil, SpellWith}
 use Rattle.uc_grammar.specs.declared.word.Word.{Word}
 use Rattle.uc_grammar.specs.declared.word.Kind.{Kind}
 use Rattle.uc_grammar.specs.declared.word.Kind.TheVariants.{Name, Number, BvType, BvLit}
 use Rattle.uc_grammar.specs.Code.{code_of, name_in, value_in, width_in}
 use Rattle.uc_grammar.specs.Syntax.{words, known, Nested, Value, F, optional}
-use Rattle.uc_printed.specs.Piece.{Piece, name, fixed, is_name}
+use Rattle.uc_printed.specs.Piece.{Piece, name, fixed}
 use Rattle.uc_shaped.specs.Kept.{Reprints}
 use Rattle.uc_shaped.proofs.Good.{Each}
 use Rattle.uc_shaped.proofs.Coded.{IsTold, told, one_code, a_number, a_type_of_bits, a_literal, is_a_name, a_name_is}

@@ -6,7 +6,7 @@ use Rattle.uc_grammar.specs.declared.word.Kind.{Kind}
 use Rattle.uc_grammar.specs.declared.word.Kind.TheVariants as kinds
 use Rattle.uc_grammar.specs.declared.word.Word.{Word}
 use Rattle.uc_grammar.specs.Code.{name_in, width_in}
-use Rattle.uc_grammar.specs.Syntax.{F, rule, ty, parameter as parameter_form, id, new_id, listed as listed_form, array, enum_braces, record_braces, named_type, optional, enclosed as enclosed_form}
+use Rattle.uc_grammar.specs.Syntax.{F, rule, ty, parameter as parameter_form, id, new_id, listed as listed_form, array, enum_braces, record_braces, named_type, enclosed as enclosed_form}
 use Rattle.uc_syntax.specs.declared.place.Identifier.{Identifier}
 use Rattle.uc_syntax.specs.declared.type_expression.Parameter.{Parameter}
 use Rattle.uc_syntax.specs.declared.type_expression.TypeExpr.{TypeExpr}
@@ -16,13 +16,13 @@ use Rattle.uc_syntax.specs.declared.type_expression.TypeExpr.TheViews as type_vi
 use Rattle.uc_syntax.specs.declared.type_expression.TypeExpr.TheViews.{roll-TypeExpr}
 use Rattle.uc_syntax.specs.declared.type_expression.TypeExpr.TheFolds.{fold-roll-TypeExpr}
 use Rattle.uc_printed.specs.Piece.{Piece, name, fixed}
-use Rattle.uc_printed.specs.Printed.{Printed, none, piece, sign, identifier, ◌<+>◌, nested, when, joined, behind, listed, in_parens}
+use Rattle.uc_printed.specs.Printed.{Printed, piece, sign, identifier, ◌<+>◌, nested, joined, listed, in_parens}
 use Rattle.uc_printed.specs.Expressions.{enclosed}
 use Rattle.uc_printed.specs.Types.{parameter, type_form, printed_type, each_parameter}
 use Rattle.uc_printed.specs.Declarations.{parameter_words}
 use Rattle.uc_printed.proofs.Maps.{listed_over}
 use Rattle.uc_printed.proofs.TypeLaw.{map_record}
-use Rattle.uc_shaped.proofs.Good.{Good, Each, good_is, g_none, g_piece, g_both, g_nested, g_when, g_behind, g_in_parens}
+use Rattle.uc_shaped.proofs.Good.{Good, good_is, g_none, g_piece, g_both, g_nested, g_when, g_behind, g_in_parens}
 use Rattle.uc_shaped.proofs.Coded.{IsTold}
 use Rattle.uc_shaped.proofs.Steps.{Deeper, Keeps, Joined, k_word, k_type, k_name, k_both, k_either, k_made, k_or, k_after, k_before, k_joined, k_optional, k_weak}
 use Rattle.uc_shaped.proofs.Nest.{Nest, Deep}

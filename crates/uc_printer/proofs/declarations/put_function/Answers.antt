@@ -1,0 +1,8 @@
+use Rattle.std.proofs.Common.{sym}
+use Rattle.uc_printed.specs.Printed.{nowhere}
+use Rattle.uc_printer.proofs.DeclarationWords.{function_declaration_text}
+use Rattle.uc_printer.proofs.declarations.put_function.Goals as goal
+
+pub returns : goal.returns
+returns c = rw (c.in_ok-put_sign-2.ensures, c.in_ok-put_function_head.ensures, c.in_ok-put_sign.ensures)
+    (sym (function_declaration_text c.args.names.now c.args.page.now nowhere c.args.name c.args.parameters.now c.args.ty.now))
