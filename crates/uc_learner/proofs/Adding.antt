@@ -1,5 +1,5 @@
 -- Taking over a problem and an entry.
-use Rattle.std.proofs.Common.{◌≡◌, ℕ, ◌+◌, ◌^◌, ◌<◌, Bool, List, [], ◌∷◌, ◌++◌, None, length, replicate, take, refl, sym, ◌∙◌, ap, subst, arith}
+use Rattle.std.proofs.Common.{◌≡◌, ℕ, ◌+◌, ◌^◌, ◌<◌, Bool, List, [], ◌∷◌, ◌++◌, None, length, replicate, take, refl, sym, ◌∙◌, ap, subst, arith, vec_capacity}
 use Rattle.std.proofs.lemmas.List.{append-nil, length-append, length-map, length-replicate, replicate-append-replicate, map-append, take_at}
 use Rattle.std.proofs.lemmas.List.Elements.{All-nil, All-append, All-push}
 use Rattle.uc_circuit.specs.declared.literal.Lit.{Lit}
@@ -14,7 +14,7 @@ use Rattle.uc_log.proofs.Refutation.{closed_first}
 use Rattle.uc_learner.specs.declared.state.Step.{Step}
 use Rattle.uc_learner.specs.declared.state.State.{State}
 use Rattle.uc_learner.specs.Trail.{values_after}
-use Rattle.uc_learner.specs.Sound.{Sound}
+use Rattle.uc_learner.specs.Sound.{Sound, HasRoom}
 use Rattle.uc_learner.specs.Moves.{Cut}
 use Rattle.uc_learner.specs.Learners.{flag_of, input_flags, IsOver}
 use Rattle.uc_learner.specs.Added.{VariableAdded, Added}
@@ -52,8 +52,9 @@ pub added :
     → after.trail.items ≡ cut.trail.items
     → length after.inputs.items < 2 ^ 32
     → after.watches ≡ cut.watches
+    → (HasRoom before → HasRoom after)
     → Added before e after
-added before cut after e clauses flags is_cut over given_all room is_flags c i v t variables watches =
+added before cut after e clauses flags is_cut over given_all room is_flags c i v t variables watches has_room =
     let n : ℕ = length cut.inputs.items in
     let inputs : List Bool = cut.inputs.items ++ flags in
     let all : List (List Lit) = cut.clauses.items ++ clauses in
@@ -73,6 +74,7 @@ added before cut after e clauses flags is_cut over given_all room is_flags c i v
       front = ap (take (length before.clauses.items)) c ∙ take_at cut.clauses.items clauses (length before.clauses.items) (ap length is_cut.clauses) ∙ is_cut.clauses;
       longer = omega (arith, ap length c, length-append cut.clauses.items clauses, ap length is_cut.clauses);
       wider = omega (arith, long, many, ap length is_cut.inputs);
+      room = has_room;
       sound =
           sound_bare after inputs all i c
           (v ∙ ap (λ xs. xs ++ replicate (length flags) None) no_values ∙ replicate-append-replicate n (length flags) None ∙ ap (λ m. replicate m None) (sym long))
@@ -102,7 +104,7 @@ pub added_variable :
     → Added before e after
 added_variable before cut mid after e clauses flag is_cut over given_all room is_flags c i v t w one =
     added before cut after e clauses (flag ∷ []) is_cut over given_all room is_flags (one.clauses ∙ c)
-    (one.inputs ∙ ap (λ xs. xs ++ flag ∷ []) i) (one.values ∙ ap (λ xs. xs ++ None ∷ []) v) (one.trail ∙ t) one.room (one.watches ∙ w)
+    (one.inputs ∙ ap (λ xs. xs ++ flag ∷ []) i) (one.values ∙ ap (λ xs. xs ++ None ∷ []) v) (one.trail ∙ t) one.room (one.watches ∙ w) (λ _. one.trail_room)
 
 pub added_clauses :
     (before cut after : State) (e : Entry) (clauses : List (List Lit))
@@ -111,10 +113,12 @@ pub added_clauses :
     → length clauses + length cut.clauses.items < 2 ^ 32
     → [] ≡ input_flags (added_nodes e)
     → after.clauses.items ≡ cut.clauses.items ++ clauses → after.inputs.items ≡ cut.inputs.items → after.values.items ≡ cut.values.items → after.trail.items ≡ cut.trail.items → after.watches ≡ cut.watches
+    → vec_capacity after.trail ≡ vec_capacity cut.trail
     → Added before e after
-added_clauses before cut after e clauses is_cut over given_all room is_flags c i v t w =
+added_clauses before cut after e clauses is_cut over given_all room is_flags c i v t w capacity =
     added before cut after e clauses [] is_cut over given_all room is_flags c (i ∙ sym (append-nil cut.inputs.items)) (v ∙ sym (append-nil cut.values.items)) t
     (omega (arith, is_cut.sound.variables, ap length i)) w
+    (λ has. omega (arith, has, ap length i, ap length is_cut.inputs, capacity, is_cut.capacity))
 
 -- the state of a problem
 pub first_sound :

@@ -21,8 +21,9 @@ use Rattle.uc_learner.specs.declared.state.State.{State}
 use Rattle.uc_learner.specs.Trail.{values_at, NoneFalsified, DecisionsAreOpen, free, left}
 use Rattle.uc_circuit.specs.Values.{IsSettled}
 use Rattle.uc_learner.specs.ClauseStates.{AllSettled}
-use Rattle.uc_learner.specs.Sound.{AreWatched}
+use Rattle.uc_learner.specs.Sound.{AreWatched, HasRoom}
 use Rattle.uc_learner.proofs.Linked.{watched_made}
+use Rattle.uc_learner.proofs.Guarded.{guarded_none}
 use Rattle.uc_learner.specs.Walked.{Shape}
 use Rattle.uc_learner.specs.Learns.{Learns}
 use Rattle.uc_learner.specs.Moves.{Cut, Ready, NoDecision, SettledOnce, left_of}
@@ -197,12 +198,14 @@ pub record Started (s : State) : Type 0 where
   pub none : NoDecision s
   pub all_left : left_of s ≡ 2 ^ inputs_count s.inputs.items
 
-pub started : (s mid : State) → Cut s 0 mid → AreWatched s → Started mid
-started s mid cut watched = record {
+pub started : (s mid : State) → Cut s 0 mid → AreWatched s → HasRoom s → Started mid
+started s mid cut watched room = record {
   ready = record {
     sound = cut.sound;
     are_open = subst (λ (k : List Step). DecisionsAreOpen mid.clauses.items (replicate (length mid.inputs.items) None) k) (sym cut.trail) tt;
     watched = watched_made mid s.inputs.items s.clauses.items s.watches cut.inputs cut.clauses cut.watches watched;
+    guarded = guarded_none (length mid.inputs.items) mid.trail.items mid.watches.watched.items cut.trail;
+    room = omega (arith, room, ap length cut.inputs, cut.capacity);
   };
   none = subst (λ (k : List Step). All (λ (step : Step). step.reason ≡ None → ⊥) k) (sym cut.trail) (All-nil (λ (step : Step). step.reason ≡ None → ⊥));
   all_left =

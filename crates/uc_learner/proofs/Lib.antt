@@ -5,6 +5,7 @@ pub mod Measure
 pub mod Walking
 pub mod Learning
 pub mod Linked
+pub mod Guarded
 pub mod Progress
 pub mod Taught
 pub mod Opening

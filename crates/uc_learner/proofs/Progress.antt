@@ -1,5 +1,5 @@
 -- How the search's state keeps what it keeps.
-use Rattle.std.proofs.Common.{◌≡◌, ℕ, zero, suc, ◌+◌, ◌-◌, ◌^◌, ◌<◌, ◌≤◌, ◌⊎◌, inl, inr, Bool, true, false, not, List, [], ◌∷◌, ◌++◌, Option, None, Some, length, set, get_or, take, replicate, refl, sym, ◌∙◌, ap, subst, arith, get_or-set_same, get_or-set_other, below_more}
+use Rattle.std.proofs.Common.{◌≡◌, ℕ, zero, suc, ◌+◌, ◌-◌, ◌^◌, ◌<◌, ◌≤◌, ◌⊎◌, inl, inr, Bool, true, false, not, List, [], ◌∷◌, ◌++◌, Option, None, Some, length, set, get_or, take, replicate, refl, sym, ◌∙◌, ap, subst, arith, get_or-set_same, get_or-set_other, below_more, vec_capacity}
 use Rattle.std.specs.Option.{is_some}
 use Rattle.std.specs.Prelude.{All, Contains, MatchOption}
 use Rattle.std.proofs.lemmas.Bool.{cases_eq}
@@ -16,6 +16,10 @@ use Rattle.uc_learner.specs.Sound.{Sound}
 use Rattle.uc_learner.specs.Moves.{Pushed, Cut, Ready, Onward, NoDecision, SettledOnce, left_of, unset_count}
 use Rattle.uc_circuit.specs.Values.{IsSettled}
 use Rattle.uc_learner.specs.ClauseStates.{AllSettled, ConflictIs}
+use Rattle.uc_watches.specs.declared.watches.Watches.{Watches}
+use Rattle.uc_watches.specs.Watched.{AllGuard}
+use Rattle.uc_learner.specs.Guarded.{DecisionsAreGuarded, IsGuarded}
+use Rattle.uc_learner.proofs.Guarded.{guarded_made, guarded_implied, guarded_decided}
 use Rattle.uc_learner.proofs.Linked.{watched_made}
 use Rattle.uc_learner.proofs.Walking.{StepAt, step_at, step_inside}
 use Rattle.uc_learner.proofs.Learning.{length-values}
@@ -34,8 +38,9 @@ pub cut_more :
     → after.trail.items ≡ take (length s.trail.items - 1) s.trail.items
     → after.values.items ≡ set s.values.items step.literal.var None
     → after.watches ≡ s.watches
+    → vec_capacity after.trail ≡ vec_capacity s.trail
     → Cut before (length after.trail.items) after
-cut_more before s after step cut some last clauses inputs trail values watches =
+cut_more before s after step cut some last clauses inputs trail values watches capacity =
     let n : ℕ = length s.inputs.items in
     let m : ℕ = length s.trail.items - 1 in
     let w : List (Option Bool) = values_at n s.trail.items m in
@@ -57,6 +62,7 @@ cut_more before s after step cut some last clauses inputs trail values watches =
           trail ∙ ap (take m) cut.trail ∙ take-take m (length s.trail.items) before.trail.items (omega arith)
           ∙ ap (λ k. take k before.trail.items) (sym short);
       watches = watches ∙ cut.watches;
+      capacity = capacity ∙ cut.capacity;
       sound = record {
         values =
             back ∙ ap (values_after (replicate n None)) (sym trail)
@@ -80,6 +86,7 @@ cut_none s sound = record {
   inputs = refl;
   trail = sym (take_all (length s.trail.items) s.trail.items (omega arith));
   watches = refl;
+  capacity = refl;
   sound = sound;
 }
 
@@ -91,15 +98,16 @@ pub cut_more_by :
     → after.inputs.items ≡ s.inputs.items
     → after.values.items ≡ set s.values.items step.literal.var None
     → after.watches ≡ s.watches
+    → vec_capacity after.trail ≡ vec_capacity s.trail
     → Cut before (length after.trail.items) after
-cut_more_by before s after step cut popped clauses inputs values watches =
+cut_more_by before s after step cut popped clauses inputs values watches capacity =
     let long : length s.trail.items ≡ length after.trail.items + 1 = ap length popped ∙ length_push after.trail.items step in
     let place : length s.trail.items - 1 ≡ length after.trail.items = omega arith in
     let last : get_or s.trail.items (length s.trail.items - 1) step ≡ step =
     ap (λ k. get_or s.trail.items k step) place ∙ ap (λ xs. get_or xs (length after.trail.items) step) popped ∙ get_or_push after.trail.items step step (length after.trail.items) refl in
     let front : take (length s.trail.items - 1) s.trail.items ≡ after.trail.items =
     ap (λ k. take k s.trail.items) place ∙ ap (take (length after.trail.items)) popped ∙ take_at after.trail.items (step ∷ []) (length after.trail.items) refl in
-    cut_more before s after step cut (omega arith) (sym last) clauses inputs (sym front) values watches
+    cut_more before s after step cut (omega arith) (sym last) clauses inputs (sym front) values watches capacity
 
 pub popped_inside : (s : State) (rest : List Step) (step : Step) → Sound s → s.trail.items ≡ rest ++ step ∷ [] → step.literal.var < length s.values.items
 popped_inside s rest step sound popped =
@@ -141,12 +149,14 @@ sound_same s after i c v t sound =
 pub cut_same :
     (before : State) (target : ℕ) (s after : State)
     → after.inputs.items ≡ s.inputs.items → after.clauses.items ≡ s.clauses.items → after.values.items ≡ s.values.items → after.trail.items ≡ s.trail.items → after.watches ≡ s.watches
+    → vec_capacity after.trail ≡ vec_capacity s.trail
     → Cut before target s → Cut before target after
-cut_same before target s after i c v t w cut = record {
+cut_same before target s after i c v t w capacity cut = record {
   clauses = c ∙ cut.clauses;
   inputs = i ∙ cut.inputs;
   trail = t ∙ cut.trail;
   watches = w ∙ cut.watches;
+  capacity = capacity ∙ cut.capacity;
   sound = sound_same s after i c v t cut.sound;
 }
 
@@ -176,6 +186,37 @@ unset-set (o ∷ v) (suc x) b h unset =
     let e : unset_count (set v x (Some b)) + 1 ≡ unset_count v = unset-set v x b (omega arith) unset in
     omega arith
 
+-- each step of the trail gave a variable its value
+unset-after :
+    (inputs : List Bool) (clauses : List (List Lit)) (v : List (Option Bool)) (xs : List Step)
+    → TrailFits inputs clauses v xs → unset_count (values_after v xs) + length xs ≡ unset_count v
+unset-after inputs clauses v [] fits = omega arith
+unset-after inputs clauses v (s ∷ xs) fits =
+    let rest : unset_count (values_after (assign v s.literal) xs) + length xs ≡ unset_count (assign v s.literal) = unset-after inputs clauses (assign v s.literal) xs fits.1 in
+    let here : unset_count (assign v s.literal) + 1 ≡ unset_count v = unset-set v s.literal.var (not s.literal.neg) fits.0.inside fits.0.unset in
+    omega arith
+
+unset-none : (n : ℕ) → unset_count (replicate n None) ≡ n
+unset-none zero = refl
+unset-none (suc n) = let e : unset_count (replicate n None) ≡ n = unset-none n in omega arith
+
+pub unset_and_steps : (s : State) → Sound s → unset_count s.values.items + length s.trail.items ≡ length s.inputs.items
+unset_and_steps s sound =
+    let none : List (Option Bool) = replicate (length s.inputs.items) None in
+    omega (arith, ap unset_count sound.values, unset-after s.inputs.items s.clauses.items none s.trail.items sound.trail, unset-none (length s.inputs.items))
+
+-- the trail has room for a literal without a value
+pub has_room : (s : State) (l : Lit) → Ready s → l.var < length s.values.items → HasNoValue s.values.items l → length s.trail.items < vec_capacity s.trail
+has_room s l ready inside unset =
+    omega (arith, unset_and_steps s ready.sound, unset-set s.values.items l.var true inside unset, ready.room)
+
+pub forced_room :
+    (s : State) (l : Lit) (n : ℕ) → Ready s → n < length s.clauses.items → Forces s.values.items (get_or s.clauses.items n []) l → length s.trail.items < vec_capacity s.trail
+forced_room s l n ready h forces =
+    has_room s l ready
+    (omega (arith, length-values s ready.sound, All-contains (λ (k : Lit). k.var < length s.inputs.items) (get_or s.clauses.items n []) l (ready.sound.within n [] h) forces.there))
+    forces.unset
+
 -- one more step on the trail
 pub record Stepped (before after : State) : Type 0 where
   pub onward : Onward before after
@@ -187,8 +228,9 @@ step_taken :
     → StepFits s.inputs.items s.clauses.items (values_after (replicate (length s.inputs.items) None) s.trail.items) step
     → MatchOption step.reason (NoneFalsified s.clauses.items (assign (values_after (replicate (length s.inputs.items) None) s.trail.items) step.literal)) (λ _. Unit {0})
     → left s.inputs.items (replicate (length s.inputs.items) None) (s.trail.items ++ step ∷ []) ≤ left_of s
+    → DecisionsAreGuarded (length s.inputs.items) (s.trail.items ++ step ∷ []) s.watches.watched.items
     → Stepped s after
-step_taken s after step ready pushed fits is_open le =
+step_taken s after step ready pushed fits is_open le guarded =
     let none : List (Option Bool) = replicate (length s.inputs.items) None in
     let now : s.values.items ≡ values_after none s.trail.items = ready.sound.values in
     let values : assign s.values.items step.literal ≡ values_after none (s.trail.items ++ step ∷ []) =
@@ -208,6 +250,8 @@ step_taken s after step ready pushed fits is_open le =
               open_made after s.inputs.items s.clauses.items (s.trail.items ++ step ∷ []) pushed.inputs pushed.clauses pushed.trail
               (open_push s.clauses.items none s.trail.items step ready.are_open is_open);
           watched = watched_made after s.inputs.items s.clauses.items s.watches pushed.inputs pushed.clauses pushed.watches ready.watched;
+          guarded = guarded_made after s.inputs.items (s.trail.items ++ step ∷ []) s.watches.watched.items pushed.inputs pushed.trail (ap (λ (w : Watches). w.watched.items) pushed.watches) guarded;
+          room = omega (arith, ready.room, ap length pushed.inputs, pushed.capacity);
         };
         left_le = omega (arith, le, left_made after s.inputs.items (s.trail.items ++ step ∷ []) pushed.inputs pushed.trail);
         unset_le = omega arith;
@@ -235,6 +279,7 @@ implied_step s after step n ready pushed reason h forces =
     })
     (subst (λ (r : Option ℕ). MatchOption r (NoneFalsified s.clauses.items (assign w step.literal)) (λ _. Unit {0})) (sym reason) tt)
     (left_implied s.inputs.items none s.trail.items step n reason inside' forces'.unset)
+    (guarded_implied (length s.inputs.items) s.trail.items step s.watches.watched.items n reason ready.guarded)
 
 -- a clause that is false once a literal is made true was false before, or forced its negation
 falsified_by :
@@ -275,9 +320,9 @@ pub decided_step :
     (s after : State) (step : Step)
     → Ready s → Pushed s step after
     → step.reason ≡ None → IsInput s.inputs.items step.literal → step.literal.var < length s.inputs.items → HasNoValue s.values.items step.literal
-    → AllSettled s.clauses.items s.values.items
+    → AllSettled s.clauses.items s.values.items → IsGuarded s
     → Stepped s after
-decided_step s after step ready pushed reason input inside unset settled =
+decided_step s after step ready pushed reason input inside unset settled guards =
     let none : List (Option Bool) = replicate (length s.inputs.items) None in
     let w : List (Option Bool) = values_after none s.trail.items in
     let inside' : step.literal.var < length w = omega (arith, inside, ap length ready.sound.values, length-values s ready.sound) in
@@ -292,6 +337,8 @@ decided_step s after step ready pushed reason input inside unset settled =
     (subst (λ (r : Option ℕ). MatchOption r (NoneFalsified s.clauses.items (assign w step.literal)) (λ _. Unit {0})) (sym reason)
     (λ k d h all. settled_open w step.literal (get_or s.clauses.items k d) inside' unset' (settled' k d h) all))
     (omega (arith, left_decided s.inputs.items none s.trail.items step reason input inside' unset'))
+    (guarded_decided (length s.inputs.items) s.trail.items step s.watches.watched.items
+    (subst (λ (v : List (Option Bool)). AllGuard v v s.watches.watched.items) ready.sound.values guards) ready.guarded)
 
 pub onward_refl : (s : State) → Ready s → Onward s s
 onward_refl s ready = record { clauses = refl; inputs = refl; ready = ready; left_le = omega arith; unset_le = omega arith }

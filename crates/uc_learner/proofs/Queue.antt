@@ -1,5 +1,5 @@
 -- The queue of literals to look at, and a look at one slot.
-use Rattle.std.proofs.Common.{◌≡◌, ◌≢◌, ℕ, ◌+◌, ◌*◌, ◌/◌, ◌<◌, ◌≤◌, inl, inr, Bool, true, false, not, List, [], ◌∷◌, ◌++◌, Option, None, Some, length, get_or, set, take, replicate, refl, sym, ◌∙◌, ap, subst, arith}
+use Rattle.std.proofs.Common.{◌≡◌, ◌≢◌, ℕ, ◌+◌, ◌*◌, ◌/◌, ◌<◌, ◌≤◌, inl, inr, Bool, true, false, not, List, [], ◌∷◌, ◌++◌, Option, None, Some, length, get_or, set, take, replicate, refl, sym, ◌∙◌, ap, subst, arith, vec_capacity}
 use Rattle.std.specs.Prelude.{All, Contains}
 use Rattle.std.proofs.lemmas.Bool.{cases_eq}
 use Rattle.std.proofs.lemmas.List.{get_or_read, length_push, take-append-le}
@@ -13,7 +13,7 @@ use Rattle.uc_watches.specs.Pairs.{IsTrueIn, HasTrue, partner}
 use Rattle.uc_watches.specs.Watched.{Linked, Guards, AllGuard, Below}
 use Rattle.uc_watches.proofs.Slots.{front_other, without_between}
 use Rattle.uc_watches.proofs.Linking.{SlotOf, slot_of, linked_moved, value_inside}
-use Rattle.uc_watches.proofs.Guarding.{guard_later, guard_moved, guard_true}
+use Rattle.uc_watches.proofs.Guarding.{guard_later, guard_moved, guard_true, other_not}
 use Rattle.uc_learner.specs.declared.state.Step.{Step}
 use Rattle.uc_learner.specs.declared.state.State.{State}
 use Rattle.uc_learner.specs.Trail.{values_after, values_at}
@@ -22,6 +22,8 @@ use Rattle.uc_learner.specs.Moves.{Pushed, Ready, Onward, NoDecision, unset_coun
 use Rattle.uc_learner.specs.Propagated.{passed, Waiting, Gone, IsAtFalse, IsConflict, Goes, Guarded, Mended}
 use Rattle.uc_learner.proofs.Walk.{assign_here, assign_keeps}
 use Rattle.uc_learner.proofs.Steps.{values_at-later}
+use Rattle.uc_learner.specs.Guarded.{DecisionsAreGuarded}
+use Rattle.uc_learner.proofs.Guarded.{guarded_made}
 use Rattle.uc_learner.proofs.Linked.{watched_made, place_below}
 use Rattle.uc_learner.proofs.Learning.{values_now, length-values}
 use Rattle.uc_learner.proofs.Progress.{Stepped, sound_same, open_made, left_made, implied_step, onward_refl, onward_trans, undecided_more}
@@ -30,14 +32,17 @@ use Rattle.uc_learner.proofs.Progress.{Stepped, sound_same, open_made, left_made
 pub onward_same :
     (s after : State) → Ready s
     → after.inputs.items ≡ s.inputs.items → after.clauses.items ≡ s.clauses.items → after.values.items ≡ s.values.items → after.trail.items ≡ s.trail.items
-    → AreWatched after → Onward s after
-onward_same s after ready i c v t watched = record {
+    → vec_capacity after.trail ≡ vec_capacity s.trail
+    → AreWatched after → DecisionsAreGuarded (length after.inputs.items) after.trail.items after.watches.watched.items → Onward s after
+onward_same s after ready i c v t capacity watched guarded = record {
   clauses = c;
   inputs = i;
   ready = record {
     sound = sound_same s after i c v t ready.sound;
     are_open = open_made after s.inputs.items s.clauses.items s.trail.items i c t ready.are_open;
     watched = watched;
+    guarded = guarded;
+    room = omega (arith, ready.room, ap length i, capacity);
   };
   left_le = omega (arith, left_made after s.inputs.items s.trail.items i t);
   unset_le = omega (arith, ap unset_count v);
@@ -168,22 +173,38 @@ mended_pushed s after slot other step ready is pushed reason inside forces same_
       goes = λ _ f value f_false front rest apart list. inl (ap (λ (w : Watches). slots_of w.rings f) pushed.watches ∙ list);
     }
 
+-- the moved watch was not false at any decision, nor was the clause's other one
+moved_guarded :
+    (s : State) (slot : ℕ) (f other m : Lit)
+    → Ready s → get_or s.watches.watched.items slot None ≡ Some f → IsFalse s.values.items f → get_or s.watches.watched.items (partner slot) None ≡ Some other
+    → (IsFalse s.values.items m → ⊥)
+    → DecisionsAreGuarded (length s.inputs.items) s.trail.items (set s.watches.watched.items slot (Some m))
+moved_guarded s slot f other m ready value f_false partner_is m_not = λ i l is u.
+    let xs : List (Option Lit) = s.watches.watched.items in
+    let q : List (Option Bool) = passed s i in
+    let below : Below q s.values.items = passed_below s i ready.sound (omega (arith, is.inside)) in
+    guard_moved q q xs slot m other u (value_inside xs slot f value) partner_is (λ m_false. m_not (below m.var m.neg m_false))
+    (other_not q s.values.items xs slot f other value partner_is f_false (guard_later q q s.values.items xs (partner slot) below (ready.guarded i l is (partner slot))))
+    (λ _. ready.guarded i l is u)
+
 pub mended_moved :
     (s after : State) (slot : ℕ) (f other m : Lit)
-    → Ready s → get_or s.watches.watched.items slot None ≡ Some f → SlotOf s.clauses.items s.watches.watched.items slot f other
+    → Ready s → get_or s.watches.watched.items slot None ≡ Some f → IsFalse s.values.items f → SlotOf s.clauses.items s.watches.watched.items slot f other
     → Contains (get_or s.clauses.items (slot / 2) []) m → (m ≢ other) → (IsFalse s.values.items m → ⊥)
     → after.inputs.items ≡ s.inputs.items → after.clauses.items ≡ s.clauses.items → after.values.items ≡ s.values.items → after.trail.items ≡ s.trail.items → after.head ≡ s.head
+    → vec_capacity after.trail ≡ vec_capacity s.trail
     → after.watches.watched.items ≡ set s.watches.watched.items slot (Some m)
     → after.watches.rings ≡ with_front (without s.watches.rings slot) m slot
     → after.watches.narrow.items ≡ s.watches.narrow.items
     → after.watches.literals ≡ s.watches.literals
     → Mended s slot after false
-mended_moved s after slot f other m ready value slots there ne m_not i c v t h watched rings narrow literals =
+mended_moved s after slot f other m ready value f_false slots there ne m_not i c v t h capacity watched rings narrow literals =
     let place : place_of m < s.watches.literals =
     omega (arith, place_below m (length s.inputs.items) (All-contains (λ (l : Lit). l.var < length s.inputs.items) (get_or s.clauses.items (slot / 2) []) m (ready.sound.within (slot / 2) [] slots.inside) there), ready.watched.literals) in
     let linked : Linked s.clauses.items (length s.inputs.items) after.watches =
     linked_moved s.clauses.items (length s.inputs.items) s.watches after.watches slot f other m ready.watched value slots there ne place watched rings narrow literals in
-    let onward : Onward s after = onward_same s after ready i c v t (watched_made after s.inputs.items s.clauses.items after.watches i c refl linked) in
+    let onward : Onward s after = onward_same s after ready i c v t capacity (watched_made after s.inputs.items s.clauses.items after.watches i c refl linked)
+    (guarded_made after s.inputs.items s.trail.items (set s.watches.watched.items slot (Some m)) i t watched (moved_guarded s slot f other m ready value f_false slots.partner m_not)) in
     record {
       gone = record {
         onward = onward;

@@ -1,5 +1,5 @@
 -- The walk over the slots that watch a literal that became false.
-use Rattle.std.proofs.Common.{◌≡◌, ◌≢◌, ℕ, suc, ◌+◌, ◌*◌, ◌/◌, ◌<◌, ◌≤◌, ◌⊎◌, inl, inr, Bool, true, false, not, List, [], ◌∷◌, ◌++◌, Option, None, Some, length, get_or, replicate, refl, sym, ◌∙◌, ap, subst, arith}
+use Rattle.std.proofs.Common.{◌≡◌, ◌≢◌, ℕ, suc, ◌+◌, ◌*◌, ◌/◌, ◌<◌, ◌≤◌, ◌⊎◌, inl, inr, Bool, true, false, not, List, [], ◌∷◌, ◌++◌, Option, None, Some, length, get_or, replicate, refl, sym, ◌∙◌, ap, subst, arith, vec_capacity}
 use Rattle.std.specs.Prelude.{All, Contains, MatchOption}
 use Rattle.std.proofs.lemmas.Bool.{cases_lt}
 use Rattle.std.proofs.lemmas.List.{append_assoc, get_or_default}
@@ -27,6 +27,8 @@ use Rattle.uc_learner.proofs.Walk.{assign_here}
 use Rattle.uc_learner.proofs.Steps.{length-values_at, values_at-next}
 use Rattle.uc_learner.proofs.Walking.{step_inside}
 use Rattle.uc_learner.proofs.Learning.{values_now}
+use Rattle.uc_learner.specs.Guarded.{IsGuarded}
+use Rattle.uc_learner.proofs.Guarded.{guarded_made}
 use Rattle.uc_learner.proofs.Linked.{watched_made, place_below}
 use Rattle.uc_learner.proofs.Progress.{onward_trans}
 use Rattle.uc_learner.proofs.Queue.{gone_refl, gone_trans, onward_same, passed_below}
@@ -251,9 +253,9 @@ pub ahead_more :
     (first s visited after : State) (r : Option ℕ)
     → Ahead first s → s.head < length s.trail.items → Visited s visited r → r ≡ None
     → after.inputs.items ≡ visited.inputs.items → after.clauses.items ≡ visited.clauses.items → after.values.items ≡ visited.values.items → after.trail.items ≡ visited.trail.items
-    → after.watches ≡ visited.watches → after.head ≡ visited.head + 1
+    → after.watches ≡ visited.watches → after.head ≡ visited.head + 1 → vec_capacity after.trail ≡ vec_capacity visited.trail
     → Ahead first after
-ahead_more first s visited after r ahead more visit none i c v t w h =
+ahead_more first s visited after r ahead more visit none i c v t w h capacity =
     let ready : Ready visited = visit.gone.onward.ready in
     let ends : AllGuard (passed visited (visited.head + 1)) visited.values.items visited.watches.watched.items =
     subst (λ (o : Option ℕ). MatchOption o (AllGuard (passed visited (visited.head + 1)) visited.values.items visited.watches.watched.items) (IsConflict visited)) none visit.ends in
@@ -264,7 +266,8 @@ ahead_more first s visited after r ahead more visit none i c v t w h =
       onward =
           onward_trans first s after ahead.onward
           (onward_trans s visited after visit.gone.onward
-          (onward_same visited after ready i c v t (watched_made after visited.inputs.items visited.clauses.items visited.watches i c w ready.watched)));
+          (onward_same visited after ready i c v t capacity (watched_made after visited.inputs.items visited.clauses.items visited.watches i c w ready.watched)
+          (guarded_made after visited.inputs.items visited.trail.items visited.watches.watched.items i t (ap (λ (k : Watches). k.watched.items) w) ready.guarded)));
       undecided = λ before. subst (λ (xs : List Step). All (λ (k : Step). k.reason ≡ None → ⊥) xs) (sym t) (visit.gone.undecided (ahead.undecided before));
       waiting = record {
         inside = omega (arith, h, visit.gone.head, visit.gone.longer, more, ap length t);
@@ -279,15 +282,19 @@ ahead_more first s visited after r ahead more visit none i c v t w h =
           (subst (λ (k : List (Option Bool)). All (λ c'. HasTrue k (get_or visited.clauses.items c' [])) visited.watches.narrow.items) (sym v) trues));
     }
 
--- the queue is empty: nothing is false or forced
-pub ahead_settled : (first s : State) → Ahead first s → (s.head < length s.trail.items → ⊥) → AllSettled s.clauses.items s.values.items
-ahead_settled first s ahead done =
+-- the queue is empty: no clause is left to look at
+pub ahead_guarded : (first s : State) → Ahead first s → (s.head < length s.trail.items → ⊥) → IsGuarded s
+ahead_guarded first s ahead done =
     let sound : Sound s = ahead.onward.ready.sound in
     let all : s.head ≡ length s.trail.items =
     elim (cases_lt s.head (length s.trail.items)) [ inl h ↦ absurd (done h) | inr le ↦ (let w : s.head ≤ length s.trail.items = ahead.waiting.inside in omega (arith, w, le)) ] in
     let same : passed s s.head ≡ s.values.items = ap (passed s) all ∙ sym (values_now s sound) in
-    all_settled s.clauses.items (length s.inputs.items) s.watches s.values.items ahead.onward.ready.watched
-    (λ u. subst (λ p. Guards p s.values.items s.watches.watched.items u) same (ahead.waiting.guards u)) ahead.narrow
+    λ u. subst (λ p. Guards p s.values.items s.watches.watched.items u) same (ahead.waiting.guards u)
+
+-- and nothing is false or forced
+pub ahead_settled : (first s : State) → Ahead first s → (s.head < length s.trail.items → ⊥) → AllSettled s.clauses.items s.values.items
+ahead_settled first s ahead done =
+    all_settled s.clauses.items (length s.inputs.items) s.watches s.values.items ahead.onward.ready.watched (ahead_guarded first s ahead done) ahead.narrow
 
 -- the clauses without two different literals were looked at
 pub ahead_first : (s after : State) → Waiting s → Gone s after → after.watches ≡ s.watches → AreTrue after after.watches.narrow.items → Ahead s after

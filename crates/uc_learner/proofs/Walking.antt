@@ -1,6 +1,7 @@
 -- One step of the walk back over the trail keeps what `Walked` says.
-use Rattle.std.proofs.Common.{◌≡◌, ℕ, ◌+◌, ◌<◌, Bool, true, false, not, List, [], ◌∷◌, ◌++◌, Option, None, Some, length, get_or, replicate, reverse, refl, sym, ◌∙◌, ap, subst, arith}
+use Rattle.std.proofs.Common.{◌≡◌, ℕ, ◌+◌, ◌<◌, Bool, true, false, not, List, [], ◌∷◌, ◌++◌, ◌⊎◌, inl, inr, Option, None, Some, length, get_or, replicate, reverse, refl, sym, ◌∙◌, ap, subst, arith}
 use Rattle.std.specs.Prelude.{All, MatchOption}
+use Rattle.std.proofs.lemmas.Bool.{cases_eq}
 use Rattle.std.proofs.lemmas.List.{get_or_read, reverse-append}
 use Rattle.std.proofs.lemmas.List.Elements.{All-push, All-nil}
 use Rattle.uc_circuit.specs.declared.literal.Lit.{Lit}
@@ -11,9 +12,9 @@ use Rattle.uc_learner.specs.declared.state.State.{State}
 use Rattle.uc_learner.specs.Trail.{values_at, IsImplied, IsInput, StepFits}
 use Rattle.uc_learner.specs.Analysis.{Explains}
 use Rattle.uc_learner.specs.Sound.{Sound}
-use Rattle.uc_learner.specs.Walked.{IsDecision, HasShape, Walked}
+use Rattle.uc_learner.specs.Walked.{IsDecision, FirstIsOpen, HasShape, Walked}
 use Rattle.uc_learner.proofs.Walk.{assign_here, unset_before, walk_unmarked, walk_resolved, walk_kept}
-use Rattle.uc_learner.proofs.Steps.{length-values_at, values_at-next, fits_at, values_at-later}
+use Rattle.uc_learner.proofs.Steps.{length-values_at, values_at-next, fits_at, values_at-later, unset_at-earlier}
 
 -- what is known of the step at a place
 pub record StepAt (s : State) (i : ℕ) (step : Step) : Type 0 where
@@ -34,9 +35,19 @@ step_at s i step sound h is = record {
 kept_before : (w : List (Option Bool)) (t : Lit) (kept : List Lit) → t.var < length w → All (HasNoValue (assign w t)) kept → All (HasNoValue w) kept
 kept_before w t kept inside all k d h = (unset_before w t _ inside (all k d h)).1
 
-shape_before : (trail : List Step) (n i : ℕ) (kept : List Lit) (target : ℕ) → HasShape trail n (i + 1) kept target → HasShape trail n i kept target
-shape_before trail n i [] target shape = tt
-shape_before trail n i (l ∷ rest) target shape = record {
+first_before :
+    (trail : List Step) (n i target : ℕ) (rest : List Lit)
+    → ((l : Lit) → IsDecision trail i l → length rest ≡ 0 → ⊥) → FirstIsOpen trail n (i + 1) target rest → FirstIsOpen trail n i target rest
+first_before trail n i target [] not_bare first = λ j l is h.
+    let le : j < i + 1 = first j l is h in
+    elim (cases_eq j i) [ inl same ↦ absurd (not_bare l (subst (λ k. IsDecision trail k l) same is) refl) | inr ne ↦ omega (arith, le, ne) ]
+first_before trail n i target (m ∷ rest) not_bare first = first
+
+shape_before :
+    (trail : List Step) (n i : ℕ) (kept : List Lit) (target : ℕ)
+    → ((l : Lit) → IsDecision trail i l → length kept ≡ 1 → ⊥) → HasShape trail n (i + 1) kept target → HasShape trail n i kept target
+shape_before trail n i [] target not_bare shape = tt
+shape_before trail n i (l ∷ rest) target not_bare shape = record {
   place = shape.place;
   decided = shape.decided;
   decision = shape.decision;
@@ -46,7 +57,12 @@ shape_before trail n i (l ∷ rest) target shape = record {
   target_le = shape.target_le;
   at_le = omega (arith, shape.at_le);
   rest_false = shape.rest_false;
+  first_open = first_before trail n i target rest (λ k is none. not_bare k is (let e : length (l ∷ rest) ≡ 1 = omega (arith, none) in e)) shape.first_open;
 }
+
+-- a step with a reason is no decision
+step_decides : (trail : List Step) (i : ℕ) (step : Step) (l : Lit) → step ≡ get_or trail i step → IsDecision trail i l → step.reason ≡ None
+step_decides trail i step l is decision = ap (λ (k : Step). k.reason) is ∙ decision.reason step
 
 -- a decision of the trail
 decision_at : (trail : List Step) (i : ℕ) (step : Step) → i < length trail → step ≡ get_or trail i step → step.reason ≡ None → IsDecision trail i step.literal
@@ -76,15 +92,19 @@ walked_resolved s i step marks after kept hints n target sound h is reason same_
           walk_resolved s.clauses.items w step.literal marks after kept hints n at.fits.inside implied.0 implied.1 grows all unvalued
           (subst (λ (k : List (Option Bool)). Explains s.clauses.items k marks kept hints) at.next walked.explains);
       unvalued = kept_before w step.literal kept at.fits.inside unvalued;
-      shape = shape_before s.trail.items (length s.inputs.items) i kept target walked.shape;
+      shape =
+          shape_before s.trail.items (length s.inputs.items) i kept target
+          (λ l decision one. let e : Some n ≡ None = sym reason ∙ step_decides s.trail.items i step l is decision in cc) walked.shape;
     }
 
-pub walked_unneeded :
-    (s : State) (i : ℕ) (step : Step) (marks : List Bool) (kept : List Lit) (hints : List ℕ) (target : ℕ)
+-- what does not speak of the clause's shape, where the walk does not need the step
+unneeded_parts :
+    (s : State) (i : ℕ) (step : Step) (marks : List Bool) (kept : List Lit) (hints : List ℕ) (target after : ℕ)
     → Sound s → i < length s.trail.items → step ≡ get_or s.trail.items i step → get_or marks step.literal.var false ≡ false
     → Walked s (i + 1) marks kept hints target
-    → Walked s i marks kept hints target
-walked_unneeded s i step marks kept hints target sound h is unmarked walked =
+    → HasShape s.trail.items (length s.inputs.items) i kept after
+    → Walked s i marks kept hints after
+unneeded_parts s i step marks kept hints target after sound h is unmarked walked shape =
     let at : StepAt s i step = step_at s i step sound h is in
     let w : List (Option Bool) = values_at (length s.inputs.items) s.trail.items i in
     record {
@@ -93,8 +113,18 @@ walked_unneeded s i step marks kept hints target sound h is unmarked walked =
           walk_unmarked s.clauses.items w step.literal marks kept hints at.fits.inside unmarked at.fits.unset
           (subst (λ (k : List (Option Bool)). Explains s.clauses.items k marks kept hints) at.next walked.explains);
       unvalued = kept_before w step.literal kept at.fits.inside (subst (λ (k : List (Option Bool)). All (HasNoValue k) kept) at.next walked.unvalued);
-      shape = shape_before s.trail.items (length s.inputs.items) i kept target walked.shape;
+      shape = shape;
     }
+
+pub walked_unneeded :
+    (s : State) (i : ℕ) (step : Step) (marks : List Bool) (kept : List Lit) (hints : List ℕ) (target : ℕ)
+    → Sound s → i < length s.trail.items → step ≡ get_or s.trail.items i step → get_or marks step.literal.var false ≡ false
+    → (step.reason ≡ None → length kept ≡ 1 → ⊥)
+    → Walked s (i + 1) marks kept hints target
+    → Walked s i marks kept hints target
+walked_unneeded s i step marks kept hints target sound h is unmarked not_bare walked =
+    unneeded_parts s i step marks kept hints target target sound h is unmarked walked
+    (shape_before s.trail.items (length s.inputs.items) i kept target (λ l decision one. not_bare (step_decides s.trail.items i step l is decision) one) walked.shape)
 
 -- the part of a kept literal that does not speak of the clause's shape
 kept_parts :
@@ -134,7 +164,20 @@ walked_first s i step marks hints target sound h is none walked =
       target_le = omega arith;
       at_le = omega arith;
       rest_false = All-nil (IsFalse (values_at (length s.inputs.items) s.trail.items i));
+      first_open = λ j l decision below. below;
     })
+
+-- the first literal behind the asserted one is kept
+first_more :
+    (s : State) (n i target : ℕ) (rest : List Lit) (m : Lit) → Sound s → n ≡ length s.inputs.items
+    → HasNoValue (values_at n s.trail.items i) m
+    → FirstIsOpen s.trail.items n (i + 1) target rest → FirstIsOpen s.trail.items n i target (rest ++ m ∷ [])
+first_more s n i target [] m sound is unset first = λ j l decision below.
+    let le : j < i + 1 = first j l decision below in
+    subst (λ k. HasNoValue (values_at k s.trail.items j) m) (sym is)
+    (unset_at-earlier s.inputs.items s.clauses.items (replicate (length s.inputs.items) None) s.trail.items j i m.var sound.trail (omega (arith, le))
+    (subst (λ k. HasNoValue (values_at k s.trail.items i) m) is unset))
+first_more s n i target (k ∷ rest) m sound is unset first = first
 
 pub walked_more :
     (s : State) (i : ℕ) (step : Step) (marks : List Bool) (kept : List Lit) (hints : List ℕ) (target : ℕ)
@@ -160,6 +203,7 @@ walked_more s i step marks (l ∷ rest) hints target sound h is some walked =
       target_le = walked.shape.target_le;
       at_le = omega (arith, walked.shape.at_le);
       rest_false = All-push (IsFalse (values_at n s.trail.items target)) rest (negate step.literal) walked.shape.rest_false later;
+      first_open = first_more s n i target rest (negate step.literal) sound refl at.fits.unset walked.shape.first_open;
     })
 
 pub walked_retargeted :
@@ -171,24 +215,18 @@ pub walked_retargeted :
 walked_retargeted s i step marks [] hints target sound h is none unmarked one walked = absurd (omega arith)
 walked_retargeted s i step marks (l ∷ m ∷ rest) hints target sound h is none unmarked one walked = absurd (omega arith)
 walked_retargeted s i step marks (l ∷ []) hints target sound h is none unmarked one walked =
-    let n : ℕ = length s.inputs.items in
-    let kept : Walked s i marks (l ∷ []) hints target = walked_unneeded s i step marks (l ∷ []) hints target sound h is unmarked walked in
-    record {
-      marks_cover = kept.marks_cover;
-      explains = kept.explains;
-      unvalued = kept.unvalued;
-      shape = record {
-        place = walked.shape.place;
-        decided = walked.shape.decided;
-        decision = walked.shape.decision;
-        negates = walked.shape.negates;
-        undone = step.literal;
-        target_decided = decision_at s.trail.items i step h is none;
-        target_le = omega (arith, walked.shape.at_le, walked.shape.target_le);
-        at_le = omega arith;
-        rest_false = All-nil (IsFalse (values_at n s.trail.items i));
-      };
-    }
+    unneeded_parts s i step marks (l ∷ []) hints target i sound h is unmarked walked (record {
+      place = walked.shape.place;
+      decided = walked.shape.decided;
+      decision = walked.shape.decision;
+      negates = walked.shape.negates;
+      undone = step.literal;
+      target_decided = decision_at s.trail.items i step h is none;
+      target_le = omega (arith, walked.shape.at_le, walked.shape.target_le);
+      at_le = omega arith;
+      rest_false = All-nil (IsFalse (values_at (length s.inputs.items) s.trail.items i));
+      first_open = λ j l decision below. below;
+    })
 
 -- the same at what the code has pushed
 pub walked_resolved_by :

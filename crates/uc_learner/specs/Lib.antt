@@ -4,6 +4,7 @@ pub mod Sound
 pub mod Walked
 pub mod Learns
 pub mod ClauseStates
+pub mod Guarded
 pub mod Moves
 pub mod Rewatched
 pub mod Propagated

@@ -1,10 +1,11 @@
 -- How the search's state changes.
-use Rattle.std.specs.Prelude.{◌≡◌, ℕ, ◌+◌, ◌<◌, ◌≤◌, Bool, true, List, [], ◌∷◌, ◌++◌, Option, None, Some, length, take, replicate, slice_index_or, MatchOption, All, ◌⊎◌, false}
+use Rattle.std.specs.Prelude.{◌≡◌, ℕ, ◌+◌, ◌<◌, ◌≤◌, Bool, true, List, [], ◌∷◌, ◌++◌, Option, None, Some, length, take, replicate, slice_index_or, MatchOption, All, ◌⊎◌, false, vec_capacity}
 use Rattle.uc_circuit.specs.Values.{assign}
 use Rattle.uc_learner.specs.declared.state.State.{State}
 use Rattle.uc_learner.specs.declared.state.Step.{Step}
 use Rattle.uc_learner.specs.Trail.{DecisionsAreOpen, one_if_free, left}
-use Rattle.uc_learner.specs.Sound.{Sound, AreWatched}
+use Rattle.uc_learner.specs.Sound.{Sound, AreWatched, HasRoom}
+use Rattle.uc_learner.specs.Guarded.{DecisionsAreGuarded}
 use Rattle.uc_learner.specs.ClauseStates.{AllSettled, ConflictIs}
 use Rattle.uc_circuit.specs.declared.literal.Lit.{Lit}
 
@@ -16,6 +17,7 @@ pub record Pushed (before : State) (step : Step) (after : State) : Type 0 where
   pub values : after.values.items ≡ assign before.values.items step.literal
   pub watches : after.watches ≡ before.watches
   pub head : after.head ≡ before.head
+  pub capacity : vec_capacity after.trail ≡ vec_capacity before.trail
 
 -- the first steps alone
 pub record Cut (before : State) (target : ℕ) (after : State) : Type 0 where
@@ -23,6 +25,7 @@ pub record Cut (before : State) (target : ℕ) (after : State) : Type 0 where
   pub inputs : after.inputs.items ≡ before.inputs.items
   pub trail : after.trail.items ≡ take target before.trail.items
   pub watches : after.watches ≡ before.watches
+  pub capacity : vec_capacity after.trail ≡ vec_capacity before.trail
   pub sound : Sound after
 
 -- how many variables have no value
@@ -30,11 +33,13 @@ abbrev pub unset_count : List (Option Bool) → ℕ
 unset_count [] = 0
 unset_count (v ∷ values) = one_if_free true v + unset_count values
 
--- between two steps: no clause was false just after a decision
+-- between two steps: propagation was complete before each decision, and no clause was false just after it
 pub record Ready (s : State) : Type 0 where
   pub sound : Sound s
   pub are_open : DecisionsAreOpen s.clauses.items (replicate (length s.inputs.items) None) s.trail.items
   pub watched : AreWatched s
+  pub guarded : DecisionsAreGuarded (length s.inputs.items) s.trail.items s.watches.watched.items
+  pub room : HasRoom s
 
 -- how many assignments of the inputs are not ruled out
 abbrev pub left_of : State → ℕ

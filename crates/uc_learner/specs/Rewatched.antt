@@ -1,5 +1,5 @@
 -- Clauses that are not watched yet.
-use Rattle.std.specs.Prelude.{◌≡◌, ◌≤◌, ℕ, length, take}
+use Rattle.std.specs.Prelude.{◌≡◌, ◌≤◌, ℕ, length, take, vec_capacity}
 use Rattle.uc_learner.specs.declared.state.State.{State}
 use Rattle.uc_learner.specs.Sound.{AreWatched}
 use Rattle.uc_watches.specs.Watched.{Linked}
@@ -17,4 +17,5 @@ pub record Rewatched (before after : State) : Type 0 where
   pub values : after.values.items ≡ before.values.items
   pub trail : after.trail.items ≡ before.trail.items
   pub head : after.head ≡ before.head
+  pub capacity : vec_capacity after.trail ≡ vec_capacity before.trail
   pub watched : AreWatched after

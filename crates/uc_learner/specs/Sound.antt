@@ -1,5 +1,5 @@
 -- What the search's state keeps.
-use Rattle.std.specs.Prelude.{◌≡◌, ◌<◌, ◌^◌, None, length, replicate}
+use Rattle.std.specs.Prelude.{◌≡◌, ◌<◌, ◌^◌, ◌≤◌, None, length, replicate, vec_capacity}
 use Rattle.uc_log.specs.Refutes.{AllWithin}
 use Rattle.uc_learner.specs.declared.state.State.{State}
 use Rattle.uc_learner.specs.Trail.{values_after, TrailFits}
@@ -17,7 +17,12 @@ pub record Sound (s : State) : Type 0 where
 abbrev pub AreWatched : State → Type 0
 AreWatched s = Linked s.clauses.items (length s.inputs.items) s.watches
 
+-- the trail has room for a literal of each variable
+abbrev pub HasRoom : State → Type 0
+HasRoom s = length s.inputs.items ≤ vec_capacity s.trail
+
 -- a state that a search may begin with
 pub record Whole (s : State) : Type 0 where
   pub sound : Sound s
   pub watched : AreWatched s
+  pub room : HasRoom s

@@ -14,6 +14,12 @@ pub record IsDecision (trail : List Step) (i : ℕ) (l : Lit) : Type 0 where
   pub reason : (d : Step) → (slice_index_or trail i d).reason ≡ None
   pub literal : (d : Step) → (slice_index_or trail i d).literal ≡ l
 
+-- The first of these literals has no value at the decisions before the target. Where there is none yet, no decision stands
+-- from step i up to the target.
+abbrev pub FirstIsOpen : List Step → ℕ → ℕ → ℕ → List Lit → Type 0
+FirstIsOpen trail n i target [] = (j : ℕ) (l : Lit) → IsDecision trail j l → j < target → j < i
+FirstIsOpen trail n i target (m ∷ rest) = (j : ℕ) (l : Lit) → IsDecision trail j l → j < target → HasNoValue (values_at n trail j) m
+
 -- the first literal of the learnt clause negates the last decision, the others are false up to the decision at the target
 pub record Shape (trail : List Step) (n i : ℕ) (asserted : Lit) (rest : List Lit) (target : ℕ) : Type 0 where
   pub place : ℕ
@@ -25,6 +31,7 @@ pub record Shape (trail : List Step) (n i : ℕ) (asserted : Lit) (rest : List L
   pub target_le : target ≤ place
   pub at_le : i ≤ target
   pub rest_false : IsFalsified (values_at n trail target) rest
+  pub first_open : FirstIsOpen trail n i target rest
 
 -- the same of the whole clause: an empty one has no decision to negate
 abbrev pub HasShape : List Step → ℕ → ℕ → List Lit → ℕ → Type 0

@@ -100,6 +100,7 @@ fn look_at_problem<M: Meter>(meter: &M)
 impl State {
     ghost use Rattle.uc_learner.specs.Learned.{LearnedBy, IsTaught};
     ghost use Rattle.uc_learner.specs.Moves.{Ready};
+    ghost use Rattle.uc_learner.specs.Propagated.{Waiting};
     ghost use Rattle.uc_learner.specs.Sound.{Sound, Whole};
     ghost use Rattle.uc_learner.specs.declared.learn.Search.TheVariants.{Candidate, Refuted};
     ghost use Rattle.uc_learner.specs.declared.learn.LearnError.TheVariants.{Budget};
@@ -111,7 +112,7 @@ impl State {
         requires some { 0 < length clause.now }
         requires taught { IsTaught self.old clause.now target }
         ensures learned { OnOk result (LearnedBy self.old clause.now self.new) }
-        ensures head { OnOk result (self.new.head ≡ 0) }
+        ensures waiting { OnOk result (Waiting self.new) }
     {
         let number = self.clauses.len();
         if number >= u32::MAX as usize {
@@ -120,13 +121,13 @@ impl State {
         let asserted = clause[0];
         let copy = Clause::from_slice(*self.clauses.allocator(), clause)?;
         self.cut(target);
+        self.watches.add(clause)?;
         self.clauses.push(copy)?;
-        self.watch_from(number)?;
         self.preferences.raise(marked);
         self.push(Step {
             literal: asserted,
             reason: Some(number as u32),
-        })?;
+        });
         Ok(())
     }
 
@@ -162,7 +163,7 @@ impl State {
         ensures total { M.total meter.new + M.here meter.old ≡ M.total meter.old + M.here meter.new }
         ensures stay { Extends log.old log.new }
         ensures ok { IfOk result (λ refuted. Concluded self.old log.old (known_now (M.opened meter.old) log.new) self.new log.new refuted) }
-        ensures head { IfOk result (λ refuted. refuted ≡ false → self.new.head ≡ 0) }
+        ensures waiting { IfOk result (λ refuted. refuted ≡ false → Waiting self.new) }
     {
         let alloc = *self.clauses.allocator();
         let Analysis {
@@ -215,7 +216,7 @@ impl State {
             return Ok(Search::Refuted);
         }
         loop {
-            let Some(conflict) = self.descend()? else {
+            let Some(conflict) = self.descend() else {
                 return Ok(Search::Candidate);
             };
             if log.len() as u64 == budget {

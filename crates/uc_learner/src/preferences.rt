@@ -7,6 +7,8 @@ const HIGH: u64 = 1 << 56;
 
 #[derive(Drop)]
 pub struct Preferences {
+    /// The inputs.
+    inputs: Vec<u32>,
     /// The value that each variable had last.
     phases: Vec<bool>,
     /// How often and how lately each variable took part in a conflict.
@@ -18,24 +20,33 @@ pub struct Preferences {
 impl Preferences {
     pub fn new(alloc: Global) -> Preferences {
         Preferences {
+            inputs: Vec::new(alloc),
             phases: Vec::new(alloc),
             scores: Vec::new(alloc),
             rise: 16,
         }
     }
 
-    pub fn of(alloc: Global, variables: u32) -> Result<Preferences, AllocError> {
+    /// Of variables, each of which is an input or not.
+    pub fn of(alloc: Global, flags: &[bool]) -> Result<Preferences, AllocError> {
         let mut preferences = Preferences::new(alloc);
-        for _number in 0..variables {
-            preferences.add_variable()?;
+        for is_input in flags {
+            preferences.add_variable(*is_input)?;
         }
         Ok(preferences)
     }
 
-    pub fn add_variable(&mut self) -> Result<(), AllocError> {
+    pub fn add_variable(&mut self, is_input: bool) -> Result<(), AllocError> {
+        if is_input && let Ok(number) = u32::try_from(self.scores.len()) {
+            self.inputs.push(number)?;
+        }
         self.phases.push(false)?;
         self.scores.push(0)?;
         Ok(())
+    }
+
+    pub fn inputs(&self) -> &[u32] {
+        self.inputs.as_slice()
     }
 
     /// The value that the variable had last.

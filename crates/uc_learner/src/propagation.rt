@@ -1,126 +1,127 @@
 //! Unit propagation: a literal that became false is looked up in the clauses that watch it.
 
-ghost use Rattle.std.specs.Prelude.{◌≡◌, [], None, true, false, slice_index_or, Contains, IsTrue, IfOk, OnOk};
+ghost use Rattle.std.specs.Prelude.{◌≡◌, [], None, true, false, slice_index_or, Contains, IsTrue, IfSome};
 ghost use Rattle.uc_watches.specs.Pairs.{HasTrue};
 ghost use Rattle.uc_learner.specs.Sound.{Sound};
+ghost use Rattle.uc_learner.specs.Guarded.{IsGuarded};
 ghost use Rattle.uc_learner.specs.ClauseStates.{ConflictIs};
 ghost use Rattle.uc_learner.specs.Moves.{Ready, Onward, Chosen, Decides, IsFreeInput, NoDecision, Descended};
 ghost use Rattle.uc_learner.specs.Propagated.{Waiting, Gone, IsConflict, NarrowEnds, IsAtFalse, IsNext, Mended, Visited};
 
 use crate::state::{State, Step};
-use std::alloc::AllocError;
 use uc_circuit::{ClauseState, Lit, state_of};
 use uc_watches::{Fate, fate_of, partner};
 
 impl State {
-    /// Makes every forced literal true, until a clause is false or nothing is forced.
-    pub fn propagate(&mut self) -> Result<Option<u32>, AllocError>
+    /// Makes every forced literal true, until a clause is false or nothing is forced. Takes no memory.
+    pub fn propagate(&mut self) -> Option<u32>
         requires ready { Ready self.old }
         requires waiting { Waiting self.old }
-        ensures onward { IfOk result (λ _. Onward self.old self.new) }
-        ensures conflict { IfOk result (λ r. ConflictIs self.new r) }
-        ensures undecided { OnOk result (NoDecision self.old → NoDecision self.new) }
-        ensures waiting { IfOk result (λ r. r ≡ None → Waiting self.new) }
+        ensures onward { Onward self.old self.new }
+        ensures conflict { ConflictIs self.new result }
+        ensures undecided { NoDecision self.old → NoDecision self.new }
+        ensures waiting { result ≡ None → Waiting self.new }
+        ensures guarded { result ≡ None → IsGuarded self.new }
     {
-        if let Some(conflict) = self.force_narrow()? {
-            return Ok(Some(conflict));
+        if let Some(conflict) = self.force_narrow() {
+            return Some(conflict);
         }
         while self.head < self.trail.len() {
             let literal = self.trail[self.head].literal.negate();
-            if let Some(conflict) = self.visit(literal)? {
-                return Ok(Some(conflict));
+            if let Some(conflict) = self.visit(literal) {
+                return Some(conflict);
             }
             self.head += 1;
         }
-        Ok(None)
+        None
     }
 
     /// Makes the literals of the clauses true that have not two different ones.
-    fn force_narrow(&mut self) -> Result<Option<u32>, AllocError>
+    fn force_narrow(&mut self) -> Option<u32>
         requires ready { Ready self.old }
-        ensures gone { IfOk result (λ _. Gone self.old self.new) }
-        ensures ends { IfOk result (λ r. NarrowEnds self.new r) }
-        ensures watches { OnOk result (self.new.watches ≡ self.old.watches) }
+        ensures gone { Gone self.old self.new }
+        ensures ends { NarrowEnds self.new result }
+        ensures watches { self.new.watches ≡ self.old.watches }
     {
         for place in 0..self.watches.narrow.len() {
             let number = self.watches.narrow[place];
-            if self.force(number)? {
-                return Ok(Some(number));
+            if self.force(number) {
+                return Some(number);
             }
         }
-        Ok(None)
+        None
     }
 
     /// Makes the literal true that a clause forces. The answer is whether the clause is false.
-    fn force(&mut self, number: u32) -> Result<bool, AllocError>
+    fn force(&mut self, number: u32) -> bool
         requires ready { Ready self.old }
         requires narrow { Contains self.old.watches.narrow.items number }
-        ensures gone { IfOk result (λ _. Gone self.old self.new) }
-        ensures conflict { IfOk result (λ b. b ≡ true → IsConflict self.new number) }
-        ensures forced { IfOk result (λ b. b ≡ false → HasTrue self.new.values.items (slice_index_or self.new.clauses.items number [])) }
-        ensures watches { OnOk result (self.new.watches ≡ self.old.watches) }
+        ensures gone { Gone self.old self.new }
+        ensures conflict { result ≡ true → IsConflict self.new number }
+        ensures forced { result ≡ false → HasTrue self.new.values.items (slice_index_or self.new.clauses.items number []) }
+        ensures watches { self.new.watches ≡ self.old.watches }
     {
         match state_of(
             self.clauses[number as usize].as_slice(),
             self.values.as_slice(),
         ) {
-            ClauseState::Falsified => Ok(true),
+            ClauseState::Falsified => true,
             ClauseState::Unit(literal) => {
                 self.push(Step {
                     literal,
                     reason: Some(number),
-                })?;
-                Ok(false)
+                });
+                false
             }
-            ClauseState::Settled => Ok(false),
+            ClauseState::Settled => false,
         }
     }
 
     /// Looks after the clauses that watch a literal that became false.
-    fn visit(&mut self, literal: Lit) -> Result<Option<u32>, AllocError>
+    fn visit(&mut self, literal: Lit) -> Option<u32>
         requires ready { Ready self.old }
         requires waiting { Waiting self.old }
         requires next { IsNext self.old literal }
-        ensures { IfOk result (λ r. Visited self.old self.new r) }
+        ensures { Visited self.old self.new result }
     {
         let mut at = self.watches.rings.first(literal);
         while let Some(slot) = at {
             at = self.watches.rings.after(slot);
-            if self.mend(slot)? {
-                return Ok(Some(slot / 2));
+            if self.mend(slot) {
+                return Some(slot / 2);
             }
         }
-        Ok(None)
+        None
     }
 
     /// Looks after the clause of a slot whose literal is false. The answer is whether the clause is false.
-    fn mend(&mut self, slot: u32) -> Result<bool, AllocError>
+    fn mend(&mut self, slot: u32) -> bool
         requires ready { Ready self.old }
         requires at_false { IsAtFalse self.old slot }
-        ensures { IfOk result (λ conflict. Mended self.old slot self.new conflict) }
+        ensures { Mended self.old slot self.new result }
     {
         let number = slot / 2;
         let Some(other) = self.watches.watched[partner(slot)] else {
-            return Ok(false);
+            return false;
         };
         match fate_of(
             self.clauses[number as usize].as_slice(),
             other,
             self.values.as_slice(),
         ) {
-            Fate::Stays => Ok(false),
+            Fate::Stays => false,
             Fate::Moves(to) => {
                 self.watches.move_slot(slot, to);
-                Ok(false)
+                false
             }
             Fate::Implies(literal) => {
                 self.push(Step {
                     literal,
                     reason: Some(number),
-                })?;
-                Ok(false)
+                });
+                false
             }
-            Fate::Conflict => Ok(true),
+            Fate::Conflict => true,
         }
     }
 
@@ -142,25 +143,34 @@ impl State {
         requires { Sound self.now }
         ensures { Chosen self.now result }
     {
-        let Some(first) = self.free_input() else {
-            return None;
-        };
-        let mut best = first;
-        for input in first..self.inputs.len() as u32 {
-            best = self.better(best, input);
+        match self.best_input() {
+            Some(input) => Some(input),
+            None => self.free_input(),
         }
-        Some(best)
+    }
+
+    /// Of the inputs that the preferences list, the one without a value that has the highest score.
+    fn best_input(&self) -> Option<u32>
+        ensures { IfSome result (λ x. IsFreeInput self.now x) }
+    {
+        let mut best = None;
+        for input in self.preferences.inputs() {
+            best = self.better(best, *input);
+        }
+        best
     }
 
     /// The input with the higher score, where the second is an input without a value.
-    fn better(&self, best: u32, other: u32) -> u32
-        requires { IsFreeInput self.now best }
-        ensures { IsFreeInput self.now result }
+    fn better(&self, best: Option<u32>, other: u32) -> Option<u32>
+        requires { IfSome best (λ x. IsFreeInput self.now x) }
+        ensures { IfSome result (λ x. IsFreeInput self.now x) }
     {
-        if self.is_free(other) && self.preferences.score(other) > self.preferences.score(best) {
-            other
-        } else {
-            best
+        if !self.is_free(other) {
+            return best;
+        }
+        match best {
+            Some(before) if self.preferences.score(other) <= self.preferences.score(before) => best,
+            _ => Some(other),
         }
     }
 
@@ -191,19 +201,19 @@ impl State {
     }
 
     /// Decides and propagates until a clause is false or each input has a value.
-    pub fn descend(&mut self) -> Result<Option<u32>, AllocError>
+    pub fn descend(&mut self) -> Option<u32>
         requires ready { Ready self.old }
         requires waiting { Waiting self.old }
-        ensures { IfOk result (λ r. Descended self.old self.new r) }
+        ensures { Descended self.old self.new result }
     {
         loop {
-            if let Some(conflict) = self.propagate()? {
-                return Ok(Some(conflict));
+            if let Some(conflict) = self.propagate() {
+                return Some(conflict);
             }
             let Some(step) = self.decision() else {
-                return Ok(None);
+                return None;
             };
-            self.push(step)?;
+            self.push(step);
         }
     }
 }

@@ -1,6 +1,6 @@
 //! The search's state: its clauses, and the literals that were made true.
 
-ghost use Rattle.std.specs.Prelude.{◌≡◌, ◌<◌, ◌≤◌, ◌+◌, ◌^◌, ◌++◌, ◌∷◌, [], length, OnOk, IfOk};
+ghost use Rattle.std.specs.Prelude.{◌≡◌, ◌<◌, ◌≤◌, ◌+◌, ◌^◌, ◌++◌, ◌∷◌, [], length, vec_capacity, OnOk, IfOk};
 ghost use Rattle.uc_circuit.specs.Circuits.{IsOrdered};
 ghost use Rattle.uc_log.specs.Entries.{Known, known_of, add};
 ghost use Rattle.uc_log.specs.Refutes.{unvalued};
@@ -29,7 +29,7 @@ pub struct State {
     pub inputs: Vec<bool>,
     /// The values of the variables after the trail.
     pub values: Vec<Option<bool>>,
-    /// The literals that were made true, in order.
+    /// The literals that were made true, in order. There is room for one of each variable.
     pub trail: Vec<Step>,
     pub preferences: Preferences,
     /// Which literals each clause watches.
@@ -69,12 +69,14 @@ impl State {
         if clauses.len() > u32::MAX as usize {
             return Err(AllocError);
         }
+        let inputs = input_flags(alloc, circuit)?;
+        let preferences = Preferences::of(alloc, inputs.as_slice())?;
         let mut state = State {
             clauses,
-            inputs: input_flags(alloc, circuit)?,
+            inputs,
             values: no_values(alloc, circuit.len() as usize)?,
-            trail: Vec::new(alloc),
-            preferences: Preferences::of(alloc, circuit.len())?,
+            trail: Vec::with_capacity(alloc, circuit.len() as usize)?,
+            preferences,
             watches: Watches::new(alloc)?,
             head: 0,
         };
@@ -137,26 +139,26 @@ impl State {
         }
         self.inputs.push(is_input)?;
         self.values.push(None)?;
-        self.preferences.add_variable()?;
-        Ok(())
+        self.preferences.add_variable(is_input)?;
+        self.trail.reserve(self.inputs.len())
     }
 
     /// Makes a literal true.
-    pub fn push(&mut self, step: Step) -> Result<(), AllocError>
-        requires { step.literal.var < length self.old.values.items }
-        ensures { OnOk result (Pushed self.old step self.new) }
+    pub fn push(&mut self, step: Step)
+        requires inside { step.literal.var < length self.old.values.items }
+        requires room { length self.old.trail.items < vec_capacity self.old.trail }
+        ensures { Pushed self.old step self.new }
     {
-        self.trail.push(step)?;
+        self.trail.push_reserved(step);
         self.values[step.literal.var as usize] = Some(!step.literal.neg);
-        Ok(())
     }
 
-    /// Takes back all but the first steps.
+    /// Takes back all but the first steps, which count as looked at.
     pub fn cut(&mut self, target: usize)
         requires sound { Sound self.old }
         requires inside { target ≤ length self.old.trail.items }
         ensures cut { Cut self.old target self.new }
-        ensures head { self.new.head ≡ 0 }
+        ensures head { self.new.head ≡ target }
     {
         while self.trail.len() > target {
             if let Some(step) = self.trail.pop() {
@@ -165,7 +167,7 @@ impl State {
                     .keep_phase(step.literal.var, !step.literal.neg);
             }
         }
-        self.head = 0;
+        self.head = self.trail.len();
     }
 }
 

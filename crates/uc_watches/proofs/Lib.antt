@@ -1,3 +1,4 @@
 pub mod Slots
 pub mod Linking
 pub mod Guarding
+pub mod Adding

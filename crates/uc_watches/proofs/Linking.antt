@@ -5,11 +5,12 @@ use Rattle.std.proofs.lemmas.Bool.{cases_eq, cases_lt}
 use Rattle.std.proofs.lemmas.List.{get_or_default, get_or_past, get_or_push, get_or_append_left, length_push, length-append, length-replicate, length-set, length-map}
 use Rattle.std.proofs.lemmas.List.Elements.{All-contains, All-push, All-nil, Contains-append_left, Contains-get_or, Contains-push, Contains-push_cases}
 use Rattle.uc_circuit.specs.declared.literal.Lit.{Lit}
+use Rattle.uc_circuit.specs.Values.{IsFalse}
 use Rattle.uc_rings.specs.Lists.{Lists, place_of, slots_of, with_front, without, grown, InNoList}
 use Rattle.uc_rings.proofs.Slots.{others}
 use Rattle.uc_watches.specs.declared.watches.Watches.{Watches}
 use Rattle.uc_watches.specs.Pairs.{HasTwo, TwoOf, partner}
-use Rattle.uc_watches.specs.Watched.{WatchFits, Linked, IsWatched, StandsInTwo}
+use Rattle.uc_watches.specs.Watched.{WatchFits, Linked, IsWatched, StandsInTwo, OtherIsTrue, AllGuard}
 use Rattle.uc_watches.proofs.Slots.{place_at, place_inside, in_no_list, front_here, front_keeps, front_cases, without_keeps, without_has}
 
 some_same : {A : Type 0} {a b : A} → Some a ≡ Some b → a ≡ b
@@ -408,3 +409,24 @@ fresh_grown cs n w r a b number linked is is_number = λ k d h i e h'.
     get_or_default r.lists k d [] h ∙ ap (λ j. get_or r.lists j []) (sym at.1) ∙ ap (λ (q : Lists). slots_of q at.0) is ∙ grown_slots w.rings a b at.0 in
     let there : Contains (slots_of w.rings at.0) s = subst (λ (xs : List ℕ). Contains xs s) same (Contains-get_or (get_or r.lists k d) i e h') in
     omega (arith, value_inside w.watched.items s at.0 (linked.watches s at.0 there), linked.slots, is_number)
+
+-- where all slots guard, and the two of one clause more, all do
+pub guards_more :
+    (p now : List (Option Bool)) (watched : List (Option Lit)) (o q : Option Lit) (k : ℕ)
+    → length watched ≡ 2 * k
+    → AllGuard p now watched
+    → ((l : Lit) → o ≡ Some l → IsFalse p l → OtherIsTrue now q)
+    → ((l : Lit) → q ≡ Some l → IsFalse p l → OtherIsTrue now o)
+    → AllGuard p now ((watched ++ o ∷ []) ++ q ∷ [])
+guards_more p now watched o q k even guards first second = λ s l is f.
+    elim (read_cases watched o q s l is) [
+      | Old h was ↦
+          let inside : partner s < length watched = omega (arith, h, even) in
+          subst (OtherIsTrue now) (sym (read_old watched o q (partner s) inside)) (guards s l was f)
+      | First here is_l ↦
+          let across : length watched + 1 ≡ partner s = omega (arith, here, even) in
+          subst (OtherIsTrue now) (sym (read_second watched o q (partner s) across)) (first l is_l f)
+      | Second here is_l ↦
+          let across : length watched ≡ partner s = omega (arith, here, even) in
+          subst (OtherIsTrue now) (sym (read_first watched o q (partner s) across)) (second l is_l f)
+    ]

@@ -1,5 +1,5 @@
 -- Two literals of a clause, and what becomes of the clause when one of them is false.
-use Rattle.std.specs.Prelude.{◌≡◌, ◌≢◌, ◌⊎◌, ℕ, ◌+◌, ◌-◌, ◌*◌, ◌%◌, Bool, not, List, Option, None, Some, All, Contains, slice_index_or}
+use Rattle.std.specs.Prelude.{◌≡◌, ◌≢◌, ◌⊎◌, ℕ, ◌+◌, ◌-◌, ◌*◌, ◌%◌, Bool, not, List, [], ◌∷◌, Option, None, Some, All, Contains, slice_index_or}
 use Rattle.uc_circuit.specs.declared.literal.Lit.{Lit}
 use Rattle.uc_circuit.specs.Values.{value_of, IsFalse, IsFalsified, Forces}
 use Rattle.uc_watches.specs.declared.fate.Fate.{Fate}
@@ -27,6 +27,12 @@ pub record HasTwo (clause : List Lit) : Type 0 where
 abbrev pub TwoOf : List Lit → Option (Lit × Lit) → Type 0
 TwoOf clause None = HasTwo clause → ⊥
 TwoOf clause (Some pair) = Contains clause pair.0 × Contains clause pair.1 × (pair.0 ≢ pair.1)
+
+-- the first two literals, where they are different; a clause of one literal has not two
+abbrev pub FirstTwo : List Lit → Option (Lit × Lit) → Type 0
+FirstTwo [] r = r ≡ None
+FirstTwo (a ∷ []) r = r ≡ None
+FirstTwo (a ∷ b ∷ rest) r = (a ≢ b) → r ≡ Some (a, b)
 
 -- the clause's other slot: 2c for 2c + 1, and 2c + 1 for 2c
 abbrev pub partner : ℕ → ℕ

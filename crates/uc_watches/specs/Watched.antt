@@ -1,5 +1,5 @@
 -- Watched literals: each clause with two different literals watches two of them.
-use Rattle.std.specs.Prelude.{◌≡◌, ◌≢◌, ℕ, ◌+◌, ◌*◌, ◌<◌, Bool, List, [], Option, None, Some, MatchOption, length, All, Contains, slice_index_or}
+use Rattle.std.specs.Prelude.{◌≡◌, ◌≢◌, ℕ, ◌+◌, ◌*◌, ◌<◌, Bool, List, [], ◌∷◌, ◌++◌, Option, None, Some, MatchOption, length, All, Contains, slice_index_or}
 use Rattle.uc_circuit.specs.declared.literal.Lit.{Lit}
 use Rattle.uc_circuit.specs.Values.{IsFalse}
 use Rattle.uc_rings.specs.Lists.{Lists, InNoList, slots_of}
@@ -46,6 +46,19 @@ pub record StandsInTwo (clause : List Lit) (rings : Lists) (c : ℕ) : Type 0 wh
 pub record IsWatched (clause : List Lit) (rings : Lists) (c : ℕ) : Type 0 where
   pub two : HasTwo clause → StandsInTwo clause rings c
   pub none : (HasTwo clause → ⊥) → InNoList rings (2 * c) × InNoList rings (2 * c + 1)
+
+-- a clause that begins with two different literals watches these, and one of a single literal watches none
+abbrev pub WatchesFirst : List Lit → Option Lit → Option Lit → Type 0
+WatchesFirst [] o p = (o ≡ None) × (p ≡ None)
+WatchesFirst (a ∷ []) o p = (o ≡ None) × (p ≡ None)
+WatchesFirst (a ∷ b ∷ rest) o p = (a ≢ b) → (o ≡ Some a) × (p ≡ Some b)
+
+-- the slots of one clause more
+pub record HasAdded (before : List (Option Lit)) (clause : List Lit) (after : List (Option Lit)) : Type 0 where
+  pub first : Option Lit
+  pub second : Option Lit
+  pub is : after ≡ (before ++ first ∷ []) ++ second ∷ []
+  pub front : WatchesFirst clause first second
 
 -- the literal, if there is one, is true
 abbrev pub OtherIsTrue : List (Option Bool) → Option Lit → Type 0

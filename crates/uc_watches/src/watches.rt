@@ -3,7 +3,7 @@
 ghost use Rattle.std.specs.Prelude.{◌≡◌, ℕ, ◌+◌, ◌*◌, ◌^◌, ◌≤◌, ◌<◌, List, [], ◌∷◌, ◌++◌, Some, length, set, All, OnOk, IfOk};
 ghost use Rattle.uc_circuit.specs.declared.literal.Lit.{Lit};
 ghost use Rattle.uc_rings.specs.Lists.{InAList, place_of, with_front, without};
-ghost use Rattle.uc_watches.specs.Pairs.{TwoOf};
+ghost use Rattle.uc_watches.specs.Pairs.{TwoOf, FirstTwo};
 
 use std::alloc::{AllocError, Global};
 use uc_circuit::Lit;
@@ -26,7 +26,7 @@ pub struct Watches {
 }
 
 impl Watches {
-    ghost use Rattle.uc_watches.specs.Watched.{Linked, IsLinked};
+    ghost use Rattle.uc_watches.specs.Watched.{Linked, IsLinked, HasAdded};
 
     /// Of no clause and no variable.
     pub fn new(alloc: Global) -> Result<Watches, AllocError>
@@ -56,11 +56,12 @@ impl Watches {
         Ok(())
     }
 
-    /// Takes over one clause more.
+    /// Takes over one clause more. One that begins with two different literals watches these.
     pub fn add(&mut self, clause: &[Lit]) -> Result<(), AllocError>
         requires linked { IsLinked self.old }
         requires within { All (λ l. place_of l < self.old.literals) clause.now }
-        ensures { OnOk result ((cs : List (List Lit)) (n : ℕ) → Linked cs n self.old → Linked (cs ++ clause.now ∷ []) n self.new) }
+        ensures linked { OnOk result ((cs : List (List Lit)) (n : ℕ) → Linked cs n self.old → Linked (cs ++ clause.now ∷ []) n self.new) }
+        ensures added { OnOk result (HasAdded self.old.watched.items clause.now self.new.watched.items) }
     {
         let number = self.watched.len() / 2;
         if number >= MOST {
@@ -125,7 +126,8 @@ impl Watches {
 
 /// Two different literals of a clause, None where it has not two.
 fn two_of(clause: &[Lit]) -> Option<(Lit, Lit)>
-    ensures { TwoOf clause.now result }
+    ensures two { TwoOf clause.now result }
+    ensures first { FirstTwo clause.now result }
 {
     let first = *clause.first()?;
     for literal in clause {

@@ -1,4 +1,4 @@
-use Rattle.std.proofs.Common.{arith, ◌∙◌}
+use Rattle.std.proofs.Common.{arith, ap, length, ◌∙◌}
 use Rattle.std.proofs.lemmas.Grind.{common_steps}
 use Rattle.uc_learner.proofs.Linked.{front_watched}
 use Rattle.uc_learner.proofs.Progress.{sound_same}
@@ -17,7 +17,11 @@ watch_from-requires-clause-watched c =
 pub returns-clause-whole : goal.returns-clause-whole
 returns-clause-whole c =
     let done = c.in_ok-watch_from.ensures in
-    record { sound = sound_same c.take_over.new.self c.watch_from.new.self done.inputs done.clauses done.values done.trail c.in_ok-take_over.ensures.sound; watched = done.watched }
+    record {
+      sound = sound_same c.take_over.new.self c.watch_from.new.self done.inputs done.clauses done.values done.trail c.in_ok-take_over.ensures.sound;
+      watched = done.watched;
+      room = omega (arith, c.in_ok-take_over.ensures.room c.requires.whole.room, ap length done.inputs, done.capacity);
+    }
 
 pub returns-clause-holds : goal.returns-clause-holds
 returns-clause-holds c =

@@ -11,11 +11,11 @@ index_mut-requires c =
 
 pub loop-self-preserved-in-Some : goal.loop-self-preserved-in-Some
 loop-self-preserved-in-Some c = record {
-  cut = cut_more_by _ c.loop-self.self _ c.in-Some.step c.loop-self.invariant.cut c.in-Some.ensures.items refl refl refl refl;
+  cut = cut_more_by _ c.loop-self.self _ c.in-Some.step c.loop-self.invariant.cut c.in-Some.ensures.items refl refl refl refl c.in-Some.ensures.capacity;
   inside = grind (arith, common_steps);
 }
 
 pub returns-clause-cut : goal.returns-clause-cut
 returns-clause-cut c =
     let e : length c.loop-self.self.trail.items ≡ c.args.target = grind (arith, common_steps) in
-    cut_same c.args.self.now c.args.target c.loop-self.self _ refl refl refl refl refl (subst (λ k. Cut c.args.self.now k c.loop-self.self) e c.loop-self.invariant.cut)
+    cut_same c.args.self.now c.args.target c.loop-self.self _ refl refl refl refl refl refl (subst (λ k. Cut c.args.self.now k c.loop-self.self) e c.loop-self.invariant.cut)

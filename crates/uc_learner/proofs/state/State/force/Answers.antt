@@ -9,7 +9,7 @@ use Rattle.uc_learner.specs.declared.state.State.{State}
 use Rattle.uc_learner.specs.Moves.{Ready}
 use Rattle.uc_learner.proofs.Walking.{clause_read}
 use Rattle.uc_learner.proofs.Learning.{length-values}
-use Rattle.uc_learner.proofs.Progress.{implied_inside}
+use Rattle.uc_learner.proofs.Progress.{implied_inside, forced_room}
 use Rattle.uc_learner.proofs.Queue.{gone_refl, gone_pushed, forced_true}
 use Rattle.uc_learner.proofs.state.State.force.Goals as goal
 
@@ -29,13 +29,21 @@ state_of-requires c =
     let long : length c.as_slice-2.result.now ≡ length s.inputs.items = ap length c.as_slice-2.ensures.value ∙ length-values s c.requires.ready.sound in
     λ k d h. omega (arith, all k d h, long)
 
-pub push-requires : goal.push-requires
-push-requires c =
+pub push-requires-clause-inside : goal.push-requires-clause-inside
+push-requires-clause-inside c =
     let s : State = c.args.self.now in
     let inside : c.args.number < length s.clauses.items = (narrow_here s c.args.number c.requires.ready c.requires.narrow).0 in
     let same : c.as_slice.result.now ≡ get_or s.clauses.items c.args.number [] = clause_read s c.args.number _ _ inside c.index.ensures c.as_slice.ensures in
     let forces : Forces s.values.items c.as_slice.result.now c.in-Unit.literal = subst (λ (v : List (Option Bool)). Forces v c.as_slice.result.now c.in-Unit.literal) c.as_slice-2.ensures.value c.in-Unit.ensures in
     implied_inside s c.in-Unit.literal c.args.number c.requires.ready.sound inside (subst (λ (k : List Lit). Forces s.values.items k c.in-Unit.literal) same forces)
+
+pub push-requires-clause-room : goal.push-requires-clause-room
+push-requires-clause-room c =
+    let s : State = c.args.self.now in
+    let inside : c.args.number < length s.clauses.items = (narrow_here s c.args.number c.requires.ready c.requires.narrow).0 in
+    let same : c.as_slice.result.now ≡ get_or s.clauses.items c.args.number [] = clause_read s c.args.number _ _ inside c.index.ensures c.as_slice.ensures in
+    let forces : Forces s.values.items c.as_slice.result.now c.in-Unit.literal = subst (λ (v : List (Option Bool)). Forces v c.as_slice.result.now c.in-Unit.literal) c.as_slice-2.ensures.value c.in-Unit.ensures in
+    forced_room s c.in-Unit.literal c.args.number c.requires.ready inside (subst (λ (k : List Lit). Forces s.values.items k c.in-Unit.literal) same forces)
 
 pub returns-in-Falsified-clause-gone : goal.returns-in-Falsified-clause-gone
 returns-in-Falsified-clause-gone c = gone_refl c.args.self.now c.requires.ready
@@ -47,21 +55,21 @@ returns-in-Falsified-clause-conflict c = λ _.
     let same : c.as_slice.result.now ≡ get_or s.clauses.items c.args.number [] = clause_read s c.args.number _ _ inside c.index.ensures c.as_slice.ensures in
     (inside, subst (IsFalsified s.values.items) same (subst (λ (v : List (Option Bool)). IsFalsified v c.as_slice.result.now) c.as_slice-2.ensures.value c.in-Falsified.ensures))
 
-pub returns-in_ok-push-in-Unit-clause-gone : goal.returns-in_ok-push-in-Unit-clause-gone
-returns-in_ok-push-in-Unit-clause-gone c =
+pub returns-in-Unit-clause-gone : goal.returns-in-Unit-clause-gone
+returns-in-Unit-clause-gone c =
     let s : State = c.args.self.now in
     let inside : c.args.number < length s.clauses.items = (narrow_here s c.args.number c.requires.ready c.requires.narrow).0 in
     let same : c.as_slice.result.now ≡ get_or s.clauses.items c.args.number [] = clause_read s c.args.number _ _ inside c.index.ensures c.as_slice.ensures in
     let forces : Forces s.values.items c.as_slice.result.now c.in-Unit.literal = subst (λ (v : List (Option Bool)). Forces v c.as_slice.result.now c.in-Unit.literal) c.as_slice-2.ensures.value c.in-Unit.ensures in
-    gone_pushed s c.push.new.self _ c.args.number c.requires.ready c.in_ok-push-in-Unit.ensures refl inside (subst (λ (k : List Lit). Forces s.values.items k c.in-Unit.literal) same forces)
+    gone_pushed s c.push.new.self _ c.args.number c.requires.ready c.push.ensures refl inside (subst (λ (k : List Lit). Forces s.values.items k c.in-Unit.literal) same forces)
 
-pub returns-in_ok-push-in-Unit-clause-forced : goal.returns-in_ok-push-in-Unit-clause-forced
-returns-in_ok-push-in-Unit-clause-forced c = λ _.
+pub returns-in-Unit-clause-forced : goal.returns-in-Unit-clause-forced
+returns-in-Unit-clause-forced c = λ _.
     let s : State = c.args.self.now in
     let inside : c.args.number < length s.clauses.items = (narrow_here s c.args.number c.requires.ready c.requires.narrow).0 in
     let same : c.as_slice.result.now ≡ get_or s.clauses.items c.args.number [] = clause_read s c.args.number _ _ inside c.index.ensures c.as_slice.ensures in
     let forces : Forces s.values.items c.as_slice.result.now c.in-Unit.literal = subst (λ (v : List (Option Bool)). Forces v c.as_slice.result.now c.in-Unit.literal) c.as_slice-2.ensures.value c.in-Unit.ensures in
-    forced_true s c.push.new.self _ c.args.number c.requires.ready c.in_ok-push-in-Unit.ensures inside (subst (λ (k : List Lit). Forces s.values.items k c.in-Unit.literal) same forces)
+    forced_true s c.push.new.self _ c.args.number c.requires.ready c.push.ensures inside (subst (λ (k : List Lit). Forces s.values.items k c.in-Unit.literal) same forces)
 
 pub returns-in-Settled-clause-gone : goal.returns-in-Settled-clause-gone
 returns-in-Settled-clause-gone c = gone_refl c.args.self.now c.requires.ready

@@ -11,9 +11,9 @@ loop-place-preserved c =
     let s : State = c.loop-place.self in
     let h : c.loop-place.place < length s.watches.narrow.items = grind (arith, common_steps, ap (λ (w : Watches). length w.narrow.items) c.loop-place.invariant.watches) in
     record {
-      gone = gone_trans c.args.self.now s c.force.new.self c.loop-place.invariant.gone c.in_ok-force.ensures.gone;
-      watches = c.in_ok-force.ensures.watches ∙ c.loop-place.invariant.watches;
-      trues = trues_more s c.force.new.self c.loop-place.place _ c.loop-place.invariant.trues c.in_ok-force.ensures.gone c.in_ok-force.ensures.watches h c.index-number.ensures (c.in_ok-force.ensures.forced c.if-branch.false);
+      gone = gone_trans c.args.self.now s c.force.new.self c.loop-place.invariant.gone c.force.ensures.gone;
+      watches = c.force.ensures.watches ∙ c.loop-place.invariant.watches;
+      trues = trues_more s c.force.new.self c.loop-place.place _ c.loop-place.invariant.trues c.force.ensures.gone c.force.ensures.watches h c.index-number.ensures (c.force.ensures.forced c.if-force.false);
     }
 
 pub returns-clause-ends : goal.returns-clause-ends

@@ -13,7 +13,7 @@ returns-in-Some-clause-refuted g c = λ _. accepted c.args.terms.now (g.M.Meter.
 
 pub loop-conflict-init : goal.loop-conflict-init
 loop-conflict-init g c =
-    let start : Started c.cut.new.self = started c.args.self.now c.cut.new.self c.cut.ensures.cut c.requires.whole.watched in
+    let start : Started c.cut.new.self = started c.args.self.now c.cut.new.self c.cut.ensures.cut c.requires.whole.watched c.requires.whole.room in
     record {
       ready = start.ready;
       waiting = waiting_none c.cut.new.self c.cut.ensures.head;
@@ -44,20 +44,20 @@ loop-conflict-preserved g c =
     went_on c.descend.new.self c.conclude.new.self c.loop-conflict.log c.conclude.new.log _ c.in_ok-conclude.field-0 c.if-branch.false c.in_ok-conclude.ensures.ok in
     record {
       ready = on.1;
-      waiting = waiting_none c.conclude.new.self (c.in_ok-conclude.ensures.head c.if-branch.false);
-      inputs = on.4 ∙ c.in_ok-conflict.ensures.onward.inputs ∙ inv.inputs;
+      waiting = c.in_ok-conclude.ensures.waiting c.if-branch.false;
+      inputs = on.4 ∙ c.descend.ensures.onward.inputs ∙ inv.inputs;
       recorded = c.in_ok-conclude.ensures.recorded;
       opened = c.in_ok-conclude.ensures.opened ∙ inv.opened;
       total = omega (arith, inv.total, c.in_ok-conclude.ensures.total);
       holds = subst (λ (k : Option Question). Holds c.conclude.new.self (known_now k c.conclude.new.log)) (sym c.in_ok-conclude.ensures.opened) on.0;
       none_empty = on.2;
       stay = extends_more c.args.log.now c.loop-conflict.log c.conclude.new.log inv.stay c.in_ok-conclude.ensures.stay;
-      count = omega (arith, inv.count, on.3, c.in_ok-conflict.ensures.onward.left_le, c.in_ok-conclude.ensures.ok.one_more);
-      settled = inr (settled_on c.args.self.now c.loop-conflict.self c.descend.new.self c.loop-conflict.log c.args.log.now inv.settled c.in_ok-conflict.ensures.decided on.5);
+      count = omega (arith, inv.count, on.3, c.descend.ensures.onward.left_le, c.in_ok-conclude.ensures.ok.one_more);
+      settled = inr (settled_on c.args.self.now c.loop-conflict.self c.descend.new.self c.loop-conflict.log c.args.log.now inv.settled c.descend.ensures.decided on.5);
     }
 
-pub returns-in_default-2-clause-candidate : goal.returns-in_default-2-clause-candidate
-returns-in_default-2-clause-candidate g c =
-    λ _. candidate_true c.loop-conflict.self c.descend.new.self c.args.terms.now (g.M.Meter.opened c.loop-conflict.meter) c.loop-conflict.log c.in_ok-conflict.field-0 c.in_default-2.is c.in_ok-conflict.ensures
+pub returns-in_default-descend-clause-candidate : goal.returns-in_default-descend-clause-candidate
+returns-in_default-descend-clause-candidate g c =
+    λ _. candidate_true c.loop-conflict.self c.descend.new.self c.args.terms.now (g.M.Meter.opened c.loop-conflict.meter) c.loop-conflict.log c.descend.result c.in_default-descend.is c.descend.ensures
     c.loop-conflict.invariant.holds c.loop-conflict.invariant.recorded.valid
     (subst HasQuestion (sym c.loop-conflict.invariant.opened) c.look_at_problem.ensures)

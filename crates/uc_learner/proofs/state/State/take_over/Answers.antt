@@ -36,4 +36,4 @@ returns c =
     (λ k long. c.in_ok-clauses.ensures k (grind (arith, common_steps)))
     (grind (arith, common_steps))
     (sym (ap (λ (e : Entry). input_flags (added_nodes e)) c.in-Learnt.is))
-    c.in_ok-append.ensures.items refl refl refl refl
+    c.in_ok-append.ensures.items refl refl refl refl refl

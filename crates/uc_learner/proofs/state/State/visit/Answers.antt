@@ -18,19 +18,19 @@ mend-requires-clause-ready c = c.loop-at.invariant.gone.onward.ready
 pub mend-requires-clause-at_false : goal.mend-requires-clause-at_false
 mend-requires-clause-at_false c = visiting_at c.args.self.now c.loop-at.self c.args.literal c.loop-at.at c.in-Some.slot c.requires.ready c.requires.next c.loop-at.invariant c.in-Some.is
 
-pub returns-then-branch : goal.returns-then-branch
-returns-then-branch c =
-    visited_conflict c.args.self.now c.loop-at.self c.mend.new.self c.args.literal c.loop-at.at c.in-Some.slot c.in_ok-mend.field-0 c.loop-at.invariant c.in_ok-mend.ensures c.if-branch.true
+pub returns-then-mend : goal.returns-then-mend
+returns-then-mend c =
+    visited_conflict c.args.self.now c.loop-at.self c.mend.new.self c.args.literal c.loop-at.at c.in-Some.slot c.mend.result c.loop-at.invariant c.mend.ensures c.if-mend.true
 
 pub loop-at-preserved : goal.loop-at-preserved
 loop-at-preserved c =
-    (visiting_next c.args.self.now c.loop-at.self c.mend.new.self c.args.literal c.loop-at.at c.after-at.result c.in-Some.slot c.in_ok-mend.field-0
-    c.requires.ready c.requires.next c.loop-at.invariant c.in-Some.is c.after-at.ensures.apart c.after-at.ensures.after c.in_ok-mend.ensures c.if-branch.false).visiting
+    (visiting_next c.args.self.now c.loop-at.self c.mend.new.self c.args.literal c.loop-at.at c.after-at.result c.in-Some.slot c.mend.result
+    c.requires.ready c.requires.next c.loop-at.invariant c.in-Some.is c.after-at.ensures.apart c.after-at.ensures.after c.mend.ensures c.if-mend.false).visiting
 
 pub loop-at-smaller : goal.loop-at-smaller
 loop-at-smaller c =
-    (visiting_next c.args.self.now c.loop-at.self c.mend.new.self c.args.literal c.loop-at.at c.after-at.result c.in-Some.slot c.in_ok-mend.field-0
-    c.requires.ready c.requires.next c.loop-at.invariant c.in-Some.is c.after-at.ensures.apart c.after-at.ensures.after c.in_ok-mend.ensures c.if-branch.false).fewer
+    (visiting_next c.args.self.now c.loop-at.self c.mend.new.self c.args.literal c.loop-at.at c.after-at.result c.in-Some.slot c.mend.result
+    c.requires.ready c.requires.next c.loop-at.invariant c.in-Some.is c.after-at.ensures.apart c.after-at.ensures.after c.mend.ensures c.if-mend.false).fewer
 
 pub returns : goal.returns
 returns c = visited_all c.args.self.now c.loop-at.self c.args.literal c.loop-at.at c.requires.next c.loop-at.invariant (none_from c.loop-at.at c.in_default.not-Some)

@@ -14,14 +14,14 @@ returns-in_ok-push-in-Some c =
     c.in_ok-push-in-Some.ensures.items c.requires.before
 
 pub returns-else-needed : goal.returns-else-needed
-returns-else-needed c = walked_unneeded _ _ _ _ _ _ _ c.requires.sound c.requires.inside c.index-step.ensures (cc) c.requires.before
+returns-else-needed c = walked_unneeded _ _ _ _ _ _ _ c.requires.sound c.requires.inside c.index-step.ensures (cc) (λ none _. absurd (cc (none, c.in-Some.is))) c.requires.before
 
 pub returns-in_ok-push-in-Some-2 : goal.returns-in_ok-push-in-Some-2
 returns-in_ok-push-in-Some-2 c =
     walked_more_by _ _ _ _ _ _ _ _ c.requires.sound c.requires.inside c.index-step.ensures (grind (arith, common_steps)) (grind (arith, common_steps)) c.requires.before
 
 pub returns-else-needed-2 : goal.returns-else-needed-2
-returns-else-needed-2 c = walked_unneeded _ _ _ _ _ _ _ c.requires.sound c.requires.inside c.index-step.ensures (cc) c.requires.before
+returns-else-needed-2 c = walked_unneeded _ _ _ _ _ _ _ c.requires.sound c.requires.inside c.index-step.ensures (cc) (λ none _. absurd (cc (none, c.in-Some-2.is))) c.requires.before
 
 pub returns-in_ok-push-in-None : goal.returns-in_ok-push-in-None
 returns-in_ok-push-in-None c =
@@ -35,7 +35,8 @@ pub returns-then-len-eq1 : goal.returns-then-len-eq1
 returns-then-len-eq1 c = walked_retargeted _ _ _ _ _ _ _ c.requires.sound c.requires.inside c.index-step.ensures c.in-None.is (cc) (grind (arith, common_steps)) c.requires.before
 
 pub returns-else-len-eq1 : goal.returns-else-len-eq1
-returns-else-len-eq1 c = walked_unneeded _ _ _ _ _ _ _ c.requires.sound c.requires.inside c.index-step.ensures (cc) c.requires.before
+returns-else-len-eq1 c =
+    walked_unneeded _ _ _ _ _ _ _ c.requires.sound c.requires.inside c.index-step.ensures (cc) (λ _ one. absurd (grind (arith, common_steps, one))) c.requires.before
 
 pub index-needed-requires : goal.index-needed-requires
 index-needed-requires c = let h : c.index-step.result.now.literal.var < length c.args.self.now.inputs.items = step_inside _ _ _ c.requires.sound c.requires.inside c.index-step.ensures in let e : length c.args.analysis.now.marked.items ≡ length c.args.self.now.inputs.items = c.requires.before.marks_cover in grind (arith, common_steps)

@@ -24,6 +24,7 @@ loop-number-init c = record {
   values = refl;
   trail = refl;
   head = refl;
+  capacity = refl;
 }
 
 pub add-requires-clause-linked : goal.add-requires-clause-linked
@@ -46,12 +47,13 @@ loop-number-preserved c =
     record {
       watched =
           watched_more s.clauses.items (length s.inputs.items) s.watches c.add.new.self c.loop-number.number c.as_slice.result.now inside
-          (clause_read s c.loop-number.number _ _ inside c.index.ensures c.as_slice.ensures) c.in_ok-add.ensures inv.watched;
+          (clause_read s c.loop-number.number _ _ inside c.index.ensures c.as_slice.ensures) c.in_ok-add.ensures.linked inv.watched;
       clauses = inv.clauses;
       inputs = inv.inputs;
       values = inv.values;
       trail = inv.trail;
       head = inv.head;
+      capacity = inv.capacity;
     }
 
 pub returns : goal.returns
@@ -64,5 +66,6 @@ returns c =
       values = inv.values;
       trail = inv.trail;
       head = inv.head;
+      capacity = inv.capacity;
       watched = watched_to_end s.clauses.items (length s.inputs.items) s.watches c.loop-number.number (grind (arith, common_steps, ap length c.loop-number.invariant.clauses)) inv.watched;
     }

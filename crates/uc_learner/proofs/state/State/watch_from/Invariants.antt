@@ -1,4 +1,4 @@
-use Rattle.std.proofs.Common.{◌≡◌, length, take}
+use Rattle.std.proofs.Common.{◌≡◌, length, take, vec_capacity}
 use Rattle.uc_watches.specs.Watched.{Linked}
 use Rattle.uc_learner.proofs.state.State.watch_from.Given as goal
 
@@ -10,4 +10,5 @@ invariant-loop-number l = record {
   values : l.self.values.items ≡ l.fn.self.values.items;
   trail : l.self.trail.items ≡ l.fn.self.trail.items;
   head : l.self.head ≡ l.fn.self.head;
+  capacity : vec_capacity l.self.trail ≡ vec_capacity l.fn.self.trail;
 }
