@@ -79,7 +79,7 @@ const ROWS: [(&[u8], &[u8]); 14] = [
 ];
 
 #[test]
-fn texts_are_printed_word_by_word(rt: HostRuntime) -> Result<(), Fail> {
+fn texts_are_printed_word_by_word_and_read_again(rt: HostRuntime) -> Result<(), Fail> {
     let alloc = rt.alloc();
     for (text, expected) in ROWS {
         let Some(printed) = reprinted(alloc, text) else {
@@ -87,6 +87,11 @@ fn texts_are_printed_word_by_word(rt: HostRuntime) -> Result<(), Fail> {
             continue;
         };
         assert_eq!(rt; printed.as_slice(), expected);
+        let Some(again) = reprinted(alloc, printed.as_slice()) else {
+            assert!(rt; false, "{text:?}");
+            continue;
+        };
+        assert_eq!(rt; again.as_slice(), expected);
     }
     Ok(())
 }
