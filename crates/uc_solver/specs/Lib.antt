@@ -1,0 +1,5 @@
+pub mod Stands
+pub mod Causes
+pub mod Answers
+pub mod Reduced
+pub mod Searches
