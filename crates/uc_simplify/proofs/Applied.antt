@@ -36,6 +36,12 @@ one_listed [] x h e = absurd (omega (arith, h))
 one_listed (y ∷ []) x h e = λ i. e i ∷ []
 one_listed (y ∷ z ∷ xs) x h e = absurd (omega (arith, h))
 
+pub two_listed : (xs : List ℕ) (x y : ℕ) → length xs ≡ 2 → x ≡ get_or xs 0 x → y ≡ get_or xs 1 y → x ∷ y ∷ [] ≡ xs
+two_listed [] x y h e f = absurd (omega (arith, h))
+two_listed (a ∷ []) x y h e f = absurd (omega (arith, h))
+two_listed (a ∷ b ∷ []) x y h e f = λ i. e i ∷ f i ∷ []
+two_listed (a ∷ b ∷ c ∷ xs) x y h e f = absurd (omega (arith, h))
+
 pub three_listed : (xs : List ℕ) (x y z : ℕ) → length xs ≡ 3 → x ≡ get_or xs 0 x → y ≡ get_or xs 1 y → z ≡ get_or xs 2 z → x ∷ y ∷ z ∷ [] ≡ xs
 three_listed [] x y z h e f g = absurd (omega (arith, h))
 three_listed (a ∷ []) x y z h e f g = absurd (omega (arith, h))

@@ -10,3 +10,6 @@ pub mod Members
 pub mod Applied
 pub mod Made
 pub mod Integers
+pub mod Cutting
+pub mod Singles
+pub mod Combined

@@ -4,3 +4,4 @@ pub mod Walking
 pub mod Steps
 pub mod Junctions
 pub mod Sums
+pub mod Combining

@@ -26,6 +26,11 @@
 //! | absorbing bits | `a * 0`, `a & 0`; `a \| ones` | `0`; `ones` |
 //! | bits with themselves | `a & a`, `a \| a`; `a - a`, `a ^ a` | `a`; `0` |
 //! | shifts | `a << n`, `a >> n` (filled with 0) by the width or more | `0` |
+//! | bits turned twice | `~~a`, `-(-a)` of bits | `a` |
+//! | extractions | of all bits; of an extraction | `a`; one extraction |
+//! | | of a concatenation, within one part | an extraction of that part |
+//! | | of an extension, within the bits extended; within the zeros | an extraction of these; `0` |
+//! | extensions | by no bits; of an extension of the same kind | `a`; one extension |
 //! | sums | `a + 0`, `a + -1 * a`, of one integer `a`, of two constants | `a`, `0`, `a`, the constant where it has 128 bits |
 //! | multiples | `1 * a`; `0 * a`; `m * (n * a)` | `a`; `0`; `mn * a` where `mn` has 128 bits |
 //! | records | field `i` of a record that is made | its part `i` |
@@ -35,6 +40,7 @@
 
 mod building;
 mod copying;
+mod extracts;
 mod folding;
 mod gathering;
 mod junctions;

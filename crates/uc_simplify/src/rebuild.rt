@@ -1,13 +1,14 @@
 //! An operation on parts that are simplified.
 
 ghost use Rattle.std.specs.Prelude.{◌≡◌, ℕ, ◌<◌, [], ◌∷◌, length, IfOk, IfSome, All};
-ghost use Rattle.uc_ops.specs.declared.op.Op.TheVariants.{Ite, Eq as Equal};
+ghost use Rattle.uc_ops.specs.declared.op.Op.TheVariants.{Ite, Eq as Equal, Extract};
 ghost use Rattle.uc_ops.specs.Typing.{Suits, types_at, type_at};
 ghost use Rattle.uc_terms.specs.Tables.{WellTyped};
 ghost use Rattle.uc_simplify.specs.Simplified.{Rebuilds, Grows};
 ghost use Rattle.uc_simplify.specs.Steps.{IsRight};
 
 use crate::building::build;
+use crate::extracts::{combined, from_concatenation, from_zeros, kept_whole, undone};
 use crate::folding::{folded_one, folded_two};
 use crate::gathering::gathered;
 use crate::junctions::{conjunct_alone, disjunct_alone, granted, refuted};
@@ -139,8 +140,50 @@ fn step_one(alloc: Global, terms: &Terms, op: &Op, a: TermId) -> Result<Option<S
             scaled(alloc, terms, *factor, a)
         }
         Op::GetField(place) => Ok(field_made(terms, *place, a)),
-        _ => folded_one(alloc, terms, op, a),
+        _ => on_word(alloc, terms, op, a),
     }
+}
+
+/// A rule for one bit-vector.
+fn on_word(alloc: Global, terms: &Terms, op: &Op, a: TermId) -> Result<Option<Step>, AllocError>
+    requires there { a < length terms.now }
+    requires suits { Suits op.now (type_at terms.now a ∷ []) }
+    ensures { IfOk result (λ o. IfSome o (IsRight terms.now op.now (a ∷ []))) }
+{
+    if let Some(step) = folded_one(alloc, terms, op, a)? {
+        return Ok(Some(step));
+    }
+    if let Some(step) = undone(terms, op, a) {
+        return Ok(Some(step));
+    }
+    if let Some(step) = kept_whole(terms, op, a) {
+        return Ok(Some(step));
+    }
+    if let Some(step) = combined(alloc, terms, op, a)? {
+        return Ok(Some(step));
+    }
+    match op {
+        Op::Extract(high, low) => extraction(alloc, terms, *high, *low, a),
+        _ => Ok(None),
+    }
+}
+
+/// A rule for an extraction.
+fn extraction(
+    alloc: Global,
+    terms: &Terms,
+    high: u8,
+    low: u8,
+    a: TermId,
+) -> Result<Option<Step>, AllocError>
+    requires there { a < length terms.now }
+    requires suits { Suits (Extract high low) (type_at terms.now a ∷ []) }
+    ensures { IfOk result (λ o. IfSome o (IsRight terms.now (Extract high low) (a ∷ []))) }
+{
+    if let Some(step) = from_zeros(alloc, terms, high, low, a) {
+        return Ok(Some(step));
+    }
+    from_concatenation(alloc, terms, high, low, a)
 }
 
 /// A rule for two parts.

@@ -106,7 +106,7 @@ pub(crate) fn shifted_out(
 }
 
 /// The bits 0 of a width.
-fn zero(alloc: Global, width: u8) -> Step
+pub(crate) fn zero(alloc: Global, width: u8) -> Step
     ensures { result ≡ Other (Const (Bits width) (Bv width 0)) [] }
 {
     Step::Other(
