@@ -1,6 +1,6 @@
 //! The search on the problem of a lowered goal.
 
-ghost use Rattle.std.specs.Prelude.{◌≡◌, ◌≢◌, ◌++◌, ◌≤◌, ◌<◌, ◌^◌, false, length, Err, IfOk, OnOk, IfErr};
+ghost use Rattle.std.specs.Prelude.{◌≡◌, ◌≢◌, ◌++◌, ◌+◌, ◌≤◌, ◌<◌, ◌^◌, false, length, Err, IfOk, OnOk, IfErr};
 ghost use Rattle.uc_circuit.specs.Circuits.{input_values};
 ghost use Rattle.uc_terms.specs.Subterms.{EvenlyTyped};
 ghost use Rattle.uc_terms.specs.Laws.{IsModelOf};
@@ -44,6 +44,7 @@ pub(crate) fn decided<M: Meter>(
     ensures cause { IfErr result (IsSearchCause problem (M.opened meter.new) (M.here meter.new) budget (M.total meter.old) (M.total meter.new)) }
     ensures enough { FitsBudget terms.now u problem budget → result ≢ Err Budget }
     ensures total { M.total meter.old ≤ M.total meter.new }
+    ensures few { M.total meter.new ≤ M.total meter.old + 2 ^ 32 }
 {
     if is_true(&problem) {
         let model = model_of_inputs(alloc, terms, u, &[], &[])?;
@@ -97,12 +98,15 @@ fn searched<M: Meter>(
     ensures cause { IfErr result (IsSearchCause problem (M.opened meter.new) (M.here meter.new) budget (M.total meter.old) (M.total meter.new)) }
     ensures enough { FitsBudget terms.now u problem budget → result ≢ Err Budget }
     ensures total { M.total meter.old ≤ M.total meter.new }
+    ensures few { M.total meter.new ≤ M.total meter.old + 2 ^ 32 }
 {
     let mut learner = Learner::new(alloc, &problem)?;
     let mut log = Log::new(alloc)?;
     let _fine = problem.circuit();
     meter.open(problem);
-    let found = learner.next(terms, &mut log, budget, meter)?;
+    let answer = learner.next(terms, &mut log, budget, meter);
+    let _entries = log.len();
+    let found = answer?;
     match found {
         Search::Refuted => Ok(Found::Refuted(log)),
         Search::Candidate => {

@@ -1,6 +1,6 @@
 //! The solver.
 
-ghost use Rattle.std.specs.Prelude.{◌≡◌, ◌≢◌, ℕ, ◌≤◌, ◌<◌, ◌^◌, length, Err, IfOk, IfErr};
+ghost use Rattle.std.specs.Prelude.{◌≡◌, ◌≢◌, ℕ, ◌+◌, ◌≤◌, ◌<◌, ◌^◌, length, Err, IfOk, IfErr};
 ghost use Rattle.uc_values.specs.declared.ty.Ty.TheVariants.{Bool};
 ghost use Rattle.uc_ops.specs.Typing.{type_at};
 ghost use Rattle.uc_terms.specs.Subterms.{EvenlyTyped};
@@ -20,8 +20,8 @@ use uc_log::Meter;
 use uc_models::through_map;
 use uc_terms::{TermId, Terms};
 
-/// A model under which a boolean goal of finitely many values is true, or an accepted log that shows that there is none. It opens
-/// its own problem and spends at most the budget; where the goal comes out as true it opens none.
+/// A model under which a boolean goal of finitely many values is true, or an accepted log that shows that there is none. The goal's
+/// problem is opened at the meter, unless the goal comes out as true.
 pub fn solve<M: Meter>(
     alloc: Global,
     terms: &mut Terms,
@@ -39,6 +39,7 @@ pub fn solve<M: Meter>(
     ensures cause { IfErr result (IsCause terms.new goal (M.opened meter.new) (M.here meter.new) budget (M.total meter.old) (M.total meter.new)) }
     ensures enough { (n : ℕ) → HasBitsUpTo terms.old goal n → 2 ^ n ≤ budget → result ≢ Err Budget }
     ensures total { M.total meter.old ≤ M.total meter.new }
+    ensures few { M.total meter.new ≤ M.total meter.old + 2 ^ 32 }
     ensures grown { Grows terms.old terms.new }
     ensures kept { KeepsValues terms.old terms.new }
 {

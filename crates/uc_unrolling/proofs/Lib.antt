@@ -1,0 +1,5 @@
+pub mod Unrolled
+pub mod Below
+pub mod Judged
+pub mod Decided
+pub mod Walks
