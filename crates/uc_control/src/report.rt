@@ -81,7 +81,10 @@ impl Report {
     fn has_undecided_line(&self) -> bool
         ensures { result ≡ list_any (λ l. is_undecided l.verdict) self.now.lines }
     {
-        self.lines.as_slice().iter().any(|l| l.verdict.is_undecided())
+        self.lines
+            .as_slice()
+            .iter()
+            .any(|l| l.verdict.is_undecided())
     }
 }
 

@@ -121,10 +121,10 @@ led_more system old mid new before cells cells' k j t block st is a within at mo
   count = ap length set ∙ length-set cells j t ∙ a.count;
   rest = λ m.
       ap (led system (drop (k + 1) (main_init system))) (
-        set_cells m new cells cells' j t set
-        ∙ ap (λ vs. slice_set vs j (value_at m new t)) (kept_values m mid new cells move.says.grown (plain_within (length (cells_of system)) mid cells a.plain))
-        ∙ ap (slice_set (values_at m mid cells) j) (move.says.means m)
-        ∙ ap (λ n. slice_set (values_at m mid cells) n (move_of system (state_of (values_at m mid cells)) st).1) (sym (move.cell (values_at m mid cells))))
+      set_cells m new cells cells' j t set
+      ∙ ap (λ vs. slice_set vs j (value_at m new t)) (kept_values m mid new cells move.says.grown (plain_within (length (cells_of system)) mid cells a.plain))
+      ∙ ap (slice_set (values_at m mid cells) j) (move.says.means m)
+      ∙ ap (λ n. slice_set (values_at m mid cells) n (move_of system (state_of (values_at m mid cells)) st).1) (sym (move.cell (values_at m mid cells))))
       ∙ sym (ap (λ b. led system b (values_at m mid cells)) (turn k within at))
       ∙ a.rest m;
 }
@@ -166,11 +166,11 @@ given_more system old mid new cells next next' k j t block st is plain a within 
   count = ap length set ∙ length-set next j t ∙ a.count;
   rest = λ m.
       ap (λ vs. given vs (map (moves m) (drop (k + 1) (main_next system)))) (
-        set_cells m new next next' j t set
-        ∙ ap (λ vs. slice_set vs j (value_at m new t)) (kept_values m mid new next move.says.grown (plain_within (length (cells_of system)) mid next a.plain))
-        ∙ ap (slice_set (values_at m mid next) j) (move.says.means m)
-        ∙ ap (λ vs. slice_set (values_at m mid next) j (move_of system (state_of vs) st).1) (kept_values m old mid cells a.grown (plain_within (length (cells_of system)) old cells plain))
-        ∙ ap (λ n. slice_set (values_at m mid next) n (moves m st).1) (sym (move.cell (values_at m old cells))))
+      set_cells m new next next' j t set
+      ∙ ap (λ vs. slice_set vs j (value_at m new t)) (kept_values m mid new next move.says.grown (plain_within (length (cells_of system)) mid next a.plain))
+      ∙ ap (slice_set (values_at m mid next) j) (move.says.means m)
+      ∙ ap (λ vs. slice_set (values_at m mid next) j (move_of system (state_of vs) st).1) (kept_values m old mid cells a.grown (plain_within (length (cells_of system)) old cells plain))
+      ∙ ap (λ n. slice_set (values_at m mid next) n (moves m st).1) (sym (move.cell (values_at m old cells))))
       ∙ sym (ap (λ b. given (values_at m mid next) (map (moves m) b)) (turn k within at))
       ∙ a.rest m;
 }

@@ -17,12 +17,7 @@ use uc_terms::{Op, TermId, Terms};
 use uc_values::{Ty, Value};
 
 /// The term of an operation on parts that suit it.
-fn made(
-    alloc: Global,
-    terms: &mut Terms,
-    op: Op,
-    parts: &[TermId],
-) -> Result<TermId, AllocError>
+fn made(alloc: Global, terms: &mut Terms, op: Op, parts: &[TermId]) -> Result<TermId, AllocError>
     requires there { Within terms.old parts.now }
     requires suits { Suits op (types_at terms.old parts.now) }
     ensures made { IfOk result (λ t. IsMade terms.old terms.new t op parts.now) }

@@ -65,8 +65,10 @@ terms_of-loop-e-init t c = say_none (length (cells_of c.args.d.now)) c.args.d.no
 pub terms_of-term_of-requires : goal.terms_of-term_of-requires
 terms_of-term_of-requires t c = (
   omega (arith, c.decreases, size_at c.args.es.now c.loop-e.e-index c.e-item.result c.loop-e-test.true c.e-item.is),
-  (all_kept_plain (length (cells_of c.args.d.now)) c.args.terms.now c.loop-e.terms c.args.cells.now c.nodes-well_typed.ensures.well c.loop-e.invariant.grown c.requires.cells,
-  (c.requires.count, all_at (is_simple (variables c.args.d.now)) c.args.es.now c.loop-e.e-index c.e-item.result c.requires.simple c.loop-e-test.true c.e-item.is)),
+  (
+    all_kept_plain (length (cells_of c.args.d.now)) c.args.terms.now c.loop-e.terms c.args.cells.now c.nodes-well_typed.ensures.well c.loop-e.invariant.grown c.requires.cells,
+    (c.requires.count, all_at (is_simple (variables c.args.d.now)) c.args.es.now c.loop-e.e-index c.e-item.result c.requires.simple c.loop-e-test.true c.e-item.is),
+  ),
 )
 
 pub terms_of-loop-e-preserved : goal.terms_of-loop-e-preserved
