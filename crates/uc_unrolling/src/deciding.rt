@@ -5,6 +5,7 @@ ghost use Rattle.uc_lower.specs.Made.{Grows};
 ghost use Rattle.uc_meaning.specs.Cells.{cells_of};
 ghost use Rattle.uc_meaning.specs.Fragment.{variables, is_simple};
 ghost use Rattle.uc_symbolic.specs.Terms.{IsPlain, choice, choices};
+ghost use Rattle.uc_simplify.specs.Simplified.{Grows as GoesOn};
 ghost use Rattle.uc_solver.specs.Stands.{HasBitsUpTo};
 ghost use Rattle.uc_solver.specs.Answers.{IsRight};
 ghost use Rattle.uc_ops.specs.Meaning.{fitting};
@@ -133,10 +134,32 @@ fn solved<M: Meter>(
     ensures few { M.total meter.new ≤ M.total meter.old + 2 ^ 32 }
     ensures grown { Grows terms.old terms.new }
 {
-    let _well_typed = terms.nodes();
-    let answer = solve(alloc, terms, goal, budget, meter);
+    let answer = asked(alloc, terms, d, goal, budget, meter);
     let _still_well_typed = terms.nodes();
-    match answer {
+    answer
+}
+
+/// The same, without that the terms are still well typed.
+fn asked<M: Meter>(
+    alloc: Global,
+    terms: &mut Terms,
+    d: &Ordered,
+    goal: TermId,
+    budget: u64,
+    meter: &mut M,
+) -> Result<Answer, Stop>
+    requires plain { IsPlain (length (cells_of d.now)) terms.old goal }
+    requires bits { HasBitsUpTo terms.old goal (length (cells_of d.now)) }
+    requires some { 1 ≤ budget }
+    requires total { M.total meter.old + 2 ^ 32 ≤ 2 ^ 126 }
+    ensures answer { IfOk result (IsRight terms.new goal (M.opened meter.new)) }
+    ensures stopped { IfErr result (IsStopped (length (cells_of d.now)) budget (M.total meter.old) (M.total meter.new)) }
+    ensures later { M.total meter.old ≤ M.total meter.new }
+    ensures few { M.total meter.new ≤ M.total meter.old + 2 ^ 32 }
+    ensures grown { GoesOn terms.old terms.new }
+{
+    let _well_typed = terms.nodes();
+    match solve(alloc, terms, goal, budget, meter) {
         Ok(answer) => Ok(answer),
         Err(SolveError::Budget) => Err(Stop::Budget),
         Err(SolveError::NoMemory) => Err(Stop::NoMemory),
