@@ -13,7 +13,7 @@ use uc_syntax::{
 };
 
 /// How many variables a design may have.
-const MOST_VARIABLES: usize = 12;
+const MOST_VARIABLES: usize = 65535;
 
 /// How many steps a run may be unrolled.
 const MOST_STEPS: u128 = 1000;

@@ -192,7 +192,7 @@ impl State {
     ) -> Result<Search, LearnError>
         requires whole { Whole self.old }
         requires recorded { IsRecorded terms.now (M.opened meter.old) (M.here meter.old) log.old }
-        requires total { M.total meter.old < 2 ^ 126 }
+        requires total { M.total meter.old + 2 ^ 32 ≤ 2 ^ 127 }
         requires holds { Holds self.old (known_now (M.opened meter.old) log.old) }
         ensures whole { result ≡ Ok Candidate → Whole self.new }
         ensures holds { result ≡ Ok Candidate → Holds self.new (known_now (M.opened meter.new) log.new) }

@@ -107,7 +107,7 @@ impl Learner {
         meter: &mut M,
     ) -> Result<Search, LearnError>
         requires recorded { IsRecorded terms.now (M.opened meter.old) (M.here meter.old) log.old }
-        requires total { M.total meter.old < 2 ^ 126 }
+        requires total { M.total meter.old + 2 ^ 32 ≤ 2 ^ 127 }
         requires taken { HasTakenFor (M.opened meter.old) log.old self.old }
         ensures recorded { IsRecorded terms.now (M.opened meter.new) (M.here meter.new) log.new }
         ensures opened { M.opened meter.new ≡ M.opened meter.old }

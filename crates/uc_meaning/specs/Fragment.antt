@@ -32,7 +32,7 @@ use Rattle.uc_meaning.specs.Lines.{main_declarations, formula_of}
 
 -- how many variables a design may have, and how many steps a run may be unrolled
 abbrev pub most_variables : ℕ
-most_variables = 12
+most_variables = 65535
 
 abbrev pub most_steps : ℕ
 most_steps = 1000

@@ -39,7 +39,7 @@ pub(crate) fn decided<M: Meter>(
     requires even { EvenlyTyped terms.now u }
     requires problem { IsProblemOf terms.now u problem }
     requires some { 1 ≤ budget }
-    requires total { M.total meter.old < 2 ^ 126 }
+    requires total { M.total meter.old + 2 ^ 32 ≤ 2 ^ 127 }
     ensures found { IfOk result (IsFound terms.now u problem (M.opened meter.new)) }
     ensures cause { IfErr result (IsSearchCause problem (M.opened meter.new) (M.here meter.new) budget (M.total meter.old) (M.total meter.new)) }
     ensures enough { FitsBudget terms.now u problem budget → result ≢ Err Budget }
@@ -93,7 +93,7 @@ fn searched<M: Meter>(
     requires problem { IsProblemOf terms.now u problem }
     requires not_true { is_true_question problem ≡ false }
     requires some { 1 ≤ budget }
-    requires total { M.total meter.old < 2 ^ 126 }
+    requires total { M.total meter.old + 2 ^ 32 ≤ 2 ^ 127 }
     ensures found { IfOk result (IsFound terms.now u problem (M.opened meter.new)) }
     ensures cause { IfErr result (IsSearchCause problem (M.opened meter.new) (M.here meter.new) budget (M.total meter.old) (M.total meter.new)) }
     ensures enough { FitsBudget terms.now u problem budget → result ≢ Err Budget }

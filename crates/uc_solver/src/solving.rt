@@ -34,7 +34,7 @@ pub fn solve<M: Meter>(
     requires even { EvenlyTyped terms.old goal }
     requires finite { IsFiniteTerm terms.old goal }
     requires some { 1 ≤ budget }
-    requires total { M.total meter.old < 2 ^ 126 }
+    requires total { M.total meter.old + 2 ^ 32 ≤ 2 ^ 127 }
     ensures answer { IfOk result (IsRight terms.new goal (M.opened meter.new)) }
     ensures cause { IfErr result (IsCause terms.new goal (M.opened meter.new) (M.here meter.new) budget (M.total meter.old) (M.total meter.new)) }
     ensures enough { (n : ℕ) → HasBitsUpTo terms.old goal n → 2 ^ n ≤ budget → result ≢ Err Budget }

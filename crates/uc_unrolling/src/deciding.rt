@@ -64,7 +64,7 @@ pub(crate) fn verdict_on<M: Meter>(
     requires cells { AreCellsAfter d.now steps terms.old cells.now }
     requires simple { is_simple (variables d.now) formula.now ≡ true }
     requires some { 1 ≤ budget }
-    requires total { M.total meter.old + 2 ^ 32 ≤ 2 ^ 126 }
+    requires total { M.total meter.old + 2 ^ 32 ≤ 2 ^ 127 }
     ensures right { IsVerdictOn d.now steps formula.now result }
     ensures spent { IsSpentOn budget (M.total meter.old) (M.total meter.new) result }
     ensures few { M.total meter.new ≤ M.total meter.old + 2 ^ 32 }
@@ -93,7 +93,7 @@ fn refuting<M: Meter>(
     requires cells { AreCellsAfter d.now steps terms.old cells.now }
     requires simple { is_simple (variables d.now) formula.now ≡ true }
     requires some { 1 ≤ budget }
-    requires total { M.total meter.old + 2 ^ 32 ≤ 2 ^ 126 }
+    requires total { M.total meter.old + 2 ^ 32 ≤ 2 ^ 127 }
     ensures outcome { IfOk result (IsOutcome d.now steps formula.now) }
     ensures stopped { IfErr result (IsStopped (length (cells_of d.now)) budget (M.total meter.old) (M.total meter.new)) }
     ensures later { M.total meter.old ≤ M.total meter.new }
@@ -127,7 +127,7 @@ fn solved<M: Meter>(
     requires plain { IsPlain (length (cells_of d.now)) terms.old goal }
     requires bits { HasBitsUpTo terms.old goal (length (cells_of d.now)) }
     requires some { 1 ≤ budget }
-    requires total { M.total meter.old + 2 ^ 32 ≤ 2 ^ 126 }
+    requires total { M.total meter.old + 2 ^ 32 ≤ 2 ^ 127 }
     ensures answer { IfOk result (IsRight terms.new goal (M.opened meter.new)) }
     ensures stopped { IfErr result (IsStopped (length (cells_of d.now)) budget (M.total meter.old) (M.total meter.new)) }
     ensures later { M.total meter.old ≤ M.total meter.new }
@@ -151,7 +151,7 @@ fn asked<M: Meter>(
     requires plain { IsPlain (length (cells_of d.now)) terms.old goal }
     requires bits { HasBitsUpTo terms.old goal (length (cells_of d.now)) }
     requires some { 1 ≤ budget }
-    requires total { M.total meter.old + 2 ^ 32 ≤ 2 ^ 126 }
+    requires total { M.total meter.old + 2 ^ 32 ≤ 2 ^ 127 }
     ensures answer { IfOk result (IsRight terms.new goal (M.opened meter.new)) }
     ensures stopped { IfErr result (IsStopped (length (cells_of d.now)) budget (M.total meter.old) (M.total meter.new)) }
     ensures later { M.total meter.old ≤ M.total meter.new }

@@ -34,7 +34,7 @@ pub fn judge_unroll<M: Meter>(
 ) -> Result<Items<LineResult>, AllocError>
     requires depth { depth ≤ most_steps }
     requires some { 1 ≤ budget }
-    requires total { M.total meter.old < 2 ^ 125 }
+    requires total { M.total meter.old < 2 ^ 126 }
     ensures judged { IfOk result (AreJudged d.now budget (M.total meter.old) (M.total meter.new) (lines_from d.now command Exactly 0 (depth + 1))) }
     ensures later { M.total meter.old ≤ M.total meter.new }
 {
@@ -87,7 +87,7 @@ fn judge_step<M: Meter>(
 ) -> Result<Items<LineResult>, AllocError>
     requires cells { AreCellsAfter d.now steps terms.old cells.now }
     requires some { 1 ≤ budget }
-    requires total { M.total meter.old < 2 ^ 125 + 2 ^ 97 }
+    requires total { M.total meter.old < 2 ^ 126 + 2 ^ 97 }
     ensures judged { IfOk result (AreJudged d.now budget (M.total meter.old) (M.total meter.new) (step_lines d.now command steps)) }
     ensures later { M.total meter.old ≤ M.total meter.new }
     ensures grown { Grows terms.old terms.new }
@@ -121,7 +121,7 @@ fn judge_decl<M: Meter>(
     requires cells { AreCellsAfter d.now steps terms.old cells.now }
     requires found { slice_get (main_declarations d.now) k ≡ Some decl.now }
     requires some { 1 ≤ budget }
-    requires total { M.total meter.old + 2 ^ 32 ≤ 2 ^ 126 }
+    requires total { M.total meter.old + 2 ^ 32 ≤ 2 ^ 127 }
     ensures judged { IfOk result (AreJudged d.now budget (M.total meter.old) (M.total meter.new) (line_of_decl command steps k decl.now)) }
     ensures later { M.total meter.old ≤ M.total meter.new }
     ensures grown { Grows terms.old terms.new }
@@ -154,7 +154,7 @@ fn judge_invariant<M: Meter>(
     requires cells { AreCellsAfter d.now steps terms.old cells.now }
     requires found { IsInvariantAt d.now k formula.now }
     requires some { 1 ≤ budget }
-    requires total { M.total meter.old + 2 ^ 32 ≤ 2 ^ 126 }
+    requires total { M.total meter.old + 2 ^ 32 ≤ 2 ^ 127 }
     ensures judged { IfOk result (AreJudged d.now budget (M.total meter.old) (M.total meter.new) (invariant_line command steps k ∷ [])) }
     ensures later { M.total meter.old ≤ M.total meter.new }
     ensures grown { Grows terms.old terms.new }
