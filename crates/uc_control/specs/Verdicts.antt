@@ -1,5 +1,5 @@
 -- What a verdict says of a line.
-use Rattle.std.specs.Prelude.{◌≡◌, ℕ, ◌<◌, ◌^◌, Bool, true, false}
+use Rattle.std.specs.Prelude.{◌≡◌, ℕ, ◌<◌, ◌^◌, Bool, true, false, List, count_by}
 use Rattle.uc_meaning.specs.declared.line.Line.{Line}
 use Rattle.uc_meaning.specs.Lookup.{System}
 use Rattle.uc_meaning.specs.Lines.{Refutes, IsValid}
@@ -7,6 +7,7 @@ use Rattle.uc_control.specs.declared.report.Why.{Why}
 use Rattle.uc_control.specs.declared.report.Why.TheVariants.{Budget, Memory}
 use Rattle.uc_control.specs.declared.report.Verdict.{Verdict}
 use Rattle.uc_control.specs.declared.report.Verdict.TheVariants.{Passed, Failed, Undef}
+use Rattle.uc_control.specs.declared.report.LineResult.{LineResult}
 
 -- a line that passed has no trace that refutes it, and the trace of one that failed refutes it
 abbrev pub IsRightVerdict : System → Line → Verdict → Type 0
@@ -31,3 +32,7 @@ is_budget Memory = false
 abbrev pub is_out_of_budget : Verdict → Bool
 is_out_of_budget (Undef why) = is_budget why
 is_out_of_budget other = false
+
+-- how many lines are undecided by their budget
+abbrev pub out_of_budget : List LineResult → ℕ
+out_of_budget ls = count_by (λ l. is_out_of_budget l.verdict) ls

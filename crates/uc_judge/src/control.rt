@@ -1,28 +1,40 @@
 //! The commands of a control block.
 
-ghost use Rattle.std.specs.Prelude.{◌≡◌, [], true, IfOk, MatchOption};
+ghost use Rattle.std.specs.Prelude.{◌≡◌, ◌+◌, ◌*◌, ◌≤◌, ◌<◌, ◌^◌, [], true, IfOk, MatchOption};
 ghost use Rattle.std.specs.List.{list_all, flat_map};
 ghost use Rattle.uc_meaning.specs.Fragment.{at_most_one, is_control, unrolls};
 ghost use Rattle.uc_meaning.specs.Lines.{commands_in, commands_of};
+ghost use Rattle.uc_control.specs.Verdicts.{out_of_budget};
 ghost use Rattle.uc_judge.specs.Reports.{IsReport};
 ghost use Rattle.uc_judge.specs.Unrolling.{Unrolls, control_unrolls};
 
 use crate::results::report_of;
-use std::alloc::Global;
+use std::alloc::{AllocError, Global};
 use uc_control::Report;
 use uc_items::Items;
-use uc_meaning::{EvalError, Ordered};
-use uc_search::judge_unroll;
+use uc_log::Meter;
+use uc_meaning::Ordered;
 use uc_syntax::{Command, Decl, WrittenRun};
+use uc_unrolling::judge_unroll;
 
-/// The report of the design's control block. Want of memory is answered too where a report would have 2^32 lines.
-pub fn run_control(alloc: Global, d: &Ordered) -> Result<Report, EvalError>
-    ensures { IfOk result (IsReport d.now) }
+/// The report of the design's control block, with this budget of log entries for each line. Want of memory is answered too where a
+/// report would have 2^32 lines, and where an invariant stands behind the first 2^32 declarations of main.
+pub fn run_control<M: Meter>(
+    alloc: Global,
+    d: &Ordered,
+    budget: u64,
+    meter: &mut M,
+) -> Result<Report, AllocError>
+    requires some { 1 ≤ budget }
+    requires total { M.total meter.old < 2 ^ 126 }
+    ensures report { IfOk result (IsReport d.now budget) }
+    ensures spent { IfOk result (λ r. M.total meter.old + budget * out_of_budget r.lines ≤ M.total meter.new) }
+    ensures later { M.total meter.old ≤ M.total meter.new }
 {
     match unrolled(d) {
         Some(depth) => {
-            let judgements = judge_unroll(alloc, d, 0, depth)?;
-            report_of(alloc, judgements)
+            let lines = judge_unroll(alloc, d, 0, depth, budget, meter)?;
+            report_of(alloc, lines)
         }
         None => Ok(Report {
             lines: Items::new(alloc),

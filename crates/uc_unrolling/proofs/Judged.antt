@@ -20,10 +20,10 @@ use Rattle.uc_control.specs.declared.report.Why.{Why}
 use Rattle.uc_control.specs.declared.report.Why.TheVariants.{Budget, Memory}
 use Rattle.uc_control.specs.declared.report.Verdict.{Verdict}
 use Rattle.uc_control.specs.declared.report.Verdict.TheVariants.{Passed, Failed, Undef}
-use Rattle.uc_control.specs.Verdicts.{IsRightVerdict, IsHonest, is_out_of_budget}
+use Rattle.uc_control.specs.Verdicts.{IsRightVerdict, IsHonest, is_out_of_budget, out_of_budget}
 use Rattle.uc_runs.proofs.Runs.{trail_refutes, never_false}
 use Rattle.uc_unrolling.specs.Deciding.{IsVerdictOn, IsSpentOn}
-use Rattle.uc_unrolling.specs.Lines.{AreJudged, out_of_budget, invariant_line}
+use Rattle.uc_unrolling.specs.Lines.{AreJudged, invariant_line}
 use Rattle.uc_unrolling.proofs.Unrolled.{fragment_line}
 
 count_joined : {A : Type 0} (p : A → Bool) (xs ys : List A) → count_by p (xs ++ ys) ≡ count_by p xs + count_by p ys

@@ -1,5 +1,5 @@
 -- What is right of judged lines.
-use Rattle.std.specs.Prelude.{◌≡◌, ℕ, ◌+◌, ◌*◌, ◌≤◌, ◌^◌, List, [], map, length, slice_get, count_by, Some}
+use Rattle.std.specs.Prelude.{◌≡◌, ℕ, ◌+◌, ◌*◌, ◌≤◌, ◌^◌, List, [], map, length, slice_get, Some}
 use Rattle.std.specs.List.{All, filter_map}
 use Rattle.uc_lexer.specs.declared.place.Place.{Place}
 use Rattle.uc_syntax.specs.declared.place.Identifier.{Identifier}
@@ -13,11 +13,7 @@ use Rattle.uc_meaning.specs.Lookup.{System}
 use Rattle.uc_meaning.specs.Cells.{as_list, cells_of}
 use Rattle.uc_meaning.specs.Lines.{numbered, invariant_judged, lines_at, main_declarations}
 use Rattle.uc_control.specs.declared.report.LineResult.{LineResult}
-use Rattle.uc_control.specs.Verdicts.{IsRightVerdict, IsHonest, is_out_of_budget}
-
--- how many lines are undecided by their budget
-abbrev pub out_of_budget : List LineResult → ℕ
-out_of_budget ls = count_by (λ l. is_out_of_budget l.verdict) ls
+use Rattle.uc_control.specs.Verdicts.{IsRightVerdict, IsHonest, out_of_budget}
 
 -- These lines are judged, in order, each with its command and a right verdict. Each line that is undecided by its budget spent it.
 pub record AreJudged (system : System) (budget before after : ℕ) (lines : List Line) (ls : List LineResult) : Type 0 where

@@ -1,7 +1,8 @@
 -- What a run is to answer to its words and its texts.
-use Rattle.std.specs.Prelude.{◌≡◌, ℕ, Bool, true, false, not, ◌&&◌, nat_le, nat_eq, codes, decimal, IsTrue, List, [], ◌∷◌, ◌++◌, length, slice_get, unwrap_or, Option, Some, None}
+use Rattle.std.specs.Prelude.{◌≡◌, ℕ, ◌+◌, ◌*◌, ◌≤◌, Bool, true, false, not, ◌&&◌, nat_le, nat_eq, codes, decimal, IsTrue, List, [], ◌∷◌, ◌++◌, length, slice_get, unwrap_or, Option, Some, None}
 use Rattle.std.specs.List.{list_all}
 use Rattle.uc_control.specs.Reports.{status}
+use Rattle.uc_control.specs.Verdicts.{out_of_budget}
 use Rattle.uc_control.specs.Text.{report_text}
 use Rattle.uc_front.specs.declared.refusal.Refusal.{Refusal}
 use Rattle.uc_front.specs.Refusals.{number_of, place_of}
@@ -32,11 +33,15 @@ word_at words n = unwrap_or (slice_get words n) []
 
 -- ---- answers
 
+-- how many entries of a log each line may spend: 2^20
+abbrev pub line_budget : ℕ
+line_budget = 1048576
+
 -- The answer to files, given what is held under their names, where this is told.
 abbrev pub IsFilesAnswer : Bool → List (List ℕ) → (List ℕ → Option (List ℕ)) → Answer → Type 0
 IsFilesAnswer tells files held Usage = ⊥
 IsFilesAnswer tells files held (Refused r) = IsTrue tells → IsRefused held files r
-IsFilesAnswer tells files held (Reported s) = IsReport s.design s.report × (IsTrue tells → IsAccepted held files s.design)
+IsFilesAnswer tells files held (Reported s) = IsReport s.design line_budget s.report × (IsTrue tells → IsAccepted held files s.design)
 
 -- Words that are not of the form are answered with the usage line; else each is the name of a file.
 abbrev pub IsAnswerFor : Bool → Bool → List (List ℕ) → (List ℕ → Option (List ℕ)) → Answer → Type 0
@@ -54,6 +59,11 @@ status_of (Reported s) = status s.report
 abbrev pub session_of : Answer → Option Session
 session_of (Reported s) = Some s
 session_of other = None
+
+-- the meter rose by at least the budget for each line that is undecided by it
+abbrev pub HasSpent : ℕ → ℕ → Answer → Type 0
+HasSpent before after (Reported s) = before + line_budget * out_of_budget s.report.lines ≤ after
+HasSpent before after other = before ≤ after
 
 -- ---- bytes
 

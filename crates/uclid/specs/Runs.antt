@@ -1,10 +1,12 @@
 -- How a run ends.
-use Rattle.std.specs.Prelude.{◌≡◌, ◌⊎◌, ℕ, Bool, IsTrue, List, ◌++◌, Option, None}
+use Rattle.std.specs.Prelude.{◌≡◌, ◌⊎◌, ℕ, ◌+◌, ◌*◌, ◌≤◌, Bool, IsTrue, List, ◌++◌, Option, Some, None}
 use Rattle.uc_io.specs.Faults.{Rose}
 use Rattle.uc_io.specs.Sink.{GrewByFront}
+use Rattle.uc_control.specs.Verdicts.{out_of_budget}
+use Rattle.uclid.specs.declared.answer.Session.{Session}
 use Rattle.uclid.specs.declared.answer.Answer.{Answer}
 use Rattle.uclid.specs.declared.top.Outcome.{Outcome}
-use Rattle.uclid.specs.Answers.{IsAnswer, status_of, session_of, text_of}
+use Rattle.uclid.specs.Answers.{IsAnswer, status_of, session_of, text_of, line_budget}
 
 -- the whole text was written
 abbrev pub Wrote : Bool → List ℕ → List ℕ → List ℕ → Type 0
@@ -35,6 +37,14 @@ abbrev pub HasWritten : List (List ℕ) → Answer → Bool → List ℕ → Lis
 HasWritten words a sink_tells before now faults faults_now o =
     ((o.session ≡ session_of a) × (((o.status ≡ status_of a) × Wrote sink_tells before now (text_of words a)) ⊎ ((o.status ≡ 6) × WroteFront sink_tells before now faults faults_now (text_of words a))))
     ⊎ ((o.session ≡ None) × (o.status ≡ 7) × WroteNothing sink_tells before now)
+
+-- the meter rose by at least the budget for each line of a session that is undecided by it
+abbrev pub HasPaidFor : ℕ → ℕ → Option Session → Type 0
+HasPaidFor before after (Some s) = before + line_budget * out_of_budget s.report.lines ≤ after
+HasPaidFor before after None = before ≤ after
+
+abbrev pub HasPaid : ℕ → ℕ → Outcome → Type 0
+HasPaid before after o = HasPaidFor before after o.session
 
 -- How a run ends, by what its texts held and counted, and by what its sink took and counted.
 abbrev pub Ends : Bool → List (List ℕ) → (List ℕ → Option (List ℕ)) → ℕ → ℕ → Bool → List ℕ → List ℕ → ℕ → ℕ → Outcome → Type 0

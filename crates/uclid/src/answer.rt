@@ -1,18 +1,21 @@
 //! What a run is to answer, before a byte is written.
 
-ghost use Rattle.std.specs.Prelude.{◌≡◌, ◌≤◌, length, IsTrue, IsErrOf, IfOk};
+ghost use Rattle.std.specs.Prelude.{◌≡◌, ◌≤◌, ◌<◌, ◌^◌, length, IsTrue, IsErrOf, IfOk};
 ghost use Rattle.uc_io.specs.Faults.{Rose};
 ghost use Rattle.uc_front.specs.Sources.{words_of};
-ghost use Rattle.uc_judge.specs.Reports.{IsReport};
 ghost use Rattle.uclid.specs.declared.answer.Stop.TheVariants.{NoMemory, ReadFault};
-ghost use Rattle.uclid.specs.Answers.{is_form, are_names, IsAnswer, IsFilesAnswer, begins_with_dash, status_of, session_of};
+ghost use Rattle.uclid.specs.Answers.{is_form, are_names, line_budget, IsAnswer, IsFilesAnswer, HasSpent, begins_with_dash, status_of, session_of};
 
-use std::alloc::Global;
+use std::alloc::{AllocError, Global};
 use uc_control::{Report, status_of};
 use uc_front::{FrontError, MAX_FILES, Refusal, read_design};
 use uc_io::Texts;
 use uc_judge::run_control;
-use uc_meaning::{EvalError, Ordered};
+use uc_log::Meter;
+use uc_meaning::Ordered;
+
+/// How many entries of a log each line may spend.
+const LINE_BUDGET: u64 = 1_048_576;
 
 /// An accepted design and the report of its control block.
 #[derive(Drop)]
@@ -39,17 +42,25 @@ pub(crate) enum Stop {
     ReadFault,
 }
 
-impl From<EvalError> for Stop {
+impl From<AllocError> for Stop {
     ghost from_gives = { λ _ e. e ≡ NoMemory };
 
-    fn from(_: EvalError) -> Stop {
+    fn from(_: AllocError) -> Stop {
         Stop::NoMemory
     }
 }
 
 /// What the words and the texts lead to.
-pub(crate) fn decide<X: Texts>(alloc: Global, words: &[&str], texts: &mut X) -> Result<Answer, Stop>
+pub(crate) fn decide<X: Texts, M: Meter>(
+    alloc: Global,
+    words: &[&str],
+    texts: &mut X,
+    meter: &mut M,
+) -> Result<Answer, Stop>
+    requires total { M.total meter.old < 2 ^ 126 }
     ensures answer { IfOk result (IsAnswer (X.tells texts.old) (words_of words.now) (X.held texts.old)) }
+    ensures spent { IfOk result (HasSpent (M.total meter.old) (M.total meter.new)) }
+    ensures spent_later { M.total meter.old ≤ M.total meter.new }
     ensures cause { IsErrOf result Stop.ReadFault → Rose (X.faults texts.old) (X.faults texts.new) }
     ensures no_fault { (¬ IsErrOf result Stop.ReadFault) → X.faults texts.new ≡ X.faults texts.old }
     ensures later { X.faults texts.old ≤ X.faults texts.new }
@@ -59,13 +70,21 @@ pub(crate) fn decide<X: Texts>(alloc: Global, words: &[&str], texts: &mut X) -> 
     if !is_form(words) {
         return Ok(Answer::Usage);
     }
-    answer_files(alloc, words, texts)
+    answer_files(alloc, words, texts, meter)
 }
 
 /// What the texts of files lead to.
-fn answer_files<X: Texts>(alloc: Global, files: &[&str], texts: &mut X) -> Result<Answer, Stop>
-    requires { length files.now ≤ MAX_FILES }
+fn answer_files<X: Texts, M: Meter>(
+    alloc: Global,
+    files: &[&str],
+    texts: &mut X,
+    meter: &mut M,
+) -> Result<Answer, Stop>
+    requires few { length files.now ≤ MAX_FILES }
+    requires total { M.total meter.old < 2 ^ 126 }
     ensures answer { IfOk result (IsFilesAnswer (X.tells texts.old) (words_of files.now) (X.held texts.old)) }
+    ensures spent { IfOk result (HasSpent (M.total meter.old) (M.total meter.new)) }
+    ensures spent_later { M.total meter.old ≤ M.total meter.new }
     ensures cause { IsErrOf result Stop.ReadFault → Rose (X.faults texts.old) (X.faults texts.new) }
     ensures no_fault { (¬ IsErrOf result Stop.ReadFault) → X.faults texts.new ≡ X.faults texts.old }
     ensures later { X.faults texts.old ≤ X.faults texts.new }
@@ -74,7 +93,7 @@ fn answer_files<X: Texts>(alloc: Global, files: &[&str], texts: &mut X) -> Resul
 {
     match read_design(alloc, texts, files) {
         Ok(design) => {
-            let report = run_control(alloc, &design)?;
+            let report = run_control(alloc, &design, LINE_BUDGET, meter)?;
             Ok(Answer::Reported(Session { design, report }))
         }
         Err(FrontError::Refused(refusal)) => Ok(Answer::Refused(refusal)),

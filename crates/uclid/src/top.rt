@@ -1,13 +1,14 @@
 //! The top call.
 
-ghost use Rattle.std.specs.Prelude.{◌≡◌, ◌≤◌, None};
+ghost use Rattle.std.specs.Prelude.{◌≡◌, ◌≤◌, ◌<◌, ◌^◌, None};
 ghost use Rattle.uc_front.specs.Sources.{words_of};
-ghost use Rattle.uclid.specs.Runs.{Ends, HasWritten};
+ghost use Rattle.uclid.specs.Runs.{Ends, HasWritten, HasPaid};
 
 use crate::answer::{Answer, Session, Stop, decide, session_of, status_of_answer};
 use crate::lines::text_of;
 use std::alloc::Global;
 use uc_io::{Sink, Texts, write_whole};
+use uc_log::Meter;
 
 /// How a run ended. The session is there where a report was to be written.
 #[derive(Drop)]
@@ -18,18 +19,27 @@ pub struct Outcome {
 
 /// Reads the files that the words name, in order, judges their design, and writes the report.
 ///
-/// Statuses: 0 where all lines passed, 1 where one failed, 3 where the texts are refused (an error line is written), 4 where the
-/// words are none (the usage line is written), 5 after a fault of the texts, 6 after a fault of the sink, 7 for want of memory.
-pub fn run<X: Texts, K: Sink>(alloc: Global, words: &[&str], texts: &mut X, out: &mut K) -> Outcome
+/// Each line may spend 2^20 entries of a log, which the meter counts. Statuses: 0 where all lines passed, 1 where one failed, else 2
+/// where one is undecided, 3 where the texts are refused (an error line is written), 4 where the words are none (the usage line is
+/// written), 5 after a fault of the texts, 6 after a fault of the sink, 7 for want of memory.
+pub fn run<X: Texts, K: Sink, M: Meter>(
+    alloc: Global,
+    words: &[&str],
+    texts: &mut X,
+    out: &mut K,
+    meter: &mut M,
+) -> Outcome
+    requires total { M.total meter.old < 2 ^ 126 }
     ensures ends { Ends (X.tells texts.old) (words_of words.now) (X.held texts.old) (X.faults texts.old) (X.faults texts.new)
         (K.tells out.old) (K.taken out.old) (K.taken out.new) (K.faults out.old) (K.faults out.new) result }
+    ensures spent { HasPaid (M.total meter.old) (M.total meter.new) result }
     ensures texts_later { X.faults texts.old ≤ X.faults texts.new }
     ensures sink_later { K.faults out.old ≤ K.faults out.new }
     ensures texts_telling { X.tells texts.new ≡ X.tells texts.old }
     ensures sink_telling { K.tells out.new ≡ K.tells out.old }
     ensures holding { X.held texts.new ≡ X.held texts.old }
 {
-    match decide(alloc, words, texts) {
+    match decide(alloc, words, texts, meter) {
         Ok(answer) => written(alloc, words, answer, out),
         Err(Stop::ReadFault) => stopped(5),
         Err(Stop::NoMemory) => stopped(7),

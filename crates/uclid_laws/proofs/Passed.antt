@@ -1,5 +1,5 @@
 -- From lines that passed to all runs.
-use Rattle.std.proofs.Common.{◌≡◌, ℕ, true, length, subst, ◌∙◌}
+use Rattle.std.proofs.Common.{◌≡◌, ℕ, ◌≤◌, ◌^◌, true, false, length, refl, subst, ◌∙◌, arith}
 use Rattle.std.specs.List.{All}
 use Rattle.std.proofs.lemmas.List.Elements.{All-map}
 use Rattle.uc_syntax.specs.declared.declaration.WrittenRun.TheVariants.{Unroll}
@@ -13,9 +13,11 @@ use Rattle.uc_control.specs.declared.report.Verdict.{Verdict}
 use Rattle.uc_control.specs.declared.report.Verdict.TheVariants.{Passed, Failed, Undef}
 use Rattle.uc_control.specs.declared.report.Report.{Report}
 use Rattle.uc_control.specs.Reports.{is_passed}
-use Rattle.uc_control.specs.Verdicts.{IsRightVerdict}
+use Rattle.uc_control.specs.declared.report.Why.TheVariants.{Budget, Memory}
+use Rattle.uc_control.specs.Verdicts.{IsRightVerdict, IsHonest, is_out_of_budget}
+use Rattle.uc_meaning.specs.Cells.{cells_of}
 use Rattle.uc_judge.specs.Reports.{IsReport}
-use Rattle.uclid_laws.specs.Laws.{AllPassed, PassedInduction, PassedUnroll}
+use Rattle.uclid_laws.specs.Laws.{AllPassed, EnoughBudget, PassedInduction, PassedUnroll}
 
 passed_is_valid : (system : System) (line : Line) (v : Verdict) → IsRightVerdict system line v → is_passed v ≡ true → IsValid system line
 passed_is_valid system line Passed h e = h
@@ -23,8 +25,8 @@ passed_is_valid system line (Failed trace) h e = absurd cc
 passed_is_valid system line (Undef why) h e = absurd cc
 
 -- the lines of a command that all passed are valid
-all_valid : (system : System) (report : Report) (command : ℕ) → IsReport system report → AllPassed command report → All (λ line. line.command ≡ command → IsValid system line) (all_lines system)
-all_valid system report command is passed = subst (All Wanted) is.lines (All-map Wanted (λ l. l.line) report.lines each)
+all_valid : (system : System) (budget : ℕ) (report : Report) (command : ℕ) → IsReport system budget report → AllPassed command report → All (λ line. line.command ≡ command → IsValid system line) (all_lines system)
+all_valid system budget report command is passed = subst (All Wanted) is.lines (All-map Wanted (λ l. l.line) report.lines each)
   where
     Wanted : Line → Type 0
     Wanted line = line.command ≡ command → IsValid system line
@@ -33,8 +35,17 @@ all_valid system report command is passed = subst (All Wanted) is.lines (All-map
     each i d lt e = passed_is_valid system _ _ (is.verdicts i d lt) (passed i d lt (is.commands i d lt ∙ e))
 
 pub passed_induction : PassedInduction
-passed_induction system report place name depth before after apart deep commands checked is passed = checked_induction_holds system place name depth before after apart deep commands checked (all_valid system report (length before) is passed)
+passed_induction system budget report place name depth before after apart deep commands checked is passed = checked_induction_holds system place name depth before after apart deep commands checked (all_valid system budget report (length before) is passed)
 
 pub passed_unroll : PassedUnroll
-passed_unroll system report place name depth before after apart commands checked is passed =
-    unroll_holds system (length before) depth apart (command_holds system place name (Unroll depth) before after commands checked (all_valid system report (length before) is passed))
+passed_unroll system budget report place name depth before after apart commands checked is passed =
+    unroll_holds system (length before) depth apart (command_holds system place name (Unroll depth) before after commands checked (all_valid system budget report (length before) is passed))
+
+within_budget : (budget bits : ℕ) (v : Verdict) → IsHonest budget bits v → 2 ^ bits ≤ budget → is_out_of_budget v ≡ false
+within_budget budget bits (Undef (Budget b)) h room = absurd (omega (arith, h.1, room))
+within_budget budget bits (Undef Memory) h room = refl
+within_budget budget bits Passed h room = refl
+within_budget budget bits (Failed trace) h room = refl
+
+pub enough_budget : EnoughBudget
+enough_budget system budget report is room i d lt = within_budget budget (length (cells_of system)) _ (is.honest i d lt) room

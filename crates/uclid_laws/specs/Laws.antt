@@ -1,5 +1,5 @@
 -- What the answers of a run mean.
-use Rattle.std.specs.Prelude.{◌≡◌, ◌⊎◌, ℕ, ◌≤◌, Bool, true, List, ◌∷◌, ◌++◌, length, Option, Some, None}
+use Rattle.std.specs.Prelude.{◌≡◌, ◌⊎◌, ℕ, ◌≤◌, ◌^◌, Bool, true, false, List, ◌∷◌, ◌++◌, length, Option, Some, None}
 use Rattle.std.specs.List.{list_any, All}
 use Rattle.uc_lexer.specs.declared.place.Place.{Place}
 use Rattle.uc_syntax.specs.declared.place.Identifier.{Identifier}
@@ -11,6 +11,8 @@ use Rattle.uc_meaning.specs.Lines.{commands_of, is_check}
 use Rattle.uc_laws.specs.Laws.{InstancesApart, HoldsAlways, HoldsUpTo, depth_of}
 use Rattle.uc_control.specs.declared.report.Report.{Report}
 use Rattle.uc_control.specs.Reports.{is_passed}
+use Rattle.uc_control.specs.Verdicts.{is_out_of_budget}
+use Rattle.uc_meaning.specs.Cells.{cells_of}
 use Rattle.uc_judge.specs.Reports.{IsReport}
 use Rattle.uc_front.specs.declared.refusal.Refusal.{Refusal}
 use Rattle.uc_front.specs.Denotes.{Denotes, IsAccepted}
@@ -53,6 +55,12 @@ RefusedRuns =
     Ends true files held texts_faults texts_faults_now sink_tells taken taken_now faults faults_now o →
     (o.session ≡ None) × ((o.status ≡ 3) ⊎ EndedByFault texts_faults texts_faults_now faults faults_now o ⊎ (o.status ≡ 7))
 
+-- Where the budget of a line is at least 2 to the number of the design's variables, no line is undecided by its budget.
+abbrev pub EnoughBudget : Type 0
+EnoughBudget =
+    (system : System) (budget : ℕ) (report : Report) → IsReport system budget report → 2 ^ length (cells_of system) ≤ budget →
+    All (λ l. is_out_of_budget l.verdict ≡ false) report.lines
+
 -- all lines of the command of a number passed
 abbrev pub AllPassed : ℕ → Report → Type 0
 AllPassed command report = All (λ l. l.command ≡ command → is_passed l.verdict ≡ true) report.lines
@@ -60,13 +68,13 @@ AllPassed command report = All (λ l. l.command ≡ command → is_passed l.verd
 -- Where a later `check` follows an induction, and all of its lines passed: every invariant and hyperinvariant holds in all runs, and no run lists any site.
 abbrev pub PassedInduction : Type 0
 PassedInduction =
-    (system : System) (report : Report) (place : Place) (name : Option Identifier) (depth : Option ℕ) (before after : List Command) → InstancesApart system → 1 ≤ depth_of depth →
+    (system : System) (budget : ℕ) (report : Report) (place : Place) (name : Option Identifier) (depth : Option ℕ) (before after : List Command) → InstancesApart system → 1 ≤ depth_of depth →
     commands_of system ≡ before ++ (Run place name (Induction depth) ∷ after) → list_any is_check after ≡ true →
-    IsReport system report → AllPassed (length before) report → HoldsAlways system
+    IsReport system budget report → AllPassed (length before) report → HoldsAlways system
 
 -- The same of an unrolling, for the runs of at most so many steps.
 abbrev pub PassedUnroll : Type 0
 PassedUnroll =
-    (system : System) (report : Report) (place : Place) (name : Option Identifier) (depth : ℕ) (before after : List Command) → InstancesApart system →
+    (system : System) (budget : ℕ) (report : Report) (place : Place) (name : Option Identifier) (depth : ℕ) (before after : List Command) → InstancesApart system →
     commands_of system ≡ before ++ (Run place name (Unroll depth) ∷ after) → list_any is_check after ≡ true →
-    IsReport system report → AllPassed (length before) report → HoldsUpTo system depth
+    IsReport system budget report → AllPassed (length before) report → HoldsUpTo system depth

@@ -2,7 +2,7 @@
 //! passed say what holds in all runs.
 #![tactic(auto)]
 
-ghost use Rattle.uclid_laws.specs.Laws.{OneDesign, NeverBoth, AcceptedRuns, RefusedRuns, PassedInduction, PassedUnroll};
+ghost use Rattle.uclid_laws.specs.Laws.{OneDesign, NeverBoth, AcceptedRuns, RefusedRuns, EnoughBudget, PassedInduction, PassedUnroll};
 
 /// The texts of files denote at most one design.
 pub fn one_design()
@@ -22,6 +22,11 @@ pub fn accepted_runs()
 /// Where texts are refused, a run on them answers a refusal.
 pub fn refused_runs()
     ensures { RefusedRuns }
+{}
+
+/// Where the budget covers all values of the variables, no line is undecided by it.
+pub fn enough_budget()
+    ensures { EnoughBudget }
 {}
 
 /// Where all lines of an induction passed, everything holds in all runs.

@@ -5,6 +5,7 @@ use std::alloc::{AllocError, Global};
 use std::process::ExitCode;
 use std::{env, io};
 use uc_files::{FileTexts, WriterSink};
+use uc_log::CountMeter;
 use uclid::run;
 
 /// The status where the words of the command line could not be had.
@@ -19,7 +20,8 @@ fn main(rt: HostRuntime) -> ExitCode {
     };
     let mut texts = FileTexts::new(&rt);
     let mut out = WriterSink::new(io::writer(&rt));
-    let outcome = run(rt.alloc(), &words, &mut texts, &mut out);
+    let mut meter = CountMeter::new();
+    let outcome = run(rt.alloc(), &words, &mut texts, &mut out, &mut meter);
     ExitCode::from(outcome.status)
 }
 

@@ -2,6 +2,7 @@ use std::alloc::{AllocError, Global};
 use std::process::Abort;
 use std::test::Fail;
 use uc_io::{MemSink, MemTexts};
+use uc_log::CountMeter;
 use uclid::run;
 
 /// The status of a run, and what was written.
@@ -26,7 +27,8 @@ fn finish(
     files.push((String::from_str(alloc, "n.ucl")?, second.to_vec(alloc)?))?;
     let mut texts = MemTexts::new(files, 4096, failing_reads.to_vec(alloc)?);
     let mut sink = MemSink::new(alloc, 10, failing_writes.to_vec(alloc)?);
-    let outcome = run(alloc, words, &mut texts, &mut sink);
+    let mut meter = CountMeter::new();
+    let outcome = run(alloc, words, &mut texts, &mut sink, &mut meter);
     Ok(Ended {
         status: outcome.status,
         written: sink.bytes().to_vec(alloc)?,

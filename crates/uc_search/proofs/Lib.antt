@@ -1,5 +1,0 @@
-pub mod Numbers
-pub mod Levels
-pub mod Starts
-pub mod Lines
-pub mod Outcomes
