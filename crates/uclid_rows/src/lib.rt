@@ -3,4 +3,8 @@
 #![tactic(auto)]
 
 #[cfg(test)]
+mod budgets;
+#[cfg(test)]
+mod many_variables;
+#[cfg(test)]
 mod tests;

@@ -7,14 +7,14 @@ use uclid::run;
 
 /// The status of a run, and what was written.
 #[derive(Drop)]
-struct Ended {
-    status: u8,
-    written: Vec<u8>,
+pub(crate) struct Ended {
+    pub(crate) status: u8,
+    pub(crate) written: Vec<u8>,
 }
 
 /// A run on these words. The texts stand under the names `m.ucl` and `n.ucl`. The calls of the texts and of the sink whose numbers
 /// are given fail.
-fn finish(
+pub(crate) fn finish(
     alloc: Global,
     words: &[&str],
     text: &[u8],

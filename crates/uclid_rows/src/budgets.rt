@@ -1,0 +1,68 @@
+//! Lines that a budget leaves undecided.
+
+use std::alloc::{AllocError, Global};
+use std::process::Abort;
+use std::test::Fail;
+use uc_control::{DesignView, report_text, status_of};
+use uc_front::read_design;
+use uc_io::MemTexts;
+use uc_judge::run_control;
+use uc_log::CountMeter;
+use uc_meaning::Ordered;
+
+/// Three pigeons do not fit into two holes: the first formula says it. The second one is false somewhere.
+const PIGEONS: &[u8] =
+    b"module main { var a, b, c, d, e, f : boolean; invariant crowded : !(a || b) || !(c || d) || !(e || f) || !(!a || !c) || !(!a || !e) || !(!c || !e) || !(!b || !d) || !(!b || !f) || !(!d || !f); invariant some : a || b; control { unroll(0); check; print_results; } }";
+
+/// A budget, the status, and the report.
+type Row = (u64, u8, &'static [u8]);
+
+const ROWS: [Row; 2] = [
+    (
+        1,
+        1,
+        b"0 assertions passed.\n1 assertions failed.\n1 assertions indeterminate.\n  UNDEF (budget 1) -> unroll [step 0] invariant crowded\n  FAILED -> unroll [step 0] invariant some\n",
+    ),
+    // 2 to the number of variables is enough.
+    (
+        64,
+        1,
+        b"1 assertions passed.\n1 assertions failed.\n0 assertions indeterminate.\n  PASSED -> unroll [step 0] invariant crowded\n  FAILED -> unroll [step 0] invariant some\n",
+    ),
+];
+
+fn design_of(rt: &impl Abort, alloc: Global, text: &[u8]) -> Result<Ordered, AllocError> {
+    let mut files = Vec::new(alloc);
+    files.push((String::from_str(alloc, "m.ucl")?, text.to_vec(alloc)?))?;
+    let mut texts = MemTexts::new(files, 4096, Vec::new(alloc));
+    match read_design(alloc, &mut texts, &["m.ucl"]) {
+        Ok(design) => Ok(design),
+        Err(_) => panic!(rt; "the design is refused"),
+    }
+}
+
+fn check_budget(rt: &impl Abort, alloc: Global, d: &Ordered, row: &Row) -> Result<(), AllocError> {
+    let (budget, status, written) = row;
+    let mut meter = CountMeter::new();
+    let report = run_control(alloc, d, *budget, &mut meter)?;
+    let view = DesignView {
+        names: d.design().names(),
+        files: d.design().files().as_slice(),
+        modules: d.design().modules().as_slice(),
+        main: d.main(),
+    };
+    let text = report_text(alloc, &view, &report)?;
+    assert_eq!(rt; status_of(&report), *status);
+    assert_eq!(rt; text.as_slice(), *written);
+    Ok(())
+}
+
+#[test]
+fn a_budget_decides_or_is_told(rt: HostRuntime) -> Result<(), Fail> {
+    let alloc = rt.alloc();
+    let design = design_of(&rt, alloc, PIGEONS)?;
+    for row in &ROWS {
+        check_budget(&rt, alloc, &design, row)?;
+    }
+    Ok(())
+}

@@ -1,0 +1,75 @@
+//! Designs of many free variables, whose texts are made.
+
+use crate::tests::finish;
+use std::alloc::{AllocError, Global};
+use std::process::Abort;
+use std::test::Fail;
+
+/// The name of a variable: `x` and two letters.
+fn put_name(text: &mut Vec<u8>, number: usize) -> Result<(), AllocError> {
+    let high = b'a' + (number / 26 % 26) as u8;
+    let low = b'a' + (number % 26) as u8;
+    text.extend_from_slice(&[b'x', high, low])
+}
+
+/// The formula that the first variable and each implication from one variable to the next give the last one. Without the last
+/// variable it is false where all variables are true.
+fn put_chain(text: &mut Vec<u8>, count: usize, with_last: bool) -> Result<(), AllocError> {
+    text.extend_from_slice(b"!")?;
+    put_name(text, 0)?;
+    for number in 1..count {
+        text.extend_from_slice(b" || !(!")?;
+        put_name(text, number - 1)?;
+        text.extend_from_slice(b" || ")?;
+        put_name(text, number)?;
+        text.extend_from_slice(b")")?;
+    }
+    if with_last {
+        text.extend_from_slice(b" || ")?;
+        put_name(text, count - 1)?;
+    }
+    text.extend_from_slice(b";\n")
+}
+
+/// Variables without first values, each of which takes the value of the one before it in a step, and the first that of the last.
+fn ring_of(alloc: Global, count: usize) -> Result<Vec<u8>, AllocError> {
+    let mut text = Vec::new(alloc);
+    text.extend_from_slice(b"module main {\n  var xaa")?;
+    for number in 1..count {
+        text.extend_from_slice(b", ")?;
+        put_name(&mut text, number)?;
+    }
+    text.extend_from_slice(b" : boolean;\n  next {\n")?;
+    for number in 0..count {
+        let before = (number + count - 1) % count;
+        put_name(&mut text, number)?;
+        text.extend_from_slice(b"' = ")?;
+        put_name(&mut text, before)?;
+        text.extend_from_slice(b";\n")?;
+    }
+    text.extend_from_slice(b"  }\n  invariant whole : ")?;
+    put_chain(&mut text, count, true)?;
+    text.extend_from_slice(b"  invariant open : ")?;
+    put_chain(&mut text, count, false)?;
+    text.extend_from_slice(b"  control { unroll(1); check; print_results; }\n}\n")?;
+    Ok(text)
+}
+
+const RING_REPORT: &[u8] =
+    b"2 assertions passed.\n2 assertions failed.\n0 assertions indeterminate.\n  PASSED -> unroll [step 0] invariant whole\n  FAILED -> unroll [step 0] invariant open\n  PASSED -> unroll [step 1] invariant whole\n  FAILED -> unroll [step 1] invariant open\n";
+
+fn check_ring(rt: &impl Abort, alloc: Global, count: usize) -> Result<(), AllocError> {
+    let text = ring_of(alloc, count)?;
+    let ended = finish(alloc, &["m.ucl"], text.as_slice(), b"", &[], &[])?;
+    assert_eq!(rt; ended.status, 1);
+    assert_eq!(rt; ended.written.as_slice(), RING_REPORT);
+    Ok(())
+}
+
+#[test]
+fn designs_of_many_free_variables_are_judged(rt: HostRuntime) -> Result<(), Fail> {
+    for count in [20, 60, 200] {
+        check_ring(&rt, rt.alloc(), count)?;
+    }
+    Ok(())
+}
