@@ -1,5 +1,5 @@
 -- The report of judged lines.
-use Rattle.std.proofs.Common.{◌≡◌, ℕ, ◌+◌, ◌*◌, ◌≤◌, List, [], ◌∷◌, map, length, refl, sym, ap, subst, ◌∙◌, arith}
+use Rattle.std.proofs.Common.{◌≡◌, ℕ, suc, ◌+◌, ◌*◌, ◌≤◌, List, [], ◌∷◌, map, length, refl, sym, ap, subst, ◌∙◌, arith}
 use Rattle.std.specs.List.{All}
 use Rattle.std.specs.Prelude.{Result, Ok, Err, IfOk}
 use Rattle.std.proofs.lemmas.List.{append-nil}
@@ -30,7 +30,7 @@ OwnCommand l = l.command ≡ l.line.command
 
 same_length : (ls : List LineResult) → length ls ≡ length (map (λ l. l.line) ls)
 same_length [] = refl
-same_length (l ∷ ls) = ap (λ n. n + 1) (same_length ls)
+same_length (l ∷ ls) = ap (λ n. suc n) (same_length ls)
 
 all_lines_are : (system : System) (depth : ℕ) → Unrolls (commands_of system) depth → all_lines system ≡ lines_from system 0 Exactly 0 (depth + 1)
 unfolding lines_checked
