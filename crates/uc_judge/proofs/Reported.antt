@@ -1,10 +1,9 @@
 -- The report of judged lines.
-use Rattle.std.proofs.Common.{◌≡◌, ℕ, suc, ◌+◌, ◌*◌, ◌≤◌, List, [], ◌∷◌, map, length, refl, sym, ap, subst, ◌∙◌, arith}
+use Rattle.std.proofs.Common.{◌≡◌, ℕ, suc, ◌+◌, List, [], ◌∷◌, map, length, refl, sym, ap, subst, ◌∙◌, arith}
 use Rattle.std.specs.List.{All}
 use Rattle.std.specs.Prelude.{Result, Ok, Err, IfOk}
 use Rattle.std.proofs.lemmas.List.{append-nil}
 use Rattle.std.proofs.lemmas.List.Elements.{All-nil}
-use Rattle.uc_meaning.specs.declared.line.Line.{Line}
 use Rattle.uc_meaning.specs.declared.line.At.TheVariants.{Exactly}
 use Rattle.uc_meaning.specs.Lookup.{System}
 use Rattle.uc_meaning.specs.Cells.{cells_of}
@@ -13,7 +12,7 @@ use Rattle.uc_control.specs.declared.report.LineResult.{LineResult}
 use Rattle.uc_control.specs.declared.report.Print.TheVariants.{Results}
 use Rattle.uc_control.specs.declared.report.Report.{Report}
 use Rattle.uc_control.specs.Reports.{prints_from, prints_of}
-use Rattle.uc_control.specs.Verdicts.{IsRightVerdict, IsHonest, out_of_budget}
+use Rattle.uc_control.specs.Verdicts.{IsRightVerdict, IsHonest}
 use Rattle.uc_unrolling.specs.Lines.{AreJudged}
 use Rattle.uc_judge.specs.Reports.{IsReport}
 use Rattle.uc_judge.specs.Results.{report_of}
@@ -53,10 +52,6 @@ unrolled_report system depth budget before after ls u judged report e = subst (I
   prints = ap (λ n. Results 0 n ∷ []) (same_length ls ∙ ap length judged.are) ∙ sym (prints_are system depth u);
 })
 
--- the entries of the judged lines are those of the report
-pub unrolled_spent : (system : System) (budget before after : ℕ) (lines : List Line) (ls : List LineResult) → AreJudged system budget before after lines ls → (report : Report) → report ≡ report_of ls → before + budget * out_of_budget report.lines ≤ after
-unrolled_spent system budget before after lines ls judged report e = subst (λ r. before + budget * out_of_budget r.lines ≤ after) (sym e) judged.spent
-
 -- with no commands there is nothing to report
 pub empty_report : (system : System) (budget : ℕ) → commands_of system ≡ [] → (report : Report) → report.lines ≡ [] → report.prints ≡ [] → IsReport system budget report
 unfolding lines_checked prints_from
@@ -67,13 +62,6 @@ empty_report system budget none report no_lines no_prints = record {
   honest = subst (All (HonestLine system budget)) (sym no_lines) (All-nil (HonestLine system budget));
   prints = no_prints ∙ sym (ap (λ cs. prints_from system 0 0 0 0 cs) none);
 }
-
--- and nothing is spent
-pub empty_spent : (budget total : ℕ) (lines : List LineResult) → lines ≡ [] → total + budget * out_of_budget lines ≤ total
-empty_spent budget total lines e = subst (λ ls. total + budget * out_of_budget ls ≤ total) (sym e) (none budget total)
-  where
-    none : (b t : ℕ) → t + b * 0 ≤ t
-    none b t = omega arith
 
 pub if_report : {E : Type 0} (P : Report → Type 0) (expected : Report) (result : Result Report E) → ((r : Report) → r ≡ expected → P r) → IfOk result (λ r. r ≡ expected) → IfOk result P
 if_report P expected (Ok r) h e = h r e
