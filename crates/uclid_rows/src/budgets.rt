@@ -44,7 +44,7 @@ fn design_of(rt: &impl Abort, alloc: Global, text: &[u8]) -> Result<Ordered, All
 fn check_budget(rt: &impl Abort, alloc: Global, d: &Ordered, row: &Row) -> Result<(), AllocError> {
     let (budget, status, written) = row;
     let mut meter = CountMeter::new();
-    let report = run_control(alloc, d, *budget, &mut meter)?;
+    let report = run_control(alloc, d, (*budget).max(1), &mut meter)?;
     let view = DesignView {
         names: d.design().names(),
         files: d.design().files().as_slice(),

@@ -26,7 +26,7 @@ fn put_chain(text: &mut Vec<u8>, count: usize, with_last: bool) -> Result<(), Al
     }
     if with_last {
         text.extend_from_slice(b" || ")?;
-        put_name(text, count - 1)?;
+        put_name(text, count.saturating_sub(1))?;
     }
     text.extend_from_slice(b";\n")
 }
@@ -41,7 +41,7 @@ fn ring_of(alloc: Global, count: usize) -> Result<Vec<u8>, AllocError> {
     }
     text.extend_from_slice(b" : boolean;\n  next {\n")?;
     for number in 0..count {
-        let before = (number + count - 1) % count;
+        let before = if number == 0 { count - 1 } else { number - 1 };
         put_name(&mut text, number)?;
         text.extend_from_slice(b"' = ")?;
         put_name(&mut text, before)?;
