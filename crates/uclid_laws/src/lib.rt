@@ -30,13 +30,11 @@ pub fn enough_budget()
 {}
 
 /// Where all lines of an induction passed, everything holds in all runs.
-#[tactic(auto, using(crate::proofs::Passed::passed_induction))]
 pub fn passed_induction()
     ensures { PassedInduction }
 {}
 
 /// Where all lines of an unrolling passed, everything holds in all runs of at most so many steps.
-#[tactic(auto, using(crate::proofs::Passed::passed_unroll))]
 pub fn passed_unroll()
     ensures { PassedUnroll }
 {}
