@@ -1,0 +1,3 @@
+pub mod Forms
+mod Turns
+mod PlaceNumbers
