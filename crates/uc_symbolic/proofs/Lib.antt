@@ -1,3 +1,4 @@
 pub mod Plain
 pub mod Forms
 pub mod Steps
+pub mod Open

@@ -1,18 +1,22 @@
-use Rattle.std.proofs.Common.{refl, rules, ◌≡◌, [], arith}
-use Rattle.std.proofs.lemmas.Bool.Decides.{nat_tests}
-use Rattle.std.proofs.lemmas.List.{nil_from_length}
-use Rattle.uc_symbolic.proofs.Plain.{made_says, suits_or, none_says}
+use Rattle.std.proofs.Common.{sym, subst}
+use Rattle.std.specs.Prelude.{MatchOption}
+use Rattle.uc_lower.proofs.Growing.{grows_not}
+use Rattle.uc_symbolic.specs.Open.{IsTrueThere, AreOpen}
+use Rattle.uc_symbolic.proofs.Open.{open_says, true_says}
 use Rattle.uc_symbolic.proofs.build.any_of.Goals as goal
 
-pub returns-then-is_empty-clause-says : goal.returns-then-is_empty-clause-says
-returns-then-is_empty-clause-says c = λ n plain.
-    let none : c.args.parts.now ≡ [] = nil_from_length c.args.parts.now (grind (arith, nat_tests, c.is_empty.ensures, c.if-is_empty.true)) in
-    none_says n _ _ _ _ none (c.in_ok-t.ensures.says n)
+pub returns-in_err-open-clause-grown : goal.returns-in_err-open-clause-grown
+returns-in_err-open-clause-grown c = grows_not c.args.terms.now c.nodes-well_typed.ensures.well
 
-pub made-requires-clause-suits : goal.made-requires-clause-suits
-made-requires-clause-suits c =
-    let some : (c.args.parts.now ≡ [] → ⊥) = search rules in
-    suits_or _ _ some c.requires
+pub returns-in_ok-t-in-Some-clause-says : goal.returns-in_ok-t-in-Some-clause-says
+returns-in_ok-t-in-Some-clause-says c = λ n plain.
+    let nodes = c.args.terms.now in
+    let found = subst (λ o. MatchOption o (IsTrueThere nodes c.args.parts.now) (AreOpen nodes c.args.parts.now)) c.in-Some.is c.in_ok-open.ensures in
+    let open_ = subst (AreOpen nodes c.args.parts.now) (sym c.as_slice.ensures) found in
+    open_says n nodes c.any_open.new.terms c.args.parts.now c.as_slice.result.now c.in_ok-t-in-Some.t open_ (c.in_ok-t-in-Some.ensures.says n (open_.plain n plain))
 
-pub returns-clause-says : goal.returns-clause-says
-returns-clause-says c = λ n plain. made_says n _ _ _ _ _ _ c.in_ok-t-2.ensures.well c.in_ok-t-2.ensures.made tt refl plain (λ m. refl)
+pub returns-in_ok-t-in-None-clause-says : goal.returns-in_ok-t-in-None-clause-says
+returns-in_ok-t-in-None-clause-says c = λ n plain.
+    let nodes = c.args.terms.now in
+    let found = subst (λ o. MatchOption o (IsTrueThere nodes c.args.parts.now) (AreOpen nodes c.args.parts.now)) c.in-None.is c.in_ok-open.ensures in
+    true_says n nodes c.literal.new.terms c.args.parts.now c.in_ok-t-in-None.t found (c.in_ok-t-in-None.ensures.says n)
