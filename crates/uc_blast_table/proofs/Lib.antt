@@ -1,2 +1,4 @@
 pub mod Lowness
 mod Pairs
+pub mod Suiting
+mod Symbols

@@ -1,9 +1,14 @@
--- Terms all of whose subterms are booleans and bit-vectors.
+-- Booleans and bit-vectors, and terms all of whose subterms are of these.
 use Rattle.std.specs.Prelude.{◌≡◌, ℕ, ◌<◌, true, List, length}
 use Rattle.uc_ops.specs.declared.node.Node.{Node}
-use Rattle.uc_ops.specs.Typing.{type_at}
+use Rattle.uc_values.specs.declared.ty.Ty.{Ty}
+use Rattle.uc_ops.specs.Typing.{Valid, type_at}
 use Rattle.uc_terms.specs.Subterms.{IsSubterm}
 use Rattle.uc_blast.specs.Words.{is_bits}
+
+-- a valid type of booleans or bit-vectors
+abbrev pub IsFine : Ty → Type 0
+IsFine ty = Valid ty × (is_bits ty ≡ true)
 
 pub record IsLow (nodes : List Node) (t : ℕ) : Type 0 where
   pub there : t < length nodes

@@ -1,15 +1,14 @@
 //! Terms of booleans and bit-vectors.
 
-ghost use Rattle.std.specs.Prelude.{◌≡◌, ◌<◌, ◌≤◌, [], true, length, All, IfOk, OnOk};
-ghost use Rattle.uc_values.specs.declared.ty.Ty.TheVariants.{Bv};
-ghost use Rattle.uc_ops.specs.Typing.{Suits, Valid, type_of, type_at, types_at};
+ghost use Rattle.std.specs.Prelude.{◌≡◌, ◌≤◌, true, length, All, IfOk, OnOk};
+ghost use Rattle.uc_ops.specs.Typing.{Suits, type_of, type_at, types_at};
 ghost use Rattle.uc_terms.specs.Built.{Keeps};
 ghost use Rattle.uc_blast.specs.Words.{is_bits};
-ghost use Rattle.uc_blast_table.specs.Low.{IsLow, KeepsLow};
+ghost use Rattle.uc_blast_table.specs.Low.{IsFine, IsLow, KeepsLow};
 
 use std::alloc::{AllocError, Global};
 use uc_terms::{Op, TermId, Terms};
-use uc_values::Ty;
+use uc_values::{Ty, copy_ty};
 
 /// The number of an operation on parts, with its type.
 pub(crate) fn made(
@@ -36,14 +35,33 @@ pub(crate) fn symbol(
     terms: &mut Terms,
     alloc: Global,
     number: u32,
-    width: u8,
+    ty: Ty,
 ) -> Result<TermId, AllocError>
-    requires low { 1 ≤ width }
-    requires high { width ≤ 64 }
+    requires { IsFine ty }
     ensures low { IfOk result (λ t. IsLow terms.new t) }
-    ensures ty { IfOk result (λ t. type_at terms.new t ≡ Bv width) }
+    ensures ty { IfOk result (λ t. type_at terms.new t ≡ ty) }
     ensures keeps { OnOk result (Keeps terms.old terms.new) }
     ensures kept { OnOk result (KeepsLow terms.old terms.new) }
 {
-    made(terms, alloc, Op::Symbol(number, Ty::Bv(width)), &[])
+    made(terms, alloc, Op::Symbol(number, ty), &[])
+}
+
+/// A symbol of each type, numbered from 0.
+pub(crate) fn symbols(
+    terms: &mut Terms,
+    alloc: Global,
+    types: &[Ty],
+) -> Result<Vec<TermId>, AllocError>
+    requires fine { All IsFine types.now }
+    requires few { length types.now ≤ 3 }
+    ensures low { IfOk result (λ ts. All (IsLow terms.new) ts.items) }
+    ensures types { IfOk result (λ ts. types_at terms.new ts.items ≡ types.now) }
+{
+    let mut symbols = Vec::new(alloc);
+    for place in 0..types.len() {
+        let ty = copy_ty(alloc, &types[place])?;
+        let added = symbol(terms, alloc, place as u32, ty)?;
+        symbols.push(added)?;
+    }
+    Ok(symbols)
 }

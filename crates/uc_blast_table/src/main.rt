@@ -2,27 +2,17 @@
 //! an operation and a width.
 #![tactic(auto)]
 
+mod agreeing;
 mod building;
 mod comparing;
 mod operations;
+mod table;
 
-use crate::comparing::agrees_everywhere;
-use crate::operations::{PAIRS, name};
+use crate::table::whole_table;
 use std::test::Fail;
 
-/// The greatest width.
-const MOST: u8 = 4;
-
 fn main(rt: HostRuntime) -> Result<(), Fail> {
-    for pair in PAIRS {
-        for width in 1..MOST + 1 {
-            let word = if agrees_everywhere(rt.alloc(), pair, width)? {
-                "agrees"
-            } else {
-                "differs"
-            };
-            println!(rt; "{} of {width} bits {word}", name(pair))?;
-        }
-    }
+    let table = whole_table(rt.alloc())?;
+    print!(rt; "{}", table.text)?;
     Ok(())
 }

@@ -1,12 +1,13 @@
-//! The operations on two bit-vectors of one width.
+//! The operations on booleans and bit-vectors, by the types of their parts.
 
 ghost use Rattle.std.specs.Prelude.{◌≡◌, ◌≤◌, ◌+◌, ℕ, true, [], ◌∷◌};
-ghost use Rattle.uc_values.specs.declared.ty.Ty.TheVariants.{Bv};
+ghost use Rattle.uc_values.specs.declared.ty.Ty.TheVariants.{Bool as boolean, Bv};
 ghost use Rattle.uc_ops.specs.Typing.{Suits, type_of};
 ghost use Rattle.uc_blast.specs.Words.{is_bits};
 
 use uc_terms::Op;
 
+/// On two bit-vectors of one width.
 #[derive(Clone, Copy)]
 pub(crate) enum Pair {
     Add,
@@ -18,7 +19,6 @@ pub(crate) enum Pair {
     Shl,
     Lshr,
     Ashr,
-    Concat,
     Eq,
     Slt,
     Sle,
@@ -26,7 +26,28 @@ pub(crate) enum Pair {
     Ule,
 }
 
-pub(crate) const PAIRS: [Pair; 15] = [
+/// On a bit-vector, giving one of its width.
+#[derive(Clone, Copy)]
+pub(crate) enum Single {
+    Neg,
+    Not,
+}
+
+/// That adds bits to a bit-vector.
+#[derive(Clone, Copy)]
+pub(crate) enum Extension {
+    Zero,
+    Sign,
+}
+
+/// On one, two or three booleans.
+#[derive(Clone, Copy)]
+pub(crate) enum Junction {
+    And,
+    Or,
+}
+
+pub(crate) const PAIRS: [Pair; 14] = [
     Pair::Add,
     Pair::Sub,
     Pair::Mul,
@@ -36,7 +57,6 @@ pub(crate) const PAIRS: [Pair; 15] = [
     Pair::Shl,
     Pair::Lshr,
     Pair::Ashr,
-    Pair::Concat,
     Pair::Eq,
     Pair::Slt,
     Pair::Sle,
@@ -44,7 +64,7 @@ pub(crate) const PAIRS: [Pair; 15] = [
     Pair::Ule,
 ];
 
-pub(crate) fn name(pair: Pair) -> &'static str {
+pub(crate) fn pair_name(pair: Pair) -> &'static str {
     match pair {
         Pair::Add => "BvAdd",
         Pair::Sub => "BvSub",
@@ -55,7 +75,6 @@ pub(crate) fn name(pair: Pair) -> &'static str {
         Pair::Shl => "Shl",
         Pair::Lshr => "Lshr",
         Pair::Ashr => "Ashr",
-        Pair::Concat => "Concat",
         Pair::Eq => "Eq",
         Pair::Slt => "Slt",
         Pair::Sle => "Sle",
@@ -64,8 +83,29 @@ pub(crate) fn name(pair: Pair) -> &'static str {
     }
 }
 
-pub(crate) fn operation(pair: Pair) -> Op
-    ensures suits { (width : ℕ) → width + width ≤ 64 → Suits result (Bv width ∷ Bv width ∷ []) }
+pub(crate) fn single_name(single: Single) -> &'static str {
+    match single {
+        Single::Neg => "BvNeg",
+        Single::Not => "BvNot",
+    }
+}
+
+pub(crate) fn extension_name(extension: Extension) -> &'static str {
+    match extension {
+        Extension::Zero => "ZeroExt",
+        Extension::Sign => "SignExt",
+    }
+}
+
+pub(crate) fn junction_name(junction: Junction) -> &'static str {
+    match junction {
+        Junction::And => "And",
+        Junction::Or => "Or",
+    }
+}
+
+pub(crate) fn pair_op(pair: Pair) -> Op
+    ensures suits { (width : ℕ) → Suits result (Bv width ∷ Bv width ∷ []) }
     ensures bits { (width : ℕ) → is_bits (type_of result (Bv width ∷ Bv width ∷ [])) ≡ true }
 {
     match pair {
@@ -78,11 +118,45 @@ pub(crate) fn operation(pair: Pair) -> Op
         Pair::Shl => Op::Shl,
         Pair::Lshr => Op::Lshr,
         Pair::Ashr => Op::Ashr,
-        Pair::Concat => Op::Concat,
         Pair::Eq => Op::Eq,
         Pair::Slt => Op::Slt,
         Pair::Sle => Op::Sle,
         Pair::Ult => Op::Ult,
         Pair::Ule => Op::Ule,
+    }
+}
+
+pub(crate) fn single_op(single: Single) -> Op
+    ensures suits { (width : ℕ) → Suits result (Bv width ∷ []) }
+    ensures bits { (width : ℕ) → is_bits (type_of result (Bv width ∷ [])) ≡ true }
+{
+    match single {
+        Single::Neg => Op::BvNeg,
+        Single::Not => Op::BvNot,
+    }
+}
+
+/// The operation that adds so many bits.
+pub(crate) fn extension_op(extension: Extension, more: u8) -> Op
+    ensures suits { (width : ℕ) → width + more ≤ 64 → Suits result (Bv width ∷ []) }
+    ensures bits { (width : ℕ) → is_bits (type_of result (Bv width ∷ [])) ≡ true }
+{
+    match extension {
+        Extension::Zero => Op::ZeroExt(more),
+        Extension::Sign => Op::SignExt(more),
+    }
+}
+
+pub(crate) fn junction_op(junction: Junction) -> Op
+    ensures one { Suits result (boolean ∷ []) }
+    ensures two { Suits result (boolean ∷ boolean ∷ []) }
+    ensures three { Suits result (boolean ∷ boolean ∷ boolean ∷ []) }
+    ensures one_bits { is_bits (type_of result (boolean ∷ [])) ≡ true }
+    ensures two_bits { is_bits (type_of result (boolean ∷ boolean ∷ [])) ≡ true }
+    ensures three_bits { is_bits (type_of result (boolean ∷ boolean ∷ boolean ∷ [])) ≡ true }
+{
+    match junction {
+        Junction::And => Op::And,
+        Junction::Or => Op::Or,
     }
 }
