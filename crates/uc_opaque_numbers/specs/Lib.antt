@@ -1,0 +1,2 @@
+pub mod Opaques
+pub mod Numbers

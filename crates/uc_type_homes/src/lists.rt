@@ -1,0 +1,42 @@
+//! The tables of all modules of a design.
+
+ghost use Rattle.std.specs.Prelude.{IfOk};
+ghost use Rattle.uc_type_homes.specs.Homes.{AllOf, HoldsNames, HoldsOwn};
+
+use std::alloc::{AllocError, Global};
+use uc_items::Items;
+use uc_module_names::{DesignNames, table_of};
+use uc_name_table::{DeclaredType, Firsts, NameTable};
+use uc_own_types::own_types;
+
+/// The names of the first so many modules of a design.
+pub(crate) fn all_names<'a>(
+    alloc: Global,
+    design: &DesignNames<'a>,
+    count: usize,
+) -> Result<Items<NameTable<'a>>, AllocError>
+    ensures { IfOk result (λ ts. AllOf (HoldsNames design.now) ts count) }
+{
+    let mut tables = Items::new(alloc);
+    for home in 0..count {
+        let table = table_of(alloc, design, home)?;
+        tables.push(table)?;
+    }
+    Ok(tables)
+}
+
+/// The types that the first so many modules of a design declare themselves.
+pub(crate) fn all_own(
+    alloc: Global,
+    design: &DesignNames<'_>,
+    count: usize,
+) -> Result<Items<Firsts<DeclaredType>>, AllocError>
+    ensures { IfOk result (λ ts. AllOf (HoldsOwn design.now) ts count) }
+{
+    let mut tables = Items::new(alloc);
+    for home in 0..count {
+        let table = own_types(alloc, design, home)?;
+        tables.push(table)?;
+    }
+    Ok(tables)
+}
