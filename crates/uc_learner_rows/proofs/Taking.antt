@@ -1,6 +1,6 @@
 -- Entries that a learner takes over.
 use Rattle.std.specs.Prelude.{◌≡◌, ◌≢◌, ℕ, ◌+◌, ◌<◌, ◌≤◌, List, [], ◌∷◌, ◌++◌, Option, None, Some, length, take, get_or, slice_get, Contains}
-use Rattle.std.proofs.Common.{sym, ap, ◌∙◌, subst, arith, refl, inl, inr}
+use Rattle.std.proofs.Common.{sym, ap, ◌∙◌, subst, arith, inl, inr}
 use Rattle.std.proofs.lemmas.List.{length-map, length-take-le, take_all}
 use Rattle.std.proofs.lemmas.List.Elements.{Contains-push_cases}
 use Rattle.std.proofs.lemmas.Option.{get_or_from_slice_get}
@@ -15,7 +15,7 @@ use Rattle.uc_log.specs.declared.atom.Atom.{Atom}
 use Rattle.uc_circuit.specs.declared.gate.Gate.{Gate}
 use Rattle.uc_circuit.specs.Gates.{OperandsBelow}
 use Rattle.uc_learner.specs.Opened.{known_now}
-use Rattle.uc_learner.specs.Learners.{Learning, HasTaken, HasTakenFor, IsOver, flag_of, input_flags}
+use Rattle.uc_learner.specs.Learners.{Learning, HasTaken, HasTakenFor, IsOver, flag_of}
 
 over_met : (nodes : List Node) (k : Known) (e : Entry) → Meets nodes k e → IsOver (length k.circuit) e
 over_met nodes k (GateEntry g) meets = meets
@@ -31,7 +31,7 @@ over_at nodes (Some q) log n l valid taken there e is =
     let k : Known = known_after (known_of q) (take n log) in
     let read : get_or log n e ≡ e = get_or_from_slice_get log n e e is in
     let meets : Meets nodes k e = subst (Meets nodes k) read (meets_at nodes (known_of q) log n e there valid.all_meet) in
-    let long : length k.circuit ≡ length l.inputs = sym (ap length taken.inputs ∙ length-map flag_of k.circuit) in
+    let long : length k.circuit ≡ length l.inputs = sym (ap length taken.inputs ∙ length-map k.circuit flag_of) in
     subst (λ (m : ℕ). IsOver m e) long (over_met nodes k e meets)
 
 -- one entry more is taken over
@@ -63,7 +63,7 @@ differ g a is = grind (arith, is)
 pub nothing_in : (log : List Entry) (e : Entry) → log ≡ [] → Contains log e → ⊥
 nothing_in log e empty there =
     let c : Contains [] e = subst (λ (es : List Entry). Contains es e) empty there in
-    absurd (omega (arith, c.1.0))
+    absurd (omega (arith, c.1))
 
 -- an atom is not among the entries of a log that has a gate alone
 pub atom_new : (before log : List Entry) (g : Gate) (a : Atom) → before ≡ [] → log ≡ before ++ GateEntry g ∷ [] → Contains log (AtomEntry a) → ⊥

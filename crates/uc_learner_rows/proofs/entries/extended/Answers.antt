@@ -9,13 +9,13 @@ enter-requires-clause-recorded g c =
 
 pub enter-requires-clause-meets : goal.enter-requires-clause-meets
 enter-requires-clause-meets g c =
-    gate_meets _ (g.M.Meter.opened c.open.new.self) c.args.p c.in_ok-log.log c.in_ok-gate.gate c.open.ensures.opened c.in_ok-log.ensures c.in_ok-gate.ensures
+    gate_meets c.new_atom.new.terms (g.M.Meter.opened c.open.new.self) c.args.p c.in_ok-log.log c.in_ok-gate.gate c.open.ensures.opened c.in_ok-log.ensures c.in_ok-gate.ensures
 
 pub enter-requires-clause-new : goal.enter-requires-clause-new
 enter-requires-clause-new g c = nothing_in c.in_ok-log.log _ c.in_ok-log.ensures
 
-pub enter-2-requires-clause-new : goal.enter-2-requires-clause-new
-enter-2-requires-clause-new g c = atom_new c.in_ok-log.log c.enter.new.log c.in_ok-gate.gate c.in_ok-atom.atom c.in_ok-log.ensures c.in_ok-enter.ensures.ok
+pub enter-requires-2-clause-new : goal.enter-requires-2-clause-new
+enter-requires-2-clause-new g c = atom_new c.in_ok-log.log c.enter.new.log c.in_ok-gate.gate c.in_ok-atom.atom c.in_ok-log.ensures c.in_ok-enter.ensures.ok
 
 pub take_over-requires-clause-none : goal.take_over-requires-clause-none
 take_over-requires-clause-none g c =
