@@ -1,7 +1,7 @@
 use Rattle.std.proofs.Common.{arith, length, false, ◌≡◌, ◌<◌}
 use Rattle.std.proofs.lemmas.Grind.{common_steps}
 use Rattle.uc_learner.proofs.Starting.{count_more, count_all}
-use Rattle.uc_learner_rows.proofs.searches.problem_of.Goals as goal
+use Rattle.uc_learner_rows.proofs.instances.problem_of.Goals as goal
 
 pub loop-number-preserved : goal.loop-number-preserved
 loop-number-preserved c =

@@ -1,16 +1,13 @@
-//! Pigeons, products and a contradiction, with each refutation given to the checker.
+//! Pigeons, products, random clauses and a contradiction, as circuits written by hand.
 
-ghost use Rattle.std.specs.Prelude.{◌≡◌, ◌<◌, ◌+◌, ◌^◌, length, IfOk, OnOk};
+ghost use Rattle.std.specs.Prelude.{◌≡◌, ◌<◌, ◌+◌, length, IfOk, OnOk};
 ghost use Rattle.uc_learner.specs.Answered.{one_if};
 ghost use Rattle.uc_learner.specs.Learners.{input_flags};
 
 use std::alloc::{AllocError, Global};
-use std::test::Fail;
 use uc_circuit::{Circuit, Gate, Lit};
 use uc_items::Items;
-use uc_learner::{LearnError, Learner, Search};
-use uc_log::{Atom, CountMeter, Log, Meter, Problem, Scratch, check};
-use uc_terms::Terms;
+use uc_log::{Atom, Problem};
 
 /// The problem that the literal is to be true.
 fn problem_of(alloc: Global, circuit: Circuit, goal: Lit) -> Result<Problem, AllocError> {
@@ -83,7 +80,7 @@ fn inputs(alloc: Global, circuit: &mut Circuit, count: u32) -> Result<Vec<Lit>, 
 }
 
 /// Each pigeon has a hole, and no two have one.
-fn pigeons(alloc: Global, count: u32, holes: u32) -> Result<Problem, AllocError> {
+pub(crate) fn pigeons(alloc: Global, count: u32, holes: u32) -> Result<Problem, AllocError> {
     let mut circuit = Circuit::new(alloc)?;
     let mut rules = Vec::new(alloc);
     let mut rows: Vec<Vec<Lit>> = Vec::new(alloc);
@@ -143,13 +140,18 @@ fn product(
     Ok(total)
 }
 
+/// A literal that is never true.
+fn never(circuit: &mut Circuit, literals: &[Lit]) -> Result<Lit, AllocError> {
+    let first = *literals.first().ok_or(AllocError)?;
+    gate(circuit, Gate::And(first, first.negate()))
+}
+
 /// The products of two numbers in both orders differ.
-fn commutativity(alloc: Global, bits: u32) -> Result<Problem, AllocError> {
+pub(crate) fn commutativity(alloc: Global, bits: u32) -> Result<Problem, AllocError> {
     let mut circuit = Circuit::new(alloc)?;
-    let first = circuit.add_input()?;
-    let zero = gate(&mut circuit, Gate::And(first, first.negate()))?;
     let left = inputs(alloc, &mut circuit, bits)?;
     let right = inputs(alloc, &mut circuit, bits)?;
+    let zero = never(&mut circuit, left.as_slice())?;
     let here = product(alloc, &mut circuit, zero, left.as_slice(), right.as_slice())?;
     let there = product(alloc, &mut circuit, zero, right.as_slice(), left.as_slice())?;
     let mut differ = Vec::new(alloc);
@@ -160,76 +162,90 @@ fn commutativity(alloc: Global, bits: u32) -> Result<Problem, AllocError> {
     problem_of(alloc, circuit, goal)
 }
 
+/// A number of twice as many bits is a product of two numbers above 1.
+pub(crate) fn factors(alloc: Global, bits: u32, number: u64) -> Result<Problem, AllocError> {
+    let mut circuit = Circuit::new(alloc)?;
+    let mut left = inputs(alloc, &mut circuit, bits)?;
+    let right = inputs(alloc, &mut circuit, bits)?;
+    let zero = never(&mut circuit, left.as_slice())?;
+    let mut rules = Vec::new(alloc);
+    for factor in [left.as_slice(), right.as_slice()] {
+        let above = factor.get(1..).ok_or(AllocError)?;
+        rules.push(one_of(alloc, &mut circuit, above)?)?;
+    }
+    for _bit in 0..bits {
+        left.push(zero)?;
+    }
+    let product = product(alloc, &mut circuit, zero, left.as_slice(), right.as_slice())?;
+    let mut rest = number;
+    for bit in &product {
+        rules.push(if rest % 2 == 1 { *bit } else { bit.negate() })?;
+        rest /= 2;
+    }
+    let goal = all_of(&mut circuit, rules.as_slice())?;
+    problem_of(alloc, circuit, goal)
+}
+
 /// Gate 1, which is input 0 and its negation, is to be true.
-fn contradiction(alloc: Global) -> Result<Problem, AllocError> {
+pub(crate) fn contradiction(alloc: Global) -> Result<Problem, AllocError> {
     let mut circuit = Circuit::new(alloc)?;
     let input = circuit.add_input()?;
     let goal = gate(&mut circuit, Gate::And(input, input.negate()))?;
     problem_of(alloc, circuit, goal)
 }
 
-/// How a search ended.
-#[derive(Clone, Copy, Debug, PartialEq, Eq)]
-enum Outcome {
-    /// With a candidate under which the goal has this value.
-    Candidate(bool),
-    /// With a log of which the checker says this.
-    Refuted(bool),
-    OutOfBudget,
-    OutOfMemory,
+/// Numbers that look random, the same in each run.
+#[derive(Drop)]
+pub(crate) struct Random {
+    pub(crate) state: u64,
 }
 
-fn ended<M: Meter>(
-    alloc: Global,
-    p: Problem,
-    budget: u64,
-    meter: &mut M,
-) -> Result<Outcome, AllocError>
-    requires { M.total meter.old < 2 ^ 126 }
-{
-    let terms = Terms::new(alloc)?;
-    let goal = p.goal();
-    let mut learner = Learner::new(alloc, &p)?;
-    let mut log = Log::new(alloc)?;
-    meter.open(p);
-    match learner.next(&terms, &mut log, budget, meter) {
-        Ok(Search::Candidate) => Ok(Outcome::Candidate(learner.value(goal))),
-        Ok(Search::Refuted) => Ok(Outcome::Refuted(is_accepted(alloc, &terms, &log, meter)?)),
-        Err(LearnError::Budget) => Ok(Outcome::OutOfBudget),
-        Err(LearnError::NoMemory) => Ok(Outcome::OutOfMemory),
+impl Random {
+    /// A number below the bound, which is not 0.
+    fn below(&mut self, bound: u64) -> u64 {
+        self.state = self
+            .state
+            .wrapping_mul(6_364_136_223_846_793_005)
+            .wrapping_add(1_442_695_040_888_963_407);
+        (self.state >> 33).checked_rem(bound).unwrap_or(0)
     }
 }
 
-/// Whether the checker accepts the log for the opened problem.
-fn is_accepted<M: Meter>(
+/// So many clauses of three literals of different variables are all true.
+pub(crate) fn random_clauses(
     alloc: Global,
-    terms: &Terms,
-    log: &Log,
-    meter: &M,
-) -> Result<bool, AllocError> {
-    match meter.problem() {
-        None => Err(AllocError),
-        Some(p) => {
-            let mut scratch = Scratch::new(alloc, p, log)?;
-            Ok(check(terms, p, log, &mut scratch))
+    random: &mut Random,
+    variables: u32,
+    clauses: u32,
+) -> Result<Problem, AllocError> {
+    let mut circuit = Circuit::new(alloc)?;
+    let variables = inputs(alloc, &mut circuit, variables)?;
+    let mut rules = Vec::new(alloc);
+    for _clause in 0..clauses {
+        let clause = random_clause(alloc, random, variables.as_slice())?;
+        rules.push(one_of(alloc, &mut circuit, clause.as_slice())?)?;
+    }
+    let goal = all_of(&mut circuit, rules.as_slice())?;
+    problem_of(alloc, circuit, goal)
+}
+
+fn random_clause(
+    alloc: Global,
+    random: &mut Random,
+    variables: &[Lit],
+) -> Result<Vec<Lit>, AllocError> {
+    let mut clause: Vec<Lit> = Vec::new(alloc);
+    for _try in 0..100 {
+        let place = random.below(variables.len() as u64);
+        let literal = *variables.get(place as usize).ok_or(AllocError)?;
+        if clause.len() < 3 && clause.iter().all(|other| other.var != literal.var) {
+            let is_negated = random.below(2) == 1;
+            clause.push(if is_negated {
+                literal.negate()
+            } else {
+                literal
+            })?;
         }
     }
-}
-
-fn ended_alone(alloc: Global, p: Problem, budget: u64) -> Result<Outcome, AllocError> {
-    let mut meter = CountMeter::new();
-    ended(alloc, p, budget, &mut meter)
-}
-
-#[test]
-fn a_search_ends_with_an_accepted_log_or_a_candidate(rt: HostRuntime) -> Result<(), Fail> {
-    let alloc = rt.alloc();
-    let refuted = Outcome::Refuted(true);
-    assert!(rt; ended_alone(alloc, contradiction(alloc)?, 1)? == refuted);
-    assert!(rt; ended_alone(alloc, contradiction(alloc)?, 0)? == Outcome::OutOfBudget);
-    assert!(rt; ended_alone(alloc, pigeons(alloc, 5, 4)?, 1 << 20)? == refuted);
-    assert!(rt; ended_alone(alloc, pigeons(alloc, 6, 5)?, 1 << 30)? == refuted);
-    assert!(rt; ended_alone(alloc, commutativity(alloc, 3)?, 128)? == refuted);
-    assert!(rt; ended_alone(alloc, pigeons(alloc, 4, 4)?, 1 << 16)? == Outcome::Candidate(true));
-    Ok(())
+    Ok(clause)
 }

@@ -1,0 +1,18 @@
+//! Worked rows of clause learning: how searches of small problems end, each refutation given to the checker, beside what a
+//! plain search says that scans all clauses.
+#![tactic(auto)]
+
+mod entries;
+mod instances;
+mod report;
+mod scanning;
+mod searching;
+
+use crate::report::whole_report;
+use std::test::Fail;
+
+fn main(rt: HostRuntime) -> Result<(), Fail> {
+    let report = whole_report(rt.alloc())?;
+    print!(rt; "{}", report.text)?;
+    Ok(())
+}
