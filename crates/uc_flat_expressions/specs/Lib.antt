@@ -1,0 +1,5 @@
+pub mod Answers
+pub mod Types
+pub mod Names
+pub mod Building
+pub mod Expressions
