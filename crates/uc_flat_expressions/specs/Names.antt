@@ -1,5 +1,6 @@
 -- What names stand for over numbered cells.
 use Rattle.std.specs.Prelude.{ℕ, Bool as Truth, true, false, List, [], Option, Some, None, slice_get}
+use Rattle.std.specs.Option.{option_map}
 use Rattle.uc_values.specs.declared.ty.Ty.{Ty}
 use Rattle.uc_values.specs.declared.ty.Ty.TheVariants.{Enum}
 use Rattle.uc_values.specs.declared.value.Value.TheVariants.{Enum as label}
@@ -13,13 +14,13 @@ use Rattle.uc_flat_expressions.specs.Building.{constant}
 abbrev pub of_cell : ℕ → Ty → TypedExpression
 of_cell k ty = record { expression = CellOf k; ty = ty; number = None }
 
--- a cell is that of the old state, and primed that of the new one
-abbrev pub cell_in : Truth → ℕ → ℕ → Ty → TypedExpression
-cell_in false old new ty = of_cell old ty
-cell_in true old new ty = of_cell new ty
+-- a cell is that of the old state, and primed that of the new one, where this may be read
+abbrev pub cell_in : Truth → ℕ → Option ℕ → Ty → Option TypedExpression
+cell_in false old new ty = Some (of_cell old ty)
+cell_in true old new ty = option_map (λ k. of_cell k ty) new
 
 abbrev pub meant_as : Truth → Option Meant → Option TypedExpression
-meant_as primed (Some (Cell old new ty)) = Some (cell_in primed old new ty)
+meant_as primed (Some (Cell old new ty)) = cell_in primed old new ty
 meant_as primed (Some (Label number labels place)) = Some (constant (Const (Enum number labels) (label number place)) (Enum number labels))
 meant_as primed (Some (Constant number ty)) = Some (constant (Symbol number ty) ty)
 meant_as primed other = None

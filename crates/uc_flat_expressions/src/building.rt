@@ -17,7 +17,7 @@ use uc_values::{Field, Ty, copy_ty};
 
 /// A binary operation that a chain applies from the left.
 #[derive(Clone, Copy, Debug, PartialEq, Eq)]
-pub(crate) enum Chain {
+pub enum Chain {
     Equal,
     Or,
     Xor,

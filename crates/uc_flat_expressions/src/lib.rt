@@ -6,5 +6,7 @@ mod typed;
 mod types;
 mod walking;
 
-pub use typed::{FlatError, Meant, TypedExpression};
+pub use building::Chain;
+pub use typed::{FlatError, Meant, TypedArm, TypedExpression};
+pub use types::{equal_types, is_boolean};
 pub use walking::flat_expression;

@@ -16,7 +16,7 @@ pub struct TypedExpression {
 
 /// An arm of a conditional: its condition and its value.
 #[derive(Drop)]
-pub(crate) struct TypedArm {
+pub struct TypedArm {
     pub condition: TypedExpression,
     pub value: TypedExpression,
 }
@@ -26,8 +26,8 @@ pub(crate) struct TypedArm {
 pub enum Meant {
     /// No value that is built.
     Unknown,
-    /// A cell: its number in the old state and in the new one, and its type.
-    Cell(u32, u32, Ty),
+    /// A cell: its number in the old state, that in the new one where the new state may be read, and its type.
+    Cell(u32, Option<u32>, Ty),
     /// A label: the number of its enum, how many labels that has, and the label's place.
     Label(u32, u32, u32),
     /// A constant: its number and its type.

@@ -6,7 +6,8 @@ ghost use Rattle.uc_flat_expressions.specs.Types.{is_boolean, is_bits, are_same_
 
 use uc_values::{Field, Ty};
 
-pub(crate) fn is_boolean(ty: &Ty) -> bool
+/// Whether a type is that of truth values.
+pub fn is_boolean(ty: &Ty) -> bool
     ensures { result ≡ is_boolean ty.now }
 {
     matches!(ty, Ty::Bool)
@@ -46,8 +47,9 @@ fn equal_fields(fields: &[Field<Ty>], own: &[Field<Ty>]) -> bool
     true
 }
 
+/// Whether two types are one.
 #[cycle(equal_types)]
-pub(crate) fn equal_types(a: &Ty, b: &Ty) -> bool
+pub fn equal_types(a: &Ty, b: &Ty) -> bool
     ensures { result ≡ equal_types a.now b.now }
 {
     match a {

@@ -1,9 +1,9 @@
 //! The walk over an expression.
 
-ghost use Rattle.std.specs.Prelude.{◌≡◌, map};
+ghost use Rattle.std.specs.Prelude.{◌≡◌, map, IfOk};
 ghost use Rattle.std.specs.Option.{option_and_then};
 ghost use Rattle.uc_flat_expressions.specs.Answers.{IsAnswer};
-ghost use Rattle.uc_flat_expressions.specs.Names.{named};
+ghost use Rattle.uc_flat_expressions.specs.Names.{named, of_cell, cell_in};
 ghost use Rattle.uc_flat_expressions.specs.Building.{chain, junction, implication, sum};
 ghost use Rattle.uc_flat_expressions.specs.Expressions.{flat_of, all_of, unary_form, arm_of, joined_arms, truth_literal, number_literal, bits_literal, on_two, plain_primary, select_of, select_all_of};
 
@@ -12,7 +12,7 @@ use crate::building::{
     range_selected, sum, unary_of,
 };
 use crate::typed::{FlatError, Meant, TypedArm, TypedExpression};
-use std::alloc::Global;
+use std::alloc::{AllocError, Global};
 use uc_flat::Expression;
 use uc_items::{Items, at};
 use uc_ops::Op;
@@ -311,7 +311,41 @@ fn bits_literal(alloc: Global, n: u128, width: u32) -> Result<TypedExpression, F
     Ok(constant(alloc, Op::Const(Ty::Bv(width), value), Ty::Bv(width)))
 }
 
-/// What a name stands for; primed, a cell is that of the new state.
+fn of_cell(alloc: Global, cell: u32, ty: &Ty) -> Result<TypedExpression, AllocError>
+    ensures { IfOk result (λ t. t ≡ of_cell cell ty.now) }
+{
+    let ty = copy_ty(alloc, ty)?;
+    Ok(TypedExpression {
+        expression: Expression::Cell(cell),
+        ty,
+        number: None,
+    })
+}
+
+/// A cell of the old state; primed, that of the new state, where this may be read.
+fn cell_in(
+    alloc: Global,
+    primed: bool,
+    old: u32,
+    new: Option<u32>,
+    ty: &Ty,
+) -> Result<TypedExpression, FlatError>
+    ensures { IsAnswer (cell_in primed old new ty.now) result }
+{
+    if !primed {
+        let t = of_cell(alloc, old, ty)?;
+        return Ok(t);
+    }
+    match new {
+        Some(cell) => {
+            let t = of_cell(alloc, cell, ty)?;
+            Ok(t)
+        }
+        None => Err(FlatError::NotBuilt),
+    }
+}
+
+/// What a name stands for; primed, a cell is that of the new state, where this may be read.
 fn named(
     alloc: Global,
     names: &[Meant],
@@ -321,15 +355,7 @@ fn named(
     ensures { IsAnswer (named names.now name primed) result }
 {
     match at(names, name as usize) {
-        Some(Meant::Cell(old, new, ty)) => {
-            let ty = copy_ty(alloc, ty)?;
-            let cell = if primed { *new } else { *old };
-            Ok(TypedExpression {
-                expression: Expression::Cell(cell),
-                ty,
-                number: None,
-            })
-        }
+        Some(Meant::Cell(old, new, ty)) => cell_in(alloc, primed, *old, *new, ty),
         Some(Meant::Label(number, labels, place)) => {
             let value = Value::Enum(*number, *place);
             let op = Op::Const(Ty::Enum(*number, *labels), value);
