@@ -1,0 +1,10 @@
+pub mod Options
+pub mod TypeKinds
+pub mod Saying
+pub mod Words
+pub mod Junctions
+pub mod Chains
+pub mod Operators
+pub mod Selections
+pub mod Literals
+pub mod Telling
