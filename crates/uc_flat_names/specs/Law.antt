@@ -1,0 +1,20 @@
+-- Names of main over cells stand for what they mean.
+use Rattle.std.specs.Prelude.{◌≡◌, ℕ, List}
+use Rattle.uc_syntax.specs.declared.declaration.Module.{Module}
+use Rattle.uc_values.specs.declared.value.Value.{Value}
+use Rattle.uc_meaning.specs.declared.scope.Scope.{Scope}
+use Rattle.uc_meaning.specs.Lookup.{System}
+use Rattle.uc_meaning.specs.Plain.{IsTop}
+use Rattle.uc_meaning.specs.Steps.{state_of}
+use Rattle.uc_ops.specs.declared.model.Model.{Model}
+use Rattle.uc_ops.specs.Typing.{AllValid}
+use Rattle.uc_flat.specs.Executions.{FitAll}
+use Rattle.uc_flat_meaning.specs.Sayings.{AreMeant}
+use Rattle.uc_flat_names.specs.Names.{StandsAlone, names_over_cells, types_of}
+
+-- In a scope of main outside blocks with locals, whose old state has these cells, each name that stands for something says what it means.
+abbrev pub NamesLaw : Type 0
+NamesLaw =
+    (system : System) (code : Module) (s : Scope) (n : ℕ) (m : Model) (values : List Value)
+    → StandsAlone system code → IsTop s → s.before ≡ state_of values → AllValid (types_of system) → FitAll (types_of system) values
+    → AreMeant system s n m (types_of system) values (names_over_cells system code)
