@@ -1,0 +1,3 @@
+pub mod Options
+pub mod Turns
+pub mod Sequential

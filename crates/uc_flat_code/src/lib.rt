@@ -1,0 +1,9 @@
+//! Code of a design as code over numbered cells.
+#![tactic(auto)]
+
+mod code;
+mod simple;
+mod writing;
+
+pub use code::flat_code;
+pub use writing::{FlatArm, Writing, Written};

@@ -1,0 +1,228 @@
+-- The table of names of a design is one for its init code and for its next block.
+use Rattle.std.proofs.Common.{◌≡◌, ℕ, zero, List, [], ◌∷◌, map, length, refl, sym, ap, ◌∙◌, subst, true, false, Bool, Option, Some, None, arith}
+use Rattle.std.specs.Prelude.{◌&&◌, nat_lt, if◌then◌else◌, slice_get, All}
+use Rattle.std.specs.List.{list_all, filter_map}
+use Rattle.std.proofs.lemmas.List.Elements.{All-cons, All-nil}
+use Rattle.uc_syntax.specs.declared.expression.Expr.{Expr}
+use Rattle.uc_syntax.specs.declared.type_expression.TypeExpr.{TypeExpr}
+use Rattle.uc_syntax.specs.declared.declaration.VariableKind.{VariableKind}
+use Rattle.uc_syntax.specs.declared.declaration.VariableKind.TheVariants.{Variable, Input, Output, Constant as constant_kind}
+use Rattle.uc_syntax.specs.declared.declaration.Decl.{Decl}
+use Rattle.uc_syntax.specs.declared.declaration.Decl.TheVariants.{Instance}
+use Rattle.uc_syntax.specs.declared.declaration.Module.{Module}
+use Rattle.uc_values.specs.declared.ty.Field.{Field}
+use Rattle.uc_values.specs.declared.ty.Ty.{Ty}
+use Rattle.uc_values.specs.declared.ty.Ty.TheFolds.{fold-roll-Ty, ind-Ty, map-Ty}
+use Rattle.uc_values.specs.declared.ty.Ty.TheViews.{roll-Ty}
+use Rattle.uc_values.specs.declared.ty.Ty.TheOpen.{Ty-F}
+use Rattle.uc_values.specs.declared.ty.Ty.TheOpen.Ty-F.{Bool as boolean_type, Int as integer_type, Bv as bits_type, Rec as record_type, Arr as array_type, Enum as enum_type, Un as open_type}
+use Rattle.uc_values.specs.declared.ty.Ty.TheVariants.{Rec as Record, Arr as Array, rolls-Rec, rolls-Arr}
+use Rattle.uc_values.specs.declared.value.Value.{Value}
+use Rattle.uc_values.specs.Values.{fits, zero_of}
+use Rattle.uc_values.proofs.Shapes.{and_true, all_mapped}
+use Rattle.uc_values.proofs.Fitting.{zero-fits}
+use Rattle.uc_meaning.specs.declared.scope.Interp.{Interp}
+use Rattle.uc_meaning.specs.declared.scope.Scope.{Scope}
+use Rattle.uc_meaning.specs.Lookup.{System, instance_in, variable_of}
+use Rattle.uc_meaning.specs.Types.{label_of, type_of_written}
+use Rattle.uc_meaning.specs.Cells.{cell_of, FitAll as FitTypes}
+use Rattle.uc_meaning.specs.Expressions.{Reading, reads, reading, name, label_count}
+use Rattle.uc_meaning.specs.Plain.{IsTop}
+use Rattle.uc_meaning.specs.Steps.{state_of}
+use Rattle.uc_ops.specs.declared.model.Model.{Model}
+use Rattle.uc_ops.specs.Typing.{Valid, AllValid}
+use Rattle.uc_ops.specs.Meaning.{part}
+use Rattle.uc_flat.specs.Executions.{FitAll}
+use Rattle.uc_flat_expressions.specs.declared.typed.TypedExpression.{TypedExpression}
+use Rattle.uc_flat_expressions.specs.declared.typed.Meant.TheVariants.{Unknown, Cell, Label}
+use Rattle.uc_flat_expressions.specs.Expressions.{flat_of}
+use Rattle.uc_flat_meaning.specs.Sayings.{Says}
+use Rattle.uc_flat_meaning.proofs.Telling.{flat_says}
+use Rattle.uc_flat_names.specs.Names.{StandsAlone, of_label, of_cell_number, of_kind, of_variable, by_label, meant_in, counted, names_over_cells, types_of}
+use Rattle.uc_flat_names.proofs.Cells.{HasCells, cell_type}
+use Rattle.uc_flat_names.proofs.Meaning.{counted_at, mapped_at, name_in_cell, names_hold}
+use Rattle.uc_code_meaning.specs.Tables.{IsSaid, IsTable}
+use Rattle.uc_code_meaning.specs.Sequential.{now}
+use Rattle.uc_step_meaning.specs.Next.{between, IsNextTable}
+use Rattle.uc_same_values.specs.Same.{has_no_array, no_array_form}
+use Rattle.uc_same_values.proofs.Same.{no_array-Rec}
+use Rattle.uc_flat_design.specs.Design.{is_finite, is_finite_form, is_cell_type, is_built}
+
+-- ---- fitting values, by the definitions of designs and of cells
+
+pub fit_cells : (types : List Ty) (values : List Value) → FitTypes types values → FitAll types values
+unfolding FitAll FitTypes
+fit_cells [] [] h = tt
+fit_cells [] (v ∷ values) h = absurd h
+fit_cells (t ∷ types) [] h = absurd h
+fit_cells (t ∷ types) (v ∷ values) h = (h.0, fit_cells types values h.1)
+
+pub fit_types : (types : List Ty) (values : List Value) → FitAll types values → FitTypes types values
+unfolding FitAll FitTypes
+fit_types [] [] h = tt
+fit_types [] (v ∷ values) h = absurd h
+fit_types (t ∷ types) [] h = absurd h
+fit_types (t ∷ types) (v ∷ values) h = (h.0, fit_types types values h.1)
+
+-- ---- types of finitely many values
+
+finite-Rec : (fs : List (Field Ty)) → is_finite (Record fs) ≡ list_all (λ (f : Field Ty). is_finite f.ty) fs
+finite-Rec fs = ap is_finite (sym (rolls-Rec fs)) ∙ fold-roll-Ty Bool is_finite_form (record_type fs) ∙ all_mapped is_finite (λ b. b) fs
+
+finite-Arr : (i e : Ty) → is_finite (Array i e) ≡ false
+finite-Arr i e = ap is_finite (sym (rolls-Arr i e)) ∙ fold-roll-Ty Bool is_finite_form (array_type i e)
+
+false_true : false ≡ true → ⊥
+false_true h = cc
+
+abbrev Plain : Ty → Type 0
+Plain ty = is_finite ty ≡ true → has_no_array ty ≡ true
+
+abbrev Proved : Type 0
+Proved = (ty : Ty) × Plain ty
+
+abbrev firsts : Field Proved → Field Ty
+firsts f = record { name = f.name; ty = f.ty.0 }
+
+fields_plain : (ps : List (Field Proved)) → list_all (λ (f : Field Ty). is_finite f.ty) (map firsts ps) ≡ true → list_all (λ (f : Field Ty). has_no_array f.ty) (map firsts ps) ≡ true
+fields_plain [] h = refl
+fields_plain (p ∷ ps) h =
+    let b = and_true h in
+    ap (λ c. c && list_all (λ (f : Field Ty). has_no_array f.ty) (map firsts ps)) (p.ty.1 b.0) ∙ fields_plain ps b.1
+
+plain_cases : (y : Ty-F Proved) → Plain (roll-Ty (map-Ty Proved Ty (λ e. e.0) y))
+plain_cases boolean_type = λ h. fold-roll-Ty Bool no_array_form boolean_type
+plain_cases integer_type = λ h. fold-roll-Ty Bool no_array_form integer_type
+plain_cases (bits_type w) = λ h. fold-roll-Ty Bool no_array_form (bits_type w)
+plain_cases (enum_type n k) = λ h. fold-roll-Ty Bool no_array_form (enum_type n k)
+plain_cases (open_type n) = λ h. fold-roll-Ty Bool no_array_form (open_type n)
+plain_cases (record_type ps) = subst Plain (sym (rolls-Rec (map firsts ps))) (λ h. no_array-Rec (map firsts ps) ∙ fields_plain ps (sym (finite-Rec (map firsts ps)) ∙ h))
+plain_cases (array_type i e) = subst Plain (sym (rolls-Arr i.0 e.0)) (λ h. absurd (false_true (sym (finite-Arr i.0 e.0) ∙ h)))
+
+plain : (ty : Ty) → Plain ty
+plain = ind-Ty Plain (λ x y is. subst (λ z. Plain (roll-Ty z)) is (plain_cases y))
+
+pub all_plain : (types : List Ty) → list_all is_cell_type types ≡ true → All (λ ty. has_no_array ty ≡ true) types
+all_plain [] h = All-nil (λ ty. has_no_array ty ≡ true)
+all_plain (t ∷ types) h = let b = and_true h in All-cons (λ ty. has_no_array ty ≡ true) t types (plain t (and_true b.0).1) (all_plain types b.1)
+
+pub all_valid : (types : List Ty) → list_all is_cell_type types ≡ true → AllValid types
+all_valid [] h = All-nil Valid
+all_valid (t ∷ types) h = let b = and_true h in All-cons Valid t types (and_true b.0).0 (all_valid types b.1)
+
+-- each type has a value
+zeros_fit : (types : List Ty) → list_all is_cell_type types ≡ true → FitAll types (map zero_of types)
+unfolding FitAll
+zeros_fit [] h = tt
+zeros_fit (t ∷ types) h = let b = and_true h in (zero-fits t (and_true b.0).0, zeros_fit types b.1)
+
+-- ---- one module in use
+
+no_instance : (d : Decl) → is_built d ≡ true → instance_in d ≡ None
+no_instance (Instance place i m bindings) h = cc
+no_instance other h = refl
+
+pub no_instances : (decls : List Decl) → list_all is_built decls ≡ true → filter_map instance_in decls ≡ []
+no_instances [] h = refl
+no_instances (d ∷ decls) h = let b = and_true h in rw (no_instance d b.0) (no_instances decls b.1)
+
+-- ---- tables
+
+some_same : {A : Type 0} (x y : A) → Some x ≡ Some y → x ≡ y
+some_same x y h = cc
+
+-- A name that stands for a cell is that of a variable with this cell.
+record IsEntry (system : System) (code : Module) (x k : ℕ) (ty : Ty) : Type 0 where
+  kind : VariableKind
+  type : TypeExpr
+  no_label : label_of system code x ≡ None
+  variable : variable_of code x ≡ Some (kind, type)
+  has_cells : HasCells kind
+  cell : cell_of system [] x ≡ Some k
+  own : type_of_written system code type ≡ ty
+
+no_cell_label : (system : System) (l : ℕ × ℕ) (k : ℕ) (o : Option ℕ) (ty : Ty) → of_label system l ≡ Cell k o ty → ⊥
+no_cell_label system l k o ty h = by_test (nat_lt l.1 (label_count system l.0)) h
+  where
+    by_test : (b : Bool) → (if b then Label l.0 (label_count system l.0) l.1 else Unknown) ≡ Cell k o ty → ⊥
+    by_test true e = cc
+    by_test false e = cc
+
+no_cell_unknown : (k : ℕ) (o : Option ℕ) (ty : Ty) → Unknown ≡ Cell k o ty → ⊥
+no_cell_unknown k o ty h = cc
+
+same_number : (k j : ℕ) (o p : Option ℕ) (t u : Ty) → Cell k o t ≡ Cell j p u → k ≡ j
+same_number k j o p t u h = cc
+
+same_type : (k j : ℕ) (o p : Option ℕ) (t u : Ty) → Cell k o t ≡ Cell j p u → t ≡ u
+same_type k j o p t u h = cc
+
+entry_cell : (system : System) (code : Module) (x k : ℕ) (p : Option ℕ) (ty : Ty) (kind : VariableKind) (type : TypeExpr) → label_of system code x ≡ None → variable_of code x ≡ Some (kind, type) → HasCells kind
+    → (o : Option ℕ) → cell_of system [] x ≡ o → of_cell_number o (type_of_written system code type) ≡ Cell k p ty → IsEntry system code x k ty
+entry_cell system code x k p ty kind type l v h None c e = absurd (no_cell_unknown k p ty e)
+entry_cell system code x k p ty kind type l v h (Some j) c e =
+    record { kind = kind; type = type; no_label = l; variable = v; has_cells = h; cell = c ∙ ap Some (same_number j k None p (type_of_written system code type) ty e); own = same_type j k None p (type_of_written system code type) ty e }
+
+entry_kind : (system : System) (code : Module) (x k : ℕ) (p : Option ℕ) (ty : Ty) (kind : VariableKind) (type : TypeExpr) → label_of system code x ≡ None → variable_of code x ≡ Some (kind, type)
+    → of_kind system code x type kind ≡ Cell k p ty → IsEntry system code x k ty
+entry_kind system code x k p ty Variable type l v e = entry_cell system code x k p ty Variable type l v tt (cell_of system [] x) refl e
+entry_kind system code x k p ty Input type l v e = entry_cell system code x k p ty Input type l v tt (cell_of system [] x) refl e
+entry_kind system code x k p ty Output type l v e = entry_cell system code x k p ty Output type l v tt (cell_of system [] x) refl e
+entry_kind system code x k p ty constant_kind type l v e = absurd (no_cell_unknown k p ty e)
+
+entry_variable : (system : System) (code : Module) (x k : ℕ) (p : Option ℕ) (ty : Ty) → label_of system code x ≡ None → (o : Option (VariableKind × TypeExpr)) → variable_of code x ≡ o
+    → of_variable system code x o ≡ Cell k p ty → IsEntry system code x k ty
+entry_variable system code x k p ty l None v e = absurd (no_cell_unknown k p ty e)
+entry_variable system code x k p ty l (Some d) v e = entry_kind system code x k p ty d.0 d.1 l v e
+
+entry_label : (system : System) (code : Module) (x k : ℕ) (p : Option ℕ) (ty : Ty) → (o : Option (ℕ × ℕ)) → label_of system code x ≡ o → by_label system code x o ≡ Cell k p ty → IsEntry system code x k ty
+entry_label system code x k p ty (Some l) q e = absurd (no_cell_label system l k p ty e)
+entry_label system code x k p ty None q e = entry_variable system code x k p ty q (variable_of code x) refl e
+
+entry : (system : System) (code : Module) (x k : ℕ) (p : Option ℕ) (ty : Ty) → slice_get (names_over_cells system code) x ≡ Some (Cell k p ty) → IsEntry system code x k ty
+entry system code x k p ty h =
+    let y = mapped_at (meant_in system code) (counted 0 (length system.names)) x (Cell k p ty) h in
+    let is : y.0 ≡ x = omega (arith, counted_at 0 (length system.names) x y.0 y.1) in
+    entry_label system code x k p ty (label_of system code x) refl (ap (meant_in system code) (sym is) ∙ y.2)
+
+module _ (system : System) (code : Module) (alone : StandsAlone system code) (m : Model) (cell_types : list_all is_cell_type (types_of system) ≡ true) where
+  valid : AllValid (types_of system)
+  valid = all_valid (types_of system) cell_types
+
+  -- what stands for an expression says it
+  says : (s : Scope) (cells : List Value) (top : IsTop s) → s.before ≡ state_of cells → FitAll (types_of system) cells → (e : Expr) (t : TypedExpression) → flat_of (names_over_cells system code) e ≡ Some t
+      → Says 0 m (types_of system) cells (reading system s e) t
+  says s cells top before fit e t h = flat_says system s 0 m (types_of system) cells (names_over_cells system code) e t (names_hold system code s 0 m cells alone top before valid fit) h
+
+  said : (s : Scope) (cells : List Value) (top : IsTop s) → s.before ≡ state_of cells → FitAll (types_of system) cells → (e : Expr) (t : TypedExpression) → flat_of (names_over_cells system code) e ≡ Some t
+      → IsSaid system m (types_of system) s cells e t
+  said s cells top before fit e t h =
+      let x = says s cells top before fit e t h in
+      record { same = x.value; fit = ap (fits t.ty) (sym x.value) ∙ x.fit }
+
+  -- a table in scopes of main
+  table_in : (scopes : List Value → Scope) → ((cells : List Value) → IsTop (scopes cells)) → ((cells : List Value) → (scopes cells).before ≡ state_of cells) → IsTable system m (types_of system) (names_over_cells system code) scopes
+  table_in scopes tops befores = record {
+    expressions = λ cells fit e t h. said (scopes cells) cells (tops cells) (befores cells) fit e t h;
+    cells = λ x k p ty h.
+        let a = entry system code x k p ty h in
+        record {
+          cell = a.cell;
+          typed = cell_type system code x k a.kind a.type alone a.has_cells a.variable a.cell ∙ ap Some a.own;
+          type = λ cells fit. ap (λ (r : Reading). r.type) (name_in_cell system code alone (scopes cells) (tops cells) (reading system) x k false a.kind a.type a.no_label a.variable a.has_cells a.cell) ∙ a.own;
+        };
+  }
+
+  pub init_table : (i : Interp) → IsTable system m (types_of system) (names_over_cells system code) (now i)
+  init_table i = table_in (now i) (λ cells. record { path = refl; locals = refl }) (λ cells. refl)
+
+  pub next_table : (i : Interp) → IsNextTable system m (types_of system) (names_over_cells system code) i
+  next_table i = record {
+    table = λ new fit. table_in (between i new) (λ cells. record { path = refl; locals = refl }) (λ cells. refl);
+    primes = λ x k p ty h old new fit_old fit_new.
+        let a = entry system code x k p ty h in
+        name_in_cell system code alone (between i new old) (record { path = refl; locals = refl }) (reading system) x k true a.kind a.type a.no_label a.variable a.has_cells a.cell ∙ ap (λ t. reads t (part new k)) a.own;
+    typed = λ e t h.
+        let zeros = map zero_of (types_of system) in
+        (says (now i zeros) zeros (record { path = refl; locals = refl }) refl (zeros_fit (types_of system) cell_types) e t h).typed;
+  }

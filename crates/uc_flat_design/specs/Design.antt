@@ -1,0 +1,101 @@
+-- The design over numbered cells of a design of one module.
+use Rattle.std.specs.Prelude.{◌≡◌, ℕ, ◌+◌, Bool as Truth, true, false, ◌&&◌, if◌then◌else◌, List, [], ◌∷◌, ◌++◌, map, length, Option, Some, None}
+use Rattle.std.specs.Option.{option_map, option_and_then}
+use Rattle.std.specs.List.{list_all}
+use Rattle.uc_syntax.specs.declared.declaration.VariableKind.TheVariants.{Constant}
+use Rattle.uc_syntax.specs.declared.declaration.Decl.{Decl}
+use Rattle.uc_syntax.specs.declared.declaration.Decl.TheVariants.{OpaqueType, TypeAlias, TypeImport, Variables, Init, Next, Invariant, Control}
+use Rattle.uc_syntax.specs.declared.declaration.Module.{Module}
+use Rattle.uc_values.specs.declared.ty.Ty.{Ty}
+use Rattle.uc_values.specs.declared.ty.Ty.TheFolds.{fold-Ty}
+use Rattle.uc_values.specs.declared.ty.Ty.TheOpen.{Ty-F}
+use Rattle.uc_values.specs.declared.ty.Ty.TheOpen.Ty-F.{Int as integer_type, Un as open_type, Rec as record_type, Arr as array_type}
+use Rattle.uc_values.specs.Types.{is_valid}
+use Rattle.uc_meaning.specs.Lookup.{System, init_of, next_of}
+use Rattle.uc_meaning.specs.Cells.{Cell, cells_of}
+use Rattle.uc_flat.specs.declared.flat.Cell.{Cell as FlatCell}
+use Rattle.uc_flat.specs.declared.flat.Flat.{Flat}
+use Rattle.uc_flat.specs.declared.flat.Formula.{Formula}
+use Rattle.uc_flat.specs.declared.statement.Statement.{Statement}
+use Rattle.uc_flat_expressions.specs.declared.typed.TypedExpression.{TypedExpression}
+use Rattle.uc_flat_expressions.specs.declared.typed.Meant.{Meant}
+use Rattle.uc_flat_expressions.specs.Types.{is_boolean}
+use Rattle.uc_flat_expressions.specs.Expressions.{flat_of}
+use Rattle.uc_flat_names.specs.Names.{names_over_cells, types_of}
+use Rattle.uc_flat_code.specs.Code.{code_of}
+use Rattle.uc_code_meaning.specs.Sequential.{plainly}
+use Rattle.uc_step_meaning.specs.Once.{written_after}
+use Rattle.uc_step_meaning.specs.Next.{primed_behind, step_code}
+
+abbrev pub is_finite_form : Ty-F Truth → Truth
+is_finite_form (record_type fields) = list_all (λ f. f.ty) fields
+is_finite_form integer_type = false
+is_finite_form (open_type number) = false
+is_finite_form (array_type index element) = false
+is_finite_form other = true
+
+-- booleans, bit-vectors, enums, and records of these
+abbrev pub is_finite : Ty → Truth
+is_finite = fold-Ty Truth is_finite_form
+
+-- the types that cells may have
+abbrev pub is_cell_type : Ty → Truth
+is_cell_type ty = is_valid ty && is_finite ty
+
+-- The declarations that are built: types, variables, inputs and outputs, blocks, invariants and the control block.
+abbrev pub is_built : Decl → Truth
+is_built (OpaqueType place i) = true
+is_built (TypeAlias place i type) = true
+is_built (TypeImport place m) = true
+is_built (Variables place Constant names type) = false
+is_built (Variables place kind names type) = true
+is_built (Init place block) = true
+is_built (Next place block) = true
+is_built (Invariant place i formula) = true
+is_built (Control place commands) = true
+is_built other = false
+
+-- the formula of an invariant, where it is a truth value
+abbrev pub condition_of : ℕ → TypedExpression → Option (List Formula)
+condition_of k t = if is_boolean t.ty then Some (record { path = []; decl = k; copies = 1; condition = t.expression } ∷ []) else None
+
+abbrev pub formula_in : List Meant → ℕ → Decl → Option (List Formula)
+formula_in names k (Invariant place i e) = option_and_then (condition_of k) (flat_of names e)
+formula_in names k other = Some []
+
+-- the formulas of the invariants of declarations from a number on, where none is missing
+unfoldable pub formulas_from : List Meant → ℕ → List Decl → Option (List Formula)
+formulas_from names k [] = Some []
+formulas_from names k (d ∷ decls) = option_and_then (λ xs. option_map (λ ys. xs ++ ys) (formulas_from names (k + 1) decls)) (formula_in names k d)
+
+abbrev pub flat_cell : Cell → FlatCell
+flat_cell c = record { path = c.path; name = c.name; ty = c.type }
+
+-- the design over cells by its code and its formulas
+abbrev pub flat_with : System → List Statement → List Statement → List Formula → Flat
+flat_with system init next formulas = record {
+  cells = map flat_cell (cells_of system);
+  constants = [];
+  functions = [];
+  init = init;
+  step = step_code (cells_of system) next;
+  sites = [];
+  formulas = formulas;
+  axioms = 0;
+}
+
+-- The design has one module, with declarations that are built, cells of such types, code and invariants over cells, and a next block that writes no cell twice on one way; and this is the design over cells.
+pub record IsFlatOf (system : System) (code : Module) (f : Flat) : Type 0 where
+  pub only : system.modules ≡ code ∷ []
+  pub first : system.main ≡ 0
+  pub declarations : list_all is_built code.decls ≡ true
+  pub types : list_all is_cell_type (types_of system) ≡ true
+  pub init : List Statement
+  pub next : List Statement
+  pub after : List ℕ
+  pub formulas : List Formula
+  pub init_is : code_of (names_over_cells system code) plainly (init_of code) ≡ Some init
+  pub next_is : code_of (names_over_cells system code) (primed_behind (length (cells_of system))) (next_of code) ≡ Some next
+  pub once : written_after next [] ≡ Some after
+  pub formulas_are : formulas_from (names_over_cells system code) 0 code.decls ≡ Some formulas
+  pub is : f ≡ flat_with system init next formulas

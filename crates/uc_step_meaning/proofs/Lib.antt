@@ -1,0 +1,6 @@
+pub mod Effects
+pub mod Parts
+pub mod Running
+pub mod Told
+pub mod Settled
+pub mod Steps
