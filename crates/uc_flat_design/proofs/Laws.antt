@@ -45,7 +45,7 @@ types_are : (cells : List Cell) → map (λ c. c.ty) (map flat_cell cells) ≡ m
 types_are [] = refl
 types_are (c ∷ cells) = ap (λ ts. c.type ∷ ts) (types_are cells)
 
-flat_types : (system : System) (code : Module) (f : Flat) → IsFlatOf system code f → cell_types f ≡ types_of system
+pub flat_types : (system : System) (code : Module) (f : Flat) → IsFlatOf system code f → cell_types f ≡ types_of system
 flat_types system code f d = ap cell_types d.is ∙ types_are (cells_of system)
 
 -- all init code is the init block of main

@@ -185,6 +185,9 @@ entry system code x k p ty h =
     let is : y.0 ≡ x = omega (arith, counted_at 0 (length system.names) x y.0 y.1) in
     entry_label system code x k p ty (label_of system code x) refl (ap (meant_in system code) (sym is) ∙ y.2)
 
+abbrev pub no_interpretation : Interp
+no_interpretation = record { consts = []; tables = [] }
+
 module _ (system : System) (code : Module) (alone : StandsAlone system code) (m : Model) (cell_types : list_all is_cell_type (types_of system) ≡ true) where
   valid : AllValid (types_of system)
   valid = all_valid (types_of system) cell_types
@@ -226,3 +229,8 @@ module _ (system : System) (code : Module) (alone : StandsAlone system code) (m 
         let zeros = map zero_of (types_of system) in
         (says (now i zeros) zeros (record { path = refl; locals = refl }) refl (zeros_fit (types_of system) cell_types) e t h).typed;
   }
+
+  -- what stands for an expression says it where all cells have the values that count as 0
+  pub says_at_zeros : (e : Expr) (t : TypedExpression) → flat_of (names_over_cells system code) e ≡ Some t
+      → Says 0 m (types_of system) (map zero_of (types_of system)) (reading system (now no_interpretation (map zero_of (types_of system))) e) t
+  says_at_zeros e t h = says (now no_interpretation (map zero_of (types_of system))) (map zero_of (types_of system)) (record { path = refl; locals = refl }) refl (zeros_fit (types_of system) cell_types) e t h

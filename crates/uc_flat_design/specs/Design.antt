@@ -24,7 +24,7 @@ use Rattle.uc_flat_expressions.specs.Expressions.{flat_of}
 use Rattle.uc_flat_names.specs.Names.{names_over_cells, types_of}
 use Rattle.uc_flat_code.specs.Code.{code_of}
 use Rattle.uc_code_meaning.specs.Sequential.{plainly}
-use Rattle.uc_step_meaning.specs.Once.{written_after}
+use Rattle.uc_flat_once.specs.Once.{written_after}
 use Rattle.uc_step_meaning.specs.Next.{primed_behind, step_code}
 
 abbrev pub is_finite_form : Ty-F Truth → Truth

@@ -1,3 +1,4 @@
 pub mod Conditions
 pub mod Standing
 pub mod Suiting
+pub mod Laws

@@ -11,7 +11,7 @@ use Rattle.uc_values.specs.Sameness.{same}
 use Rattle.uc_ops.specs.Typing.{part_type}
 use Rattle.uc_ops.specs.Meaning.{part}
 use Rattle.uc_meaning.specs.Steps.{CellPart, Watched, Kept, kept_if, writes}
-use Rattle.uc_step_meaning.specs.Once.{listed}
+use Rattle.uc_flat_once.specs.Once.{listed}
 
 pub true_false : true ≡ false → ⊥
 true_false h = cc

@@ -9,7 +9,7 @@ use Rattle.uc_flat.specs.declared.statement.Statement.TheOpen.Statement-F.{Assig
 use Rattle.uc_flat.specs.declared.statement.Statement.TheViews.{roll-Statement}
 use Rattle.uc_flat.specs.declared.statement.Statement.TheVariants.{Assign, Havoc, Assume, If}
 use Rattle.uc_flat.specs.declared.statement.Statement.TheFolds.{fold-roll-Statement}
-use Rattle.uc_step_meaning.specs.Once.{Writer, writes_cell, each_writes, either_writes, writer_form, writer, written_after}
+use Rattle.uc_flat_once.specs.Once.{Writer, writes_cell, each_writes, either_writes, writer_form, writer, written_after}
 
 writer_assign : (k : ℕ) (e : Expression) (before : List ℕ) → writer (Assign k e) before ≡ writes_cell k before
 unfolding writer roll-Statement denote.Hole.Carrier.roll

@@ -20,7 +20,7 @@ use Rattle.uc_same_values.specs.Same.{has_no_array}
 use Rattle.uc_same_values.proofs.Same.{same_holds}
 use Rattle.uc_code_meaning.proofs.Options.{then_some, some_same}
 use Rattle.uc_code_meaning.proofs.Turns.{fit_set}
-use Rattle.uc_step_meaning.specs.Once.{listed}
+use Rattle.uc_flat_once.specs.Once.{listed}
 use Rattle.uc_step_meaning.specs.Next.{types_in}
 use Rattle.uc_step_meaning.proofs.Effects.{Effect, targets, parts_in, agrees, all_agree, performs, performed, Apart, apart_not, listed_first, true_false, none_some, same_nat, nat-eq}
 use Rattle.uc_step_meaning.proofs.Parts.{parts_fit}

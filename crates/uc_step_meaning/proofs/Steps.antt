@@ -19,7 +19,7 @@ use Rattle.uc_flat.specs.Running.{Placed, run_all}
 use Rattle.uc_flat_expressions.specs.declared.typed.Meant.{Meant}
 use Rattle.uc_code_meaning.proofs.Options.{then_some, map_some}
 use Rattle.uc_code_meaning.proofs.Turns.{run_append, run_none}
-use Rattle.uc_step_meaning.specs.Once.{listed, written_after}
+use Rattle.uc_flat_once.specs.Once.{listed, written_after}
 use Rattle.uc_step_meaning.specs.Next.{IsNextTable, types_in, inputs_from, step_code, IsReached, IsFound, StepFitsLaw, StepFoundLaw, StepIsLaw}
 use Rattle.uc_step_meaning.proofs.Effects.{Effect, targets, parts_in, all_agree, performed, performed_append, kept_true, none_some}
 use Rattle.uc_step_meaning.proofs.Told.{fit_length, both, Fine, FineAll, Once, at, asked, ran, Told, goes_both, havoc_goes, code_told}

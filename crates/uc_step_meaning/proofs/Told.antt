@@ -48,7 +48,7 @@ use Rattle.uc_code_meaning.specs.Tables.{IsSaid, IsVariable}
 use Rattle.uc_code_meaning.proofs.Options.{then_some, map_some, if_some, some_same}
 use Rattle.uc_code_meaning.proofs.Turns.{run_append, run_none, run_one, run_is}
 use Rattle.uc_code_meaning.proofs.Sequential.{truth_holds, no_more, is_written_as, arms_in, else_in}
-use Rattle.uc_step_meaning.specs.Once.{writes_cell, written_after, listed}
+use Rattle.uc_flat_once.specs.Once.{writes_cell, written_after, listed}
 use Rattle.uc_step_meaning.specs.Next.{between, primed_behind, IsNextTable}
 use Rattle.uc_step_meaning.proofs.Effects.{Effect, behind, parts_in, all_agree, performed, agree_append, performed_append, writes_none, writes_more, IsSub, Apart, Covers, sub_left, sub_right, sub_then, apart_append, cover_append, none_some}
 use Rattle.uc_step_meaning.proofs.Running.{written_append, written_none, written_assign, written_havoc, written_assume, written_if, set_behind, get_behind}

@@ -25,7 +25,7 @@ use Rattle.uc_flat_code.specs.declared.writing.Writing.{Writing}
 use Rattle.uc_flat_code.specs.Code.{code_of}
 use Rattle.uc_code_meaning.specs.Tables.{Scopes, IsTable}
 use Rattle.uc_same_values.specs.Same.{has_no_array}
-use Rattle.uc_step_meaning.specs.Once.{written_after}
+use Rattle.uc_flat_once.specs.Once.{written_after}
 
 -- in main, between an old and a new state
 abbrev pub between : Interp → List Value → Scopes

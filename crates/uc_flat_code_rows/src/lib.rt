@@ -1,0 +1,5 @@
+//! Code over cells, which only tests build.
+#![tactic(auto)]
+
+#[cfg(test)]
+mod built;

@@ -1,0 +1,75 @@
+-- The laws of code that stands for code of a design.
+use Rattle.std.proofs.Common.{◌≡◌, ℕ, ◌+◌, List, refl, sym, ap, ◌∙◌, subst, Option, Some, None, slice_get, arith, ◌++◌}
+use Rattle.std.specs.Prelude.{Bool as Truth, true}
+use Rattle.std.proofs.lemmas.Option.{none-some, same_Some, slice_get_within, get_or_from_slice_get}
+use Rattle.std.proofs.lemmas.List.Elements.{All-contains}
+use Rattle.uc_syntax.specs.declared.expression.Expr.{Expr}
+use Rattle.uc_values.specs.declared.ty.Ty.{Ty}
+use Rattle.uc_ops.specs.Typing.{Valid, AllValid}
+use Rattle.uc_ops.specs.Decisions.{types-decided}
+use Rattle.uc_flat.specs.Fine.{IsTest}
+use Rattle.uc_flat.proofs.Making.{Alone, fine_alone, AloneReads, reads_alone}
+use Rattle.uc_flat_expressions.specs.declared.typed.TypedExpression.{TypedExpression}
+use Rattle.uc_flat_expressions.specs.declared.typed.Meant.{Meant}
+use Rattle.uc_flat_expressions.specs.declared.typed.Meant.TheVariants.{Cell}
+use Rattle.uc_flat_expressions.specs.Expressions.{flat_of}
+use Rattle.uc_flat_expressions.specs.Types.{is_boolean}
+use Rattle.uc_flat_code.specs.declared.writing.Writing.{Writing}
+use Rattle.uc_flat_code.specs.declared.writing.Written.{Written}
+use Rattle.uc_flat_code.specs.Code.{may_write, written_as, written}
+use Rattle.uc_flat_fits.specs.Fits.{ExpressionsFit, AreWritten, ExpressionsReadBelow, FitsLaw, ReadsLaw, SequentialLaw, StepLaw}
+use Rattle.uc_flat_fits.proofs.Conditions.{boolean_is}
+use Rattle.uc_flat_fits.proofs.Suiting.{Suited, if_some, code_gives}
+use Rattle.uc_flat.proofs.Extending.{slice_get-back}
+
+meant_typed : (names : List Meant) (w : Writing) (types : List Ty) → AreWritten names w types → (x : ℕ) (o : Option Meant) → slice_get names x ≡ o → (k : Written) → written_as w.shift o ≡ Some k
+    → slice_get types k.cell ≡ Some k.ty
+meant_typed names w types cells x None is k h = absurd (none-some k h)
+meant_typed names w types cells x (Some (Cell old new ty)) is k h =
+    let made : Written = record { cell = old + w.shift; ty = ty } in
+    subst (λ (j : Written). slice_get types j.cell ≡ Some j.ty) (same_Some made k h) (cells x old new ty is)
+meant_typed names w types cells x (Some other) is k h = absurd (none-some k h)
+
+-- the cell that is written for a name has its type
+written_typed : (names : List Meant) (w : Writing) (types : List Ty) → AreWritten names w types → (x : ℕ) (primed : Truth) (k : Written) → written names w x primed ≡ Some k → slice_get types k.cell ≡ Some k.ty
+written_typed names w types cells x primed k h =
+    let c = if_some (may_write w.primed primed) (written_as w.shift (slice_get names x)) k h in
+    meant_typed names w types cells x (slice_get names x) refl k c.1
+
+test_of : (names : List Meant) (types : List Ty) → ExpressionsFit names types → (t : TypedExpression) (e : Expr) → flat_of names e ≡ Some t → is_boolean t.ty ≡ true → IsTest types t.expression
+test_of names types fit t e is b = record { typed = (fit e t is).0; boolean = (fit e t is).1 ∙ boolean_is t.ty b }
+
+listed_valid : (types : List Ty) → AllValid types → (k : ℕ) (ty : Ty) → slice_get types k ≡ Some ty → Valid ty
+listed_valid types all k ty h = All-contains Valid types ty all (k, slice_get_within types k ty h, get_or_from_slice_get types k ty ty h)
+
+-- each single statement fits
+pub fits_suited : (names : List Meant) (w : Writing) (types : List Ty) → ExpressionsFit names types → AreWritten names w types → AllValid types → Suited names w (Alone types)
+fits_suited names w types fit cells valid = record {
+  assumed = λ e t is b. test_of names types fit t e is b;
+  decided = λ e t xs ys is b. test_of names types fit t e is b;
+  havocked = λ x primed k is.
+      let at = written_typed names w types cells x primed k is in
+      (k.ty, at, listed_valid types valid k.cell k.ty at);
+  given = λ x primed k e t is that same. ((fit e t that).0, written_typed names w types cells x primed k is ∙ ap Some ((types-decided k.ty t.ty).0 same ∙ sym (fit e t that).1));
+}
+
+-- each single statement reads constants that there are
+pub reads_suited : (names : List Meant) (w : Writing) (n : ℕ) → ExpressionsReadBelow names n → Suited names w (AloneReads n)
+reads_suited names w n reads = record {
+  assumed = λ e t is b. reads e t is;
+  decided = λ e t xs ys is b. reads e t is;
+  havocked = λ x primed k is. tt;
+  given = λ x primed k e t is that same. reads e t that;
+}
+
+pub fits_hold : FitsLaw
+fits_hold names w types code flat fit cells valid is = fine_alone types flat (code_gives names w (Alone types) (fits_suited names w types fit cells valid) code flat is).at
+
+pub reads_hold : ReadsLaw
+reads_hold names w n code flat reads is = reads_alone n flat (code_gives names w (AloneReads n) (reads_suited names w n reads) code flat is).at
+
+pub sequential_holds : SequentialLaw
+sequential_holds names types cells x k new ty is = ap (slice_get types) (omega arith) ∙ cells x k new ty is
+
+pub step_holds : StepLaw
+step_holds names types cells x k new ty is = ap (slice_get (types ++ types)) (omega arith) ∙ slice_get-back types types k ∙ cells x k new ty is
