@@ -1,0 +1,3 @@
+mod Has
+mod Counts
+mod Steps
