@@ -1,0 +1,122 @@
+//! What each name stands for.
+
+ghost use Rattle.std.specs.Prelude.{◌≡◌, map, IfOk};
+ghost use Rattle.uc_meaning.specs.Lookup.{variable_of};
+ghost use Rattle.uc_type_reader.specs.Reading.{label_meant};
+ghost use Rattle.uc_flat_names.specs.Names.{StandsAlone, of_label, of_cell_number, counted, names_over_cells};
+ghost use Rattle.uc_flat_table.specs.Table.{of_variable_in, meant_by};
+
+use crate::cells::{OwnCell, has_cells, own_cells, place_of};
+use std::alloc::{AllocError, Global};
+use uc_flat_expressions::Meant;
+use uc_items::Items;
+use uc_lookup::variable_of;
+use uc_syntax::Module;
+use uc_type_reader::{Label, Tables, label_of, type_of_written};
+use uc_values::Ty;
+
+/// What each name of a design of one module stands for over the cells of one state, by its number.
+#[tactic(auto, using(crate::proofs::Entries::names_are))]
+pub fn names_table(
+    alloc: Global,
+    tables: &Tables,
+    code: &Module,
+) -> Result<Items<Meant>, AllocError>
+    requires { StandsAlone tables.now code.now }
+    ensures { IfOk result (λ names. names ≡ names_over_cells tables.now code.now) }
+{
+    let cells = own_cells(alloc, tables, code)?;
+    let count = tables.system().names.len();
+    all_meant(alloc, tables, code, cells.as_slice(), count)
+}
+
+/// What the first names stand for, so many of them.
+#[tactic(auto, using(crate::proofs::Entries::counted_more, crate::proofs::Entries::counted_none))]
+fn all_meant(
+    alloc: Global,
+    tables: &Tables,
+    code: &Module,
+    cells: &[OwnCell],
+    count: usize,
+) -> Result<Items<Meant>, AllocError>
+    ensures { IfOk result (λ all. all ≡ map (meant_by tables.now code.now cells.now) (counted 0 count)) }
+{
+    let mut all = Items::new(alloc);
+    for number in 0..count {
+        let name = word(number)?;
+        let meant = meant(alloc, tables, code, cells, name)?;
+        all.push(meant)?;
+    }
+    Ok(all)
+}
+
+fn meant(
+    alloc: Global,
+    tables: &Tables,
+    code: &Module,
+    cells: &[OwnCell],
+    name: u32,
+) -> Result<Meant, AllocError>
+    ensures { IfOk result (λ t. t ≡ meant_by tables.now code.now cells.now name) }
+{
+    match label_of(alloc, tables, code, name)? {
+        Some(label) => of_label(tables, label),
+        None => of_variable(alloc, tables, code, cells, name),
+    }
+}
+
+/// A label, where its enum has it.
+fn of_label(tables: &Tables, label: Label) -> Result<Meant, AllocError>
+    ensures { IfOk result (λ t. t ≡ of_label tables.now (label_meant label)) }
+{
+    let count = word(tables.label_count(label.enum_number))?;
+    if label.place >= count {
+        return Ok(Meant::Unknown);
+    }
+    Ok(Meant::Label(label.enum_number, count, label.place))
+}
+
+/// A variable, input or output of main; constants are not built.
+fn of_variable(
+    alloc: Global,
+    tables: &Tables,
+    code: &Module,
+    cells: &[OwnCell],
+    name: u32,
+) -> Result<Meant, AllocError>
+    ensures { IfOk result (λ t. t ≡ of_variable_in tables.now code.now cells.now name (variable_of code.now name)) }
+{
+    match variable_of(code.decls.as_slice(), name) {
+        None => Ok(Meant::Unknown),
+        Some(variable) => {
+            if !has_cells(variable.kind) {
+                return Ok(Meant::Unknown);
+            }
+            let ty = type_of_written(alloc, tables, code, variable.ty)?;
+            of_cell(place_of(cells, name), ty)
+        }
+    }
+}
+
+/// A cell of a type, which is read in the old state alone.
+fn of_cell(place: Option<usize>, ty: Ty) -> Result<Meant, AllocError>
+    ensures { IfOk result (λ t. t ≡ of_cell_number place ty) }
+{
+    match place {
+        None => Ok(Meant::Unknown),
+        Some(place) => {
+            let place = word(place)?;
+            Ok(Meant::Cell(place, None, ty))
+        }
+    }
+}
+
+/// A number that fits a `u32`.
+fn word(number: usize) -> Result<u32, AllocError>
+    ensures { IfOk result (λ n. n ≡ number) }
+{
+    match u32::try_from(number) {
+        Ok(number) => Ok(number),
+        Err(_) => Err(AllocError),
+    }
+}
