@@ -1,0 +1,6 @@
+use Rattle.std.proofs.Common.{ap, ◌∙◌, ◌++◌, ◌∷◌, []}
+use Rattle.uc_flat_lines.proofs.Unrollings.{begun_is}
+use Rattle.uc_flat_lines.proofs.unrolling.begin.Goals as goal
+
+pub returns : goal.returns
+returns c = record { ok = begun_is c.args.f.now _ _ _ _ _ _ _ _ _ _ c.in_ok-axioms.ensures.ok c.len-first.ensures c.in_ok-state.ensures.ok c.in_ok-state-2.ensures.ok (c.in_ok-push.ensures.ok ∙ ap (λ ss. ss ++ c.in_ok-state-2.state ∷ []) c.new-states.ensures) }

@@ -1,0 +1,11 @@
+use Rattle.uc_flat_lines.proofs.Terms.{cells_there, path_there, simpler_state}
+use Rattle.uc_flat_lines.proofs.unrolling.simpler.Goals as goal
+
+pub simpler_terms-requires : goal.simpler_terms-requires
+simpler_terms-requires c = cells_there _ _ _ _ c.requires c.as_slice.ensures
+
+pub simpler_term-requires : goal.simpler_term-requires
+simpler_term-requires c = path_there _ _ _ _ c.requires c.in_ok-cells.ensures.grown
+
+pub returns-clause-ok : goal.returns-clause-ok
+returns-clause-ok c = simpler_state _ _ _ _ _ _ _ _ c.requires c.as_slice.ensures c.in_ok-cells.ensures.ok c.in_ok-path.ensures.ok

@@ -1,0 +1,4 @@
+pub mod Lines
+pub mod Unrolling
+pub mod Reading
+pub mod Deciding

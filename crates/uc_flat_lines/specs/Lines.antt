@@ -1,0 +1,55 @@
+-- The lines of a design up to a number of steps, and what is right of their verdicts.
+use Rattle.std.specs.Prelude.{◌≡◌, ℕ, zero, suc, ◌+◌, ◌*◌, ◌≤◌, ◌^◌, Bool, true, false, nat_eq, List, [], ◌++◌, map, length, slice_get, count_by, Option, None, Some, All}
+use Rattle.uc_flat.specs.declared.flat.Flat.{Flat}
+use Rattle.uc_flat.specs.declared.flat.Formula.{Formula}
+use Rattle.uc_flat.specs.Drawn.{listed_if}
+use Rattle.uc_flat_traces.specs.declared.trace.FlatTrace.{FlatTrace}
+use Rattle.uc_flat_traces.specs.Traces.{RefutesFlat}
+use Rattle.uc_flat_lines.specs.declared.line.FlatLine.{FlatLine}
+use Rattle.uc_flat_lines.specs.declared.line.FlatVerdict.{FlatVerdict}
+use Rattle.uc_flat_lines.specs.declared.line.FlatVerdict.TheVariants.{Passed, Failed, Undef}
+use Rattle.uc_flat_lines.specs.declared.line.FlatWhy.{FlatWhy}
+use Rattle.uc_flat_lines.specs.declared.line.FlatWhy.TheVariants.{Memory, Budget}
+
+-- whether there is a formula and it speaks of one copy
+abbrev pub speaks_of_one : Option Formula → Bool
+speaks_of_one None = false
+speaks_of_one (Some x) = nat_eq x.copies 1
+
+-- the numbers below n of the formulas of one copy, in order: axioms speak of no copy
+unfoldable pub singles_below : Flat → ℕ → List ℕ
+singles_below f zero = []
+singles_below f (suc k) = singles_below f k ++ listed_if (speaks_of_one (slice_get f.formulas k)) k
+
+-- after so many steps there is a line for each formula of one copy whose number is below n
+abbrev pub lines_of : Flat → ℕ → ℕ → List (ℕ × ℕ)
+lines_of f steps n = map (λ k. (steps, k)) (singles_below f n)
+
+abbrev pub step_lines : Flat → ℕ → List (ℕ × ℕ)
+step_lines f steps = lines_of f steps (length f.formulas)
+
+-- the lines after 0, 1 and so on, fewer than n steps
+unfoldable pub lines_below : Flat → ℕ → List (ℕ × ℕ)
+lines_below f zero = []
+lines_below f (suc n) = lines_below f n ++ step_lines f n
+
+-- A verdict on a formula after n steps: passed where no trace refutes it, failed by a trace that does.
+abbrev pub IsFlatVerdict : Flat → Formula → ℕ → FlatVerdict → Type 0
+IsFlatVerdict f x n Passed = (t : FlatTrace) → RefutesFlat f x n t → ⊥
+IsFlatVerdict f x n (Failed t) = RefutesFlat f x n t
+IsFlatVerdict f x n (Undef why) = Unit {0}
+
+-- the line has a verdict on its formula after its steps
+abbrev pub IsRightLine : Flat → FlatLine → Type 0
+IsRightLine f l = (x : Formula) → slice_get f.formulas l.formula ≡ Some x → IsFlatVerdict f x l.steps l.verdict
+
+abbrev pub is_out_of_budget : FlatVerdict → Bool
+is_out_of_budget (Undef Budget) = true
+is_out_of_budget other = false
+
+-- These lines are judged, in order, each with a right verdict. Each one that is undecided by its budget spent it: before and after count the entries that were spent in all.
+pub record AreFlatJudged (f : Flat) (budget before after : ℕ) (lines : List (ℕ × ℕ)) (ls : List FlatLine) : Type 0 where
+  pub are : map (λ l. (l.steps, l.formula)) ls ≡ lines
+  pub right : All (IsRightLine f) ls
+  pub spent : before + budget * count_by (λ l. is_out_of_budget l.verdict) ls ≤ after
+  pub few : after ≤ before + 2 ^ 32 * length ls

@@ -1,0 +1,103 @@
+//! Whether a trace refutes a formula after so many steps.
+
+ghost use Rattle.std.specs.Prelude.{◌≡◌, ◌+◌, ◌≤◌, ◌<◌, ◌^◌, length, slice_get, Some, IfOk, IfErr};
+ghost use Rattle.uc_flat.specs.declared.flat.Formula.{Formula as AFormula};
+ghost use Rattle.uc_flat.specs.Flats.{IsSound};
+ghost use Rattle.uc_symstep.specs.Growing.{Grows};
+ghost use Rattle.uc_flat_lines.specs.Lines.{IsFlatVerdict};
+ghost use Rattle.uc_flat_lines.specs.Unrolling.{IsUnrolled};
+ghost use Rattle.uc_flat_lines.specs.Reading.{IsTraceOf};
+ghost use Rattle.uc_flat_lines.specs.Deciding.{IsOutcome, IsSpentFor, IsSpentOn};
+
+use crate::axioms::refuted_term;
+use crate::line::{FlatVerdict, FlatWhy};
+use crate::reading::trace_of;
+use crate::solving::solution;
+use crate::unrolling::Unrolling;
+use std::alloc::{AllocError, Global};
+use uc_flat::Flat;
+use uc_flat_traces::FlatTrace;
+use uc_log::Meter;
+use uc_symstep::SymState;
+use uc_terms::{Model, TermId, Terms};
+
+/// The verdict on formula `k`, which speaks of one copy, after so many steps.
+pub(crate) fn verdict_on<M: Meter>(
+    alloc: Global,
+    terms: &mut Terms,
+    f: &Flat,
+    run: &Unrolling,
+    steps: u32,
+    k: u32,
+    budget: u64,
+    meter: &mut M,
+) -> FlatVerdict
+    requires sound { IsSound f.now }
+    requires unrolled { IsUnrolled f.now terms.old steps run.now }
+    requires there { k < length f.now.formulas }
+    requires single { (x : AFormula) → slice_get f.now.formulas k ≡ Some x → x.copies ≡ 1 }
+    requires some { 1 ≤ budget }
+    requires total { M.total meter.old + 2 ^ 32 ≤ 2 ^ 127 }
+    ensures right { (x : AFormula) → slice_get f.now.formulas k ≡ Some x → IsFlatVerdict f.now x steps result }
+    ensures spent { IsSpentOn budget (M.total meter.old) (M.total meter.new) result }
+    ensures few { M.total meter.new ≤ M.total meter.old + 2 ^ 32 }
+    ensures grown { Grows terms.old terms.new }
+{
+    match refutation(alloc, terms, f, run, steps, k, budget, meter) {
+        Ok(Some(trace)) => FlatVerdict::Failed(trace),
+        Ok(None) => FlatVerdict::Passed,
+        Err(why) => FlatVerdict::Undef(why),
+    }
+}
+
+/// A trace that refutes the formula, or none where there is none.
+fn refutation<M: Meter>(
+    alloc: Global,
+    terms: &mut Terms,
+    f: &Flat,
+    run: &Unrolling,
+    steps: u32,
+    k: u32,
+    budget: u64,
+    meter: &mut M,
+) -> Result<Option<FlatTrace>, FlatWhy>
+    requires sound { IsSound f.now }
+    requires unrolled { IsUnrolled f.now terms.old steps run.now }
+    requires there { k < length f.now.formulas }
+    requires single { (x : AFormula) → slice_get f.now.formulas k ≡ Some x → x.copies ≡ 1 }
+    requires some { 1 ≤ budget }
+    requires total { M.total meter.old + 2 ^ 32 ≤ 2 ^ 127 }
+    ensures outcome { IfOk result (λ o. (x : AFormula) → slice_get f.now.formulas k ≡ Some x → IsOutcome f.now x steps o) }
+    ensures cause { IfErr result (IsSpentFor budget (M.total meter.old) (M.total meter.new)) }
+    ensures later { M.total meter.old ≤ M.total meter.new }
+    ensures few { M.total meter.new ≤ M.total meter.old + 2 ^ 32 }
+    ensures grown { Grows terms.old terms.new }
+{
+    let states = run.states.as_slice();
+    let goal = refuted_term(terms, alloc, f, k, run.axioms, &states[steps as usize])?;
+    match solution(alloc, terms, goal, budget, meter)? {
+        None => Ok(None),
+        Some(model) => {
+            let trace = found_trace(alloc, terms, f, goal, states, model)?;
+            Ok(Some(trace))
+        }
+    }
+}
+
+/// The trace of a model that was found. Each error of reading it counts as want of memory.
+fn found_trace(
+    alloc: Global,
+    terms: &Terms,
+    f: &Flat,
+    goal: TermId,
+    states: &[SymState],
+    model: Model,
+) -> Result<FlatTrace, AllocError>
+    requires { goal < length terms.now }
+    ensures { IfOk result (λ t. IsTraceOf f.now terms.now goal states.now t) }
+{
+    match trace_of(alloc, terms, f, goal, states, model) {
+        Ok(trace) => Ok(trace),
+        Err(_) => Err(AllocError),
+    }
+}

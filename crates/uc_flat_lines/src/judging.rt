@@ -1,0 +1,113 @@
+//! The lines of a design, each with its verdict.
+
+ghost use Rattle.std.specs.Prelude.{◌≡◌, ◌+◌, ◌≤◌, ◌<◌, ◌^◌, length, slice_get, map, IfOk};
+ghost use Rattle.uc_flat.specs.Drawn.{listed_if};
+ghost use Rattle.uc_flat.specs.Flats.{IsSound};
+ghost use Rattle.uc_symstep.specs.Growing.{Grows};
+ghost use Rattle.uc_flat_lines.specs.Lines.{speaks_of_one, lines_below, step_lines, AreFlatJudged};
+ghost use Rattle.uc_flat_lines.specs.Unrolling.{IsUnrolled};
+
+use crate::deciding::verdict_on;
+use crate::line::FlatLine;
+use crate::unrolling::{Unrolling, advance, begin};
+use std::alloc::{AllocError, Global};
+use uc_flat::Flat;
+use uc_items::Items;
+use uc_log::Meter;
+use uc_terms::Terms;
+
+/// A line for each formula of one copy after 0, 1 and so on up to `depth` steps. A line is undecided for want of memory also where its
+/// goal has integers, arrays or functions, where one number is read as constants of two types, or where a constant is read at
+/// another type than its own. There is an error for want of memory, and where there are 2^32 constants, formulas or symbols.
+pub fn judge_flat<M: Meter>(
+    alloc: Global,
+    f: &Flat,
+    depth: u32,
+    budget: u64,
+    meter: &mut M,
+) -> Result<Items<FlatLine>, AllocError>
+    requires sound { IsSound f.now }
+    requires some { 1 ≤ budget }
+    requires total { M.total meter.old < 2 ^ 126 }
+    ensures judged { IfOk result (AreFlatJudged f.now budget (M.total meter.old) (M.total meter.new) (lines_below f.now (depth + 1))) }
+    ensures later { M.total meter.old ≤ M.total meter.new }
+{
+    let mut terms = Terms::new(alloc)?;
+    let mut run = begin(&mut terms, alloc, f)?;
+    let mut lines = Items::new(alloc);
+    for steps in 0..depth {
+        let _room = lines.len();
+        let more = judge_step(alloc, &mut terms, f, &run, steps, budget, meter)?;
+        lines.append(more)?;
+        run = advance(&mut terms, alloc, f, steps, run)?;
+    }
+    let _room = lines.len();
+    let last = judge_step(alloc, &mut terms, f, &run, depth, budget, meter)?;
+    lines.append(last)?;
+    Ok(lines)
+}
+
+/// The lines after so many steps.
+fn judge_step<M: Meter>(
+    alloc: Global,
+    terms: &mut Terms,
+    f: &Flat,
+    run: &Unrolling,
+    steps: u32,
+    budget: u64,
+    meter: &mut M,
+) -> Result<Items<FlatLine>, AllocError>
+    requires sound { IsSound f.now }
+    requires unrolled { IsUnrolled f.now terms.old steps run.now }
+    requires some { 1 ≤ budget }
+    requires total { M.total meter.old < 2 ^ 126 + 2 ^ 97 }
+    ensures judged { IfOk result (AreFlatJudged f.now budget (M.total meter.old) (M.total meter.new) (step_lines f.now steps)) }
+    ensures later { M.total meter.old ≤ M.total meter.new }
+    ensures grown { Grows terms.old terms.new }
+{
+    let count = f.formulas.len();
+    if count > u32::MAX as usize {
+        return Err(AllocError);
+    }
+    let mut lines = Items::new(alloc);
+    for k in 0..count as u32 {
+        let _room = lines.len();
+        let more = judge_formula(alloc, terms, f, run, steps, k, budget, meter)?;
+        lines.append(more)?;
+    }
+    Ok(lines)
+}
+
+/// The line of a formula, where it speaks of one copy.
+fn judge_formula<M: Meter>(
+    alloc: Global,
+    terms: &mut Terms,
+    f: &Flat,
+    run: &Unrolling,
+    steps: u32,
+    k: u32,
+    budget: u64,
+    meter: &mut M,
+) -> Result<Items<FlatLine>, AllocError>
+    requires sound { IsSound f.now }
+    requires unrolled { IsUnrolled f.now terms.old steps run.now }
+    requires there { k < length f.now.formulas }
+    requires some { 1 ≤ budget }
+    requires total { M.total meter.old + 2 ^ 32 ≤ 2 ^ 127 }
+    ensures judged { IfOk result (AreFlatJudged f.now budget (M.total meter.old) (M.total meter.new) (map (λ j. (steps, j)) (listed_if (speaks_of_one (slice_get f.now.formulas k)) k))) }
+    ensures later { M.total meter.old ≤ M.total meter.new }
+    ensures grown { Grows terms.old terms.new }
+{
+    let formulas = f.formulas.as_slice();
+    if formulas[k as usize].copies != 1 {
+        return Ok(Items::new(alloc));
+    }
+    let verdict = verdict_on(alloc, terms, f, run, steps, k, budget, meter);
+    let mut lines = Items::new(alloc);
+    lines.push(FlatLine {
+        steps,
+        formula: k,
+        verdict,
+    })?;
+    Ok(lines)
+}

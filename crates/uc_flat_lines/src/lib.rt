@@ -1,0 +1,17 @@
+//! Judges the formulas of a design over numbered cells after 0, 1 and so on up to some number of steps.
+//!
+//! The states after each step become terms of one table, and the solver decides for each formula of one copy whether its goal
+//! is true under some model. A model that is found is read as a trace that refutes the formula.
+#![tactic(auto)]
+
+mod axioms;
+mod build;
+mod deciding;
+mod judging;
+mod line;
+mod reading;
+mod solving;
+mod unrolling;
+
+pub use judging::judge_flat;
+pub use line::{FlatLine, FlatVerdict, FlatWhy};

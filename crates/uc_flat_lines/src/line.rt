@@ -1,0 +1,52 @@
+//! Lines with their verdicts.
+
+use std::alloc::AllocError;
+use uc_flat_traces::FlatTrace;
+use uc_linear::LinearError;
+
+/// Why a line is not decided.
+#[derive(Clone, Copy, Drop)]
+pub enum FlatWhy {
+    Memory,
+    Budget,
+}
+
+impl From<AllocError> for FlatWhy {
+    ghost use Rattle.std.specs.Prelude.{◌≡◌};
+    ghost use Rattle.uc_flat_lines.specs.declared.line.FlatWhy.TheVariants.{Memory};
+
+    ghost from_gives = { λ _ e. e ≡ Memory };
+
+    fn from(_error: AllocError) -> FlatWhy {
+        FlatWhy::Memory
+    }
+}
+
+/// A number that leaves 128 bits counts as want of memory.
+impl From<LinearError> for FlatWhy {
+    ghost use Rattle.std.specs.Prelude.{◌≡◌};
+    ghost use Rattle.uc_flat_lines.specs.declared.line.FlatWhy.TheVariants.{Memory};
+
+    ghost from_gives = { λ _ e. e ≡ Memory };
+
+    fn from(_error: LinearError) -> FlatWhy {
+        FlatWhy::Memory
+    }
+}
+
+#[derive(Drop)]
+pub enum FlatVerdict {
+    /// No trace refutes the formula.
+    Passed,
+    /// A trace that refutes it.
+    Failed(FlatTrace),
+    Undef(FlatWhy),
+}
+
+/// The verdict on a formula, by its number, after so many steps.
+#[derive(Drop)]
+pub struct FlatLine {
+    pub steps: u32,
+    pub formula: u32,
+    pub verdict: FlatVerdict,
+}

@@ -1,0 +1,77 @@
+//! Whether some model makes a goal true.
+
+ghost use Rattle.std.specs.Prelude.{◌≡◌, ◌+◌, ◌≤◌, ◌<◌, ◌^◌, length, IfOk, IfErr};
+ghost use Rattle.uc_values.specs.declared.ty.Ty.TheVariants.{Bool};
+ghost use Rattle.uc_ops.specs.Typing.{type_at};
+ghost use Rattle.uc_terms.specs.Subterms.{EvenlyTyped};
+ghost use Rattle.uc_lower.specs.Lowering.{IsFiniteTerm};
+ghost use Rattle.uc_symstep.specs.Growing.{Grows};
+ghost use Rattle.uc_flat_lines.specs.Deciding.{IsSolution, IsSpentFor};
+
+use crate::line::FlatWhy;
+use std::alloc::Global;
+use uc_finite::{is_evenly_typed, is_finite_term};
+use uc_log::Meter;
+use uc_solver::{Answer, SolveError, solve};
+use uc_terms::{Model, TermId, Terms};
+
+/// A model under which the goal is true, or none where there is none. Memory also counts as used up where the goal has integers,
+/// arrays or functions, or one number for symbols of two types.
+pub(crate) fn solution<M: Meter>(
+    alloc: Global,
+    terms: &mut Terms,
+    goal: TermId,
+    budget: u64,
+    meter: &mut M,
+) -> Result<Option<Model>, FlatWhy>
+    requires there { goal < length terms.old }
+    requires boolean { type_at terms.old goal ≡ Bool }
+    requires some { 1 ≤ budget }
+    requires total { M.total meter.old + 2 ^ 32 ≤ 2 ^ 127 }
+    ensures solution { IfOk result (IsSolution terms.old goal) }
+    ensures cause { IfErr result (IsSpentFor budget (M.total meter.old) (M.total meter.new)) }
+    ensures later { M.total meter.old ≤ M.total meter.new }
+    ensures few { M.total meter.new ≤ M.total meter.old + 2 ^ 32 }
+    ensures grown { Grows terms.old terms.new }
+{
+    if !is_evenly_typed(alloc, terms, goal)? {
+        return Err(FlatWhy::Memory);
+    }
+    if !is_finite_term(alloc, terms, goal)? {
+        return Err(FlatWhy::Memory);
+    }
+    asked(alloc, terms, goal, budget, meter)
+}
+
+/// What the solver answers to a goal of finitely many values.
+#[tactic(auto, using(crate::proofs::Terms::goes_on))]
+fn asked<M: Meter>(
+    alloc: Global,
+    terms: &mut Terms,
+    goal: TermId,
+    budget: u64,
+    meter: &mut M,
+) -> Result<Option<Model>, FlatWhy>
+    requires there { goal < length terms.old }
+    requires boolean { type_at terms.old goal ≡ Bool }
+    requires even { EvenlyTyped terms.old goal }
+    requires finite { IsFiniteTerm terms.old goal }
+    requires some { 1 ≤ budget }
+    requires total { M.total meter.old + 2 ^ 32 ≤ 2 ^ 127 }
+    ensures solution { IfOk result (IsSolution terms.old goal) }
+    ensures cause { IfErr result (IsSpentFor budget (M.total meter.old) (M.total meter.new)) }
+    ensures later { M.total meter.old ≤ M.total meter.new }
+    ensures few { M.total meter.new ≤ M.total meter.old + 2 ^ 32 }
+    ensures grown { Grows terms.old terms.new }
+{
+    let _shared = terms.len();
+    match solve(alloc, terms, goal, budget, meter) {
+        Ok(Answer::Model(model)) => Ok(Some(model)),
+        Ok(Answer::Refuted(_)) => {
+            let _still_shared = terms.len();
+            Ok(None)
+        }
+        Err(SolveError::Budget) => Err(FlatWhy::Budget),
+        Err(SolveError::NoMemory) => Err(FlatWhy::Memory),
+    }
+}
