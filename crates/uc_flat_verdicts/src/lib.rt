@@ -1,0 +1,14 @@
+//! Laws: lines that are judged over cells are the lines of the design, and their verdicts are right of these.
+#![tactic(auto)]
+
+ghost use Rattle.uc_flat_verdicts.specs.Laws.{OrderLaw, VerdictLaw};
+
+/// The lines over cells stand for the lines of the design, in order.
+pub fn lines_in_order()
+    ensures { OrderLaw }
+{}
+
+/// A right verdict over cells is right of the line of the design.
+pub fn verdicts()
+    ensures { VerdictLaw }
+{}
