@@ -21,7 +21,7 @@ use Rattle.uc_flat_table.specs.declared.cells.OwnCell.{OwnCell}
 use Rattle.uc_flat_table.specs.Cells.{cell_of_name, declared_cells, own_cells}
 
 -- a cell of main as one of the design
-abbrev full : OwnCell → Cell
+abbrev pub full : OwnCell → Cell
 full c = record { path = []; name = c.name; kind = c.kind; type = c.ty }
 
 all_kept : (ids : List Identifier) → filter (λ (i : Identifier). true) ids ≡ ids
@@ -57,7 +57,7 @@ all_full system code (d ∷ ds) =
     ∙ ap (λ cs. map full (declared_cells system code d) ++ cs) (all_full system code ds)
     ∙ sym (map-append full (declared_cells system code d) (flat_map (declared_cells system code) ds))
 
-cells_full : (system : System) (code : Module) → StandsAlone system code → cells_of system ≡ map full (own_cells system code)
+pub cells_full : (system : System) (code : Module) → StandsAlone system code → cells_of system ≡ map full (own_cells system code)
 cells_full system code a = alone_cells system code a ∙ all_full system code code.decls
 
 types_full : (cells : List OwnCell) → map (λ (c : Cell). c.type) (map full cells) ≡ map (λ (c : OwnCell). c.ty) cells

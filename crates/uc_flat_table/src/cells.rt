@@ -42,7 +42,7 @@ fn types_in(alloc: Global, cells: Items<OwnCell>) -> Result<Items<Ty>, AllocErro
 
 /// The cells that a module declares, in order.
 #[tactic(auto, using(uc_syntax::proofs::Added::added_begin, uc_syntax::proofs::Added::added_more, uc_syntax::proofs::Added::added_end))]
-pub(crate) fn own_cells(
+pub fn own_cells(
     alloc: Global,
     tables: &Tables,
     code: &Module,

@@ -6,5 +6,5 @@
 mod cells;
 mod table;
 
-pub use cells::cell_types_of;
+pub use cells::{OwnCell, cell_types_of, own_cells};
 pub use table::names_table;

@@ -1,0 +1,163 @@
+-- The steps of making a design over cells answer whether there is one.
+use Rattle.std.proofs.Common.{◌≡◌, ℕ, zero, suc, List, [], ◌∷◌, map, length, refl, sym, ap, ◌∙◌, subst, Option, Some, None, true, false, get_or, slice_get, arith}
+use Rattle.std.specs.Prelude.{Bool as Truth, nat_eq, ◌&&◌, if◌then◌else◌, Result, Ok, Err}
+use Rattle.std.specs.Option.{option_map, option_and_then, is_some}
+use Rattle.std.specs.List.{list_all, filter_map}
+use Rattle.std.proofs.Math.Dec.{eqb-suc-zero}
+use Rattle.std.proofs.lemmas.Option.{none-some, same_Some}
+use Rattle.uc_syntax.specs.declared.declaration.Decl.{Decl}
+use Rattle.uc_syntax.specs.declared.declaration.Decl.TheVariants.{Instance}
+use Rattle.uc_syntax.specs.declared.declaration.Module.{Module}
+use Rattle.uc_meaning.specs.Lookup.{System, instance_in, init_of, next_of}
+use Rattle.uc_meaning.specs.Cells.{Cell, cells_of}
+use Rattle.uc_flat.specs.declared.flat.Flat.{Flat}
+use Rattle.uc_flat_once.specs.Once.{written_after}
+use Rattle.uc_flat_expressions.specs.declared.typed.Meant.{Meant}
+use Rattle.uc_flat_expressions.specs.declared.typed.FlatError.{FlatError}
+use Rattle.uc_flat_expressions.specs.declared.typed.FlatError.TheVariants.{NoMemory, NotBuilt}
+use Rattle.uc_flat_expressions.specs.Answers.{IsAnswer}
+use Rattle.uc_flat_code.specs.Code.{code_of}
+use Rattle.uc_flat_names.specs.Names.{StandsAlone, names_over_cells, types_of}
+use Rattle.uc_code_meaning.specs.Sequential.{plainly}
+use Rattle.uc_step_meaning.specs.Next.{primed_behind}
+use Rattle.uc_flat_design.specs.Design.{is_built, is_cell_type, formulas_from, IsFlatOf}
+use Rattle.uc_flat_table.specs.declared.cells.OwnCell.{OwnCell}
+use Rattle.uc_flat_making.specs.Made.{IsMade, full, flat_over, if_once, next_once, made_over, made_typed, made, made_only, made_whole}
+
+-- ---- what there is where something came of it
+
+if_some : {X : Type 0} (b : Truth) (o : Option X) (y : X) → (if b then o else None) ≡ Some y → (b ≡ true) × (o ≡ Some y)
+if_some true o y h = (refl, h)
+if_some false o y h = absurd (none-some y h)
+
+then_parts : {X Y : Type 0} (f : X → Option Y) (o : Option X) (y : Y) → option_and_then f o ≡ Some y → (x : X) × (o ≡ Some x) × (f x ≡ Some y)
+then_parts f None y h = absurd (none-some y h)
+then_parts f (Some x) y h = (x, refl, h)
+
+map_parts : {X Y : Type 0} (f : X → Y) (o : Option X) (y : Y) → option_map f o ≡ Some y → (x : X) × (o ≡ Some x) × (f x ≡ y)
+map_parts f None y h = absurd (none-some y h)
+map_parts f (Some x) y h = (x, refl, same_Some (f x) y h)
+
+some_of : {X : Type 0} (o : Option X) → is_some o ≡ true → (x : X) × (o ≡ Some x)
+some_of (Some x) h = (x, refl)
+some_of None h = absurd cc
+
+-- ---- a module that stands alone
+
+second_true : (a b : Truth) → a && b ≡ true → b ≡ true
+second_true true b h = h
+second_true false b h = absurd cc
+
+no_instances : (decls : List Decl) → list_all is_built decls ≡ true → filter_map instance_in decls ≡ []
+no_instances [] h = refl
+no_instances (Instance p i m bs ∷ decls) h = absurd cc
+no_instances (other ∷ decls) h = no_instances decls (second_true (is_built other) (list_all is_built decls) h)
+
+pub stands_alone : (system : System) (code : Module) → system.modules ≡ code ∷ [] → system.main ≡ 0 → list_all is_built code.decls ≡ true → StandsAlone system code
+stands_alone system code only first built = record {
+  main = ap (slice_get system.modules) first ∙ ap (λ ms. slice_get ms 0) only;
+  alone = no_instances code.decls built;
+}
+
+-- ---- the design over cells, where there is one
+
+made_is : (system : System) (code : Module) (f : Flat) → system.modules ≡ code ∷ [] → system.main ≡ 0 → list_all is_built code.decls ≡ true → list_all is_cell_type (types_of system) ≡ true
+    → made_over (names_over_cells system code) (cells_of system) code ≡ Some f → IsFlatOf system code f
+made_is system code f only first built typed h =
+    let names = names_over_cells system code in
+    let cells = cells_of system in
+    let p = then_parts (λ init. option_and_then (λ next. option_map (flat_over cells init next) (formulas_from names 0 code.decls)) (next_once names cells code)) (code_of names plainly (init_of code)) f h in
+    let q = then_parts (λ next. option_map (flat_over cells p.0 next) (formulas_from names 0 code.decls)) (next_once names cells code) f p.2 in
+    let r = map_parts (flat_over cells p.0 q.0) (formulas_from names 0 code.decls) f q.2 in
+    let s = then_parts if_once (code_of names (primed_behind (length cells)) (next_of code)) q.0 q.1 in
+    let t = if_some (is_some (written_after s.0 [])) (Some s.0) q.0 s.2 in
+    let u = some_of (written_after s.0 []) t.0 in
+    record {
+      only = only;
+      first = first;
+      declarations = built;
+      types = typed;
+      init = p.0;
+      next = q.0;
+      after = u.0;
+      formulas = r.0;
+      init_is = p.1;
+      next_is = s.1 ∙ t.1;
+      once = ap (λ code'. written_after code' []) (sym (same_Some s.0 q.0 t.1)) ∙ u.1;
+      formulas_are = r.1;
+      is = sym r.2;
+    }
+
+made_some : (system : System) (code : Module) (f : Flat) → IsFlatOf system code f → (g : Flat) × (made_over (names_over_cells system code) (cells_of system) code ≡ Some g)
+made_some system code f is =
+    let names = names_over_cells system code in
+    let cells = cells_of system in (
+      flat_over cells is.init is.next is.formulas,
+      ap (option_and_then (λ init. option_and_then (λ next. option_map (flat_over cells init next) (formulas_from names 0 code.decls)) (next_once names cells code))) is.init_is
+          ∙ ap (option_and_then (λ next. option_map (flat_over cells is.init next) (formulas_from names 0 code.decls)))
+          (ap (option_and_then if_once) is.next_is ∙ ap (λ o. if is_some o then Some is.next else None) is.once)
+          ∙ ap (option_map (flat_over cells is.init is.next)) is.formulas_are,
+    )
+
+-- the design has its one module
+made_only_some : (system : System) (modules : List Module) (f : Flat) → made_only system modules ≡ Some f → (code : Module) × (modules ≡ code ∷ []) × (made system code ≡ Some f)
+made_only_some system [] f h = absurd (none-some f h)
+made_only_some system (code ∷ []) f h = (code, refl, h)
+made_only_some system (code ∷ (other ∷ rest)) f h = absurd (none-some f h)
+
+zero_is : (n : ℕ) → nat_eq n 0 ≡ true → n ≡ 0
+zero_is zero h = refl
+zero_is (suc n) h = let e : true ≡ false = sym h ∙ eqb-suc-zero n in absurd cc
+
+is_whole : (system : System) (code : Module) (f : Flat) → IsFlatOf system code f → (g : Flat) × (made_whole system ≡ Some g)
+is_whole system code f is =
+    let m = made_some system code f is in (
+      m.0,
+      ap (λ k. if nat_eq k 0 then made_only system system.modules else None) is.first
+          ∙ ap (made_only system) is.only
+          ∙ ap (λ b. if b then made_typed system code else None) is.declarations
+          ∙ ap (λ b. if b then made_over (names_over_cells system code) (cells_of system) code else None) is.types
+          ∙ m.1,
+    )
+
+pub whole_answer : (system : System) (r : Result Flat FlatError) → IsAnswer (made_whole system) r → IsMade system r
+whole_answer system (Err NoMemory) h = tt
+whole_answer system (Ok f) h =
+    let a = if_some (nat_eq system.main 0) (made_only system system.modules) f h in
+    let b = made_only_some system system.modules f a.1 in
+    let c = if_some (list_all is_built (b.0).decls) (made_typed system b.0) f b.2 in
+    let d = if_some (list_all is_cell_type (types_of system)) (made_over (names_over_cells system b.0) (cells_of system) b.0) f c.1 in
+    (b.0, made_is system b.0 f b.1 (zero_is system.main a.0) c.0 d.0 d.1)
+whole_answer system (Err NotBuilt) h = λ code f is. let w = is_whole system code f is in none-some w.0 (sym h ∙ w.1)
+
+-- ---- the steps of the answer
+
+pub not_first : (system : System) (n : ℕ) → n ≡ system.main → (n ≡ 0 → ⊥) → made_whole system ≡ None
+not_first system n e h = by system.main (λ z. h (e ∙ z))
+  where
+    by : (k : ℕ) → (k ≡ 0 → ⊥) → (if nat_eq k 0 then made_only system system.modules else None) ≡ None
+    by zero g = absurd (g refl)
+    by (suc k) g = ap (λ b. if b then made_only system system.modules else None) (eqb-suc-zero k)
+
+not_single : (system : System) (modules : List Module) → (length modules ≡ 1 → ⊥) → made_only system modules ≡ None
+not_single system [] h = refl
+not_single system (code ∷ []) h = absurd (h refl)
+not_single system (code ∷ (other ∷ rest)) h = refl
+
+pub not_one : (system : System) (modules : List Module) → modules ≡ system.modules → system.main ≡ 0 → (length modules ≡ 1 → ⊥) → made_whole system ≡ None
+not_one system modules e first h =
+    ap (λ k. if nat_eq k 0 then made_only system system.modules else None) first ∙ not_single system system.modules (λ l. h (ap length e ∙ l))
+
+pub of_one : (system : System) (code : Module) (r : Result Flat FlatError) → system.modules ≡ code ∷ [] → system.main ≡ 0 → IsAnswer (made system code) r → IsAnswer (made_whole system) r
+of_one system code r only first h =
+    subst (λ o. IsAnswer o r) (sym (ap (λ k. if nat_eq k 0 then made_only system system.modules else None) first ∙ ap (made_only system) only)) h
+
+-- the first of one
+pub one_item : (xs : List Module) (x : Module) → length xs ≡ 1 → x ≡ get_or xs 0 x → xs ≡ x ∷ []
+one_item [] x h e = absurd (omega (arith, h))
+one_item (y ∷ []) x h e = ap (λ z. z ∷ []) (sym e)
+one_item (y ∷ (z ∷ zs)) x h e = absurd (omega (arith, h))
+
+pub over_answer : (names other : List Meant) (cells : List Cell) (own : List OwnCell) (code : Module) (r : Result Flat FlatError) → names ≡ other → cells ≡ map full own
+    → IsAnswer (made_over names (map full own) code) r → IsAnswer (made_over other cells code) r
+over_answer names other cells own code r e f h = subst (λ cs. IsAnswer (made_over other cs code) r) (sym f) (subst (λ ns. IsAnswer (made_over ns (map full own) code) r) e h)

@@ -1,0 +1,72 @@
+-- The design over numbered cells of a design, or that it has none.
+use Rattle.std.specs.Prelude.{nat_eq, List, [], ◌∷◌, map, length, if◌then◌else◌, Option, Some, None, Result, Ok, Err}
+use Rattle.std.specs.Option.{option_map, option_and_then, is_some}
+use Rattle.std.specs.List.{list_all}
+use Rattle.uc_syntax.specs.declared.declaration.Module.{Module}
+use Rattle.uc_meaning.specs.Lookup.{System, init_of, next_of}
+use Rattle.uc_meaning.specs.Cells.{Cell, cells_of}
+use Rattle.uc_flat.specs.declared.flat.Flat.{Flat}
+use Rattle.uc_flat.specs.declared.flat.Formula.{Formula}
+use Rattle.uc_flat.specs.declared.statement.Statement.{Statement}
+use Rattle.uc_flat_once.specs.Once.{written_after}
+use Rattle.uc_flat_expressions.specs.declared.typed.Meant.{Meant}
+use Rattle.uc_flat_expressions.specs.declared.typed.FlatError.{FlatError}
+use Rattle.uc_flat_expressions.specs.declared.typed.FlatError.TheVariants.{NoMemory, NotBuilt}
+use Rattle.uc_flat_code.specs.Code.{code_of}
+use Rattle.uc_flat_names.specs.Names.{names_over_cells, types_of}
+use Rattle.uc_code_meaning.specs.Sequential.{plainly}
+use Rattle.uc_step_meaning.specs.Next.{primed_behind, step_code}
+use Rattle.uc_flat_table.specs.declared.cells.OwnCell.{OwnCell}
+use Rattle.uc_flat_design.specs.Design.{is_built, is_cell_type, flat_cell, formulas_from, IsFlatOf}
+
+-- The answer is the design over cells, or there is none; want of memory says nothing.
+abbrev pub IsMade : System → Result Flat FlatError → Type 0
+IsMade system (Ok f) = (code : Module) × IsFlatOf system code f
+IsMade system (Err NotBuilt) = (code : Module) (f : Flat) → IsFlatOf system code f → ⊥
+IsMade system (Err NoMemory) = Unit {0}
+
+-- ---- the steps of making it
+
+-- a cell of main as one of the design
+abbrev pub full : OwnCell → Cell
+full c = record { path = []; name = c.name; kind = c.kind; type = c.ty }
+
+abbrev pub flat_over : List Cell → List Statement → List Statement → List Formula → Flat
+flat_over cells init next formulas = record {
+  cells = map flat_cell cells;
+  constants = [];
+  functions = [];
+  init = init;
+  step = step_code cells next;
+  sites = [];
+  formulas = formulas;
+  axioms = 0;
+}
+
+-- code that writes no cell twice on one way
+abbrev pub if_once : List Statement → Option (List Statement)
+if_once code = if is_some (written_after code []) then Some code else None
+
+abbrev pub next_once : List Meant → List Cell → Module → Option (List Statement)
+next_once names cells code = option_and_then if_once (code_of names (primed_behind (length cells)) (next_of code))
+
+-- the design over cells by what the names stand for
+abbrev pub made_over : List Meant → List Cell → Module → Option Flat
+made_over names cells code =
+    option_and_then (λ init. option_and_then (λ next. option_map (flat_over cells init next) (formulas_from names 0 code.decls)) (next_once names cells code)) (code_of names plainly (init_of code))
+
+-- the same, where the types of all cells are built
+abbrev pub made_typed : System → Module → Option Flat
+made_typed system code = if list_all is_cell_type (types_of system) then made_over (names_over_cells system code) (cells_of system) code else None
+
+-- the same, where all declarations are built
+abbrev pub made : System → Module → Option Flat
+made system code = if list_all is_built code.decls then made_typed system code else None
+
+abbrev pub made_only : System → List Module → Option Flat
+made_only system (code ∷ []) = made system code
+made_only system modules = None
+
+-- the design over cells of a design of one module
+abbrev pub made_whole : System → Option Flat
+made_whole system = if nat_eq system.main 0 then made_only system system.modules else None

@@ -1,0 +1,85 @@
+//! The tests of a design, and what is made of it.
+
+ghost use Rattle.std.specs.Prelude.{◌≡◌, ◌∷◌, [], true};
+ghost use Rattle.std.specs.List.{list_all};
+ghost use Rattle.uc_meaning.specs.Cells.{cells_of};
+ghost use Rattle.uc_flat_expressions.specs.Answers.{IsAnswer};
+ghost use Rattle.uc_flat_names.specs.Names.{StandsAlone, names_over_cells};
+ghost use Rattle.uc_flat_design.specs.Design.{is_built};
+ghost use Rattle.uc_flat_making.specs.Made.{IsMade, made_over, made_typed, made, made_whole};
+
+use crate::pieces::made_over;
+use std::alloc::Global;
+use uc_cell_types::are_cell_types;
+use uc_flat::Flat;
+use uc_flat_expressions::FlatError;
+use uc_flat_parts::are_built;
+use uc_flat_table::{cell_types_of, names_table, own_cells};
+use uc_syntax::Module;
+use uc_type_reader::Tables;
+
+/// The design over numbered cells of a design, where this is one of one module whose declarations, types, code and invariants are built, and
+/// whose next block writes no cell twice on one way.
+pub fn flat_design(alloc: Global, tables: &Tables) -> Result<Flat, FlatError>
+    ensures { IsMade tables.now result }
+{
+    let system = tables.system();
+    of_modules(alloc, tables, system.main, system.modules)
+}
+
+/// The design over cells of the modules of a design.
+#[tactic(auto, using(crate::proofs::Answered::not_first, crate::proofs::Answered::not_one, crate::proofs::Answered::one_item, crate::proofs::Answered::of_one))]
+fn of_modules(
+    alloc: Global,
+    tables: &Tables,
+    main: u32,
+    modules: &[Module],
+) -> Result<Flat, FlatError>
+    requires main { main ≡ tables.now.main }
+    requires modules { modules.now ≡ tables.now.modules }
+    ensures { IsAnswer (made_whole tables.now) result }
+{
+    if main != 0 {
+        return Err(FlatError::NotBuilt);
+    }
+    if modules.len() != 1 {
+        return Err(FlatError::NotBuilt);
+    }
+    of_module(alloc, tables, &modules[0])
+}
+
+/// The design over cells of the one module.
+fn of_module(alloc: Global, tables: &Tables, code: &Module) -> Result<Flat, FlatError>
+    requires only { tables.now.modules ≡ code.now ∷ [] }
+    requires first { tables.now.main ≡ 0 }
+    ensures { IsAnswer (made tables.now code.now) result }
+{
+    if !are_built(code.decls.as_slice()) {
+        return Err(FlatError::NotBuilt);
+    }
+    of_declarations(alloc, tables, code)
+}
+
+/// The same, where all declarations are built.
+fn of_declarations(alloc: Global, tables: &Tables, code: &Module) -> Result<Flat, FlatError>
+    requires only { tables.now.modules ≡ code.now ∷ [] }
+    requires first { tables.now.main ≡ 0 }
+    requires built { list_all is_built code.now.decls ≡ true }
+    ensures { IsAnswer (made_typed tables.now code.now) result }
+{
+    let types = cell_types_of(alloc, tables, code)?;
+    if !are_cell_types(types.as_slice()) {
+        return Err(FlatError::NotBuilt);
+    }
+    over_cells(alloc, tables, code)
+}
+
+/// The same, where all types are built too.
+fn over_cells(alloc: Global, tables: &Tables, code: &Module) -> Result<Flat, FlatError>
+    requires { StandsAlone tables.now code.now }
+    ensures { IsAnswer (made_over (names_over_cells tables.now code.now) (cells_of tables.now) code.now) result }
+{
+    let names = names_table(alloc, tables, code)?;
+    let cells = own_cells(alloc, tables, code)?;
+    made_over(alloc, names.as_slice(), cells.as_slice(), code)
+}

@@ -1,0 +1,162 @@
+//! The design over cells by its cells and by what its names stand for.
+
+ghost use Rattle.std.specs.Prelude.{◌≡◌, ◌++◌, Some, map, length, IfOk};
+ghost use Rattle.uc_meaning.specs.Lookup.{init_of};
+ghost use Rattle.uc_flat_expressions.specs.Answers.{IsAnswer};
+ghost use Rattle.uc_flat_code.specs.Code.{code_of};
+ghost use Rattle.uc_code_meaning.specs.Sequential.{plainly};
+ghost use Rattle.uc_step_meaning.specs.Next.{inputs_from, step_code};
+ghost use Rattle.uc_flat_design.specs.Design.{flat_cell};
+ghost use Rattle.uc_flat_making.specs.Made.{full, flat_over, next_once, made_over};
+
+use std::alloc::{AllocError, Global};
+use uc_flat::{Cell, Flat, Formula, Statement};
+use uc_flat_blocks::{init_code, next_code};
+use uc_flat_code::Writing;
+use uc_flat_expressions::{FlatError, Meant};
+use uc_flat_once::writes_once;
+use uc_flat_parts::{formulas, inputs};
+use uc_flat_table::OwnCell;
+use uc_items::Items;
+use uc_syntax::{Module, VariableKind};
+use uc_values::copy_ty;
+
+/// The cells, each with its name and its type, of main itself.
+fn flat_cells(alloc: Global, cells: &[OwnCell]) -> Result<Items<Cell>, AllocError>
+    ensures { IfOk result (λ all. all ≡ map flat_cell (map full cells.now)) }
+{
+    let mut all = Items::new(alloc);
+    for cell in cells {
+        let made = flat_cell(alloc, cell)?;
+        all.push(made)?;
+    }
+    Ok(all)
+}
+
+fn flat_cell(alloc: Global, cell: &OwnCell) -> Result<Cell, AllocError>
+    ensures { IfOk result (λ c. c ≡ flat_cell (full cell.now)) }
+{
+    let ty = copy_ty(alloc, &cell.ty)?;
+    Ok(Cell {
+        path: Items::new(alloc),
+        name: cell.name,
+        ty,
+    })
+}
+
+fn kinds_of(alloc: Global, cells: &[OwnCell]) -> Result<Items<VariableKind>, AllocError>
+    ensures { IfOk result (λ kinds. map (λ c. c.kind) (map full cells.now) ≡ kinds) }
+{
+    let mut kinds = Items::new(alloc);
+    for cell in cells {
+        kinds.push(cell.kind)?;
+    }
+    Ok(kinds)
+}
+
+/// The code in which the inputs get any values.
+fn input_code(alloc: Global, cells: &[OwnCell], count: u32) -> Result<Items<Statement>, FlatError>
+    ensures { IsAnswer (Some (inputs_from count (map full cells.now))) result }
+{
+    let kinds = kinds_of(alloc, cells)?;
+    inputs(alloc, kinds.as_slice(), count)
+}
+
+/// A step's code.
+fn step_code(
+    alloc: Global,
+    cells: &[OwnCell],
+    count: u32,
+    next: Items<Statement>,
+) -> Result<Items<Statement>, FlatError>
+    ensures { IsAnswer (Some (inputs_from count (map full cells.now) ++ next)) result }
+{
+    let mut code = input_code(alloc, cells, count)?;
+    code.append(next)?;
+    Ok(code)
+}
+
+fn flat_over(
+    alloc: Global,
+    cells: &[OwnCell],
+    count: u32,
+    init: Items<Statement>,
+    next: Items<Statement>,
+    formulas: Items<Formula>,
+) -> Result<Flat, FlatError>
+    requires { count ≡ length (map full cells.now) }
+    ensures { IsAnswer (Some (flat_over (map full cells.now) init next formulas)) result }
+{
+    let step = step_code(alloc, cells, count, next)?;
+    let cells = flat_cells(alloc, cells)?;
+    Ok(Flat {
+        cells,
+        constants: Items::new(alloc),
+        functions: Items::new(alloc),
+        init,
+        step,
+        sites: Items::new(alloc),
+        formulas,
+        axioms: 0,
+    })
+}
+
+/// The code of the `next` block, where it writes no cell twice on one way.
+fn next_once(
+    alloc: Global,
+    names: &[Meant],
+    cells: &[OwnCell],
+    count: u32,
+    code: &Module,
+) -> Result<Items<Statement>, FlatError>
+    requires { count ≡ length (map full cells.now) }
+    ensures { IsAnswer (next_once names.now (map full cells.now) code.now) result }
+{
+    let writing = Writing {
+        primed: true,
+        shift: count,
+    };
+    let next = next_code(alloc, names, writing, code)?;
+    let is_once = writes_once(alloc, next.as_slice())?;
+    if !is_once {
+        return Err(FlatError::NotBuilt);
+    }
+    Ok(next)
+}
+
+fn plain_code(alloc: Global, names: &[Meant], code: &Module) -> Result<Items<Statement>, FlatError>
+    ensures { IsAnswer (code_of names.now plainly (init_of code.now)) result }
+{
+    let writing = Writing {
+        primed: false,
+        shift: 0,
+    };
+    init_code(alloc, names, writing, code)
+}
+
+/// How many cells there are. Their numbers are below 2^32: more count as want of memory.
+#[tactic(auto, using(crate::proofs::Lengths::same_length))]
+fn count_of(cells: &[OwnCell]) -> Result<u32, AllocError>
+    ensures { IfOk result (λ count. count ≡ length (map full cells.now)) }
+{
+    match u32::try_from(cells.len()) {
+        Ok(count) => Ok(count),
+        Err(_) => Err(AllocError),
+    }
+}
+
+/// The design over cells by its cells and by what its names stand for.
+pub(crate) fn made_over(
+    alloc: Global,
+    names: &[Meant],
+    cells: &[OwnCell],
+    code: &Module,
+) -> Result<Flat, FlatError>
+    ensures { IsAnswer (made_over names.now (map full cells.now) code.now) result }
+{
+    let count = count_of(cells)?;
+    let init = plain_code(alloc, names, code)?;
+    let next = next_once(alloc, names, cells, count, code)?;
+    let formulas = formulas(alloc, names, code.decls.as_slice())?;
+    flat_over(alloc, cells, count, init, next, formulas)
+}
