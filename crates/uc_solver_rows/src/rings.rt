@@ -9,26 +9,65 @@ const A: Lit = Lit { var: 0, neg: false };
 
 const NOT_A: Lit = Lit { var: 0, neg: true };
 
-/// Rings of four clauses, and then eight, in which the slots 5 and 0 stand in the list of A.
-fn linked(alloc: Global) -> Result<Rings, AllocError>
-    ensures { IfOk result (λ r. r ≡ record { clauses = 8; lists = (5 ∷ 0 ∷ []) ∷ [] ∷ [] ∷ [] ∷ [] ∷ [] ∷ [] }) }
+const NOT_C: Lit = Lit { var: 2, neg: true };
+
+/// Rings of four clauses over three variables, in which first slot 0 and then slot 3 was put at the front of the list of A.
+fn chain(alloc: Global) -> Result<Rings, AllocError>
+    ensures { IfOk result (λ r. r ≡ record { clauses = 4; lists = (3 ∷ 0 ∷ []) ∷ [] ∷ [] ∷ [] ∷ [] ∷ [] ∷ [] }) }
 {
     let mut rings = Rings::new(alloc)?;
     rings.grow(4, 6)?;
     rings.link_front(A, 0);
-    rings.link_front(A, 5);
+    rings.link_front(A, 3);
+    Ok(rings)
+}
+
+#[test]
+fn the_slot_linked_last_comes_first(rt: HostRuntime) -> Result<(), Fail> {
+    let rings = chain(rt.alloc())?;
+    assert_eq!(rt; rings.first(A), Some(3));
+    assert_eq!(rt; rings.after(3), Some(0));
+    assert_eq!(rt; rings.after(0), None);
+    assert_eq!(rt; rings.first(NOT_A), None);
+    Ok(())
+}
+
+#[test]
+fn the_last_slot_is_taken_out_and_the_other_stands_alone(rt: HostRuntime) -> Result<(), Fail> {
+    let mut rings = chain(rt.alloc())?;
+    rings.unlink(0);
+    assert_eq!(rt; rings.first(A), Some(3));
+    assert_eq!(rt; rings.after(3), None);
+    Ok(())
+}
+
+#[test]
+fn the_first_slot_is_taken_out_and_linked_to_another_literal(rt: HostRuntime) -> Result<(), Fail> {
+    let mut rings = chain(rt.alloc())?;
+    rings.unlink(3);
+    rings.link_front(NOT_C, 3);
+    assert_eq!(rt; rings.first(A), Some(0));
+    assert_eq!(rt; rings.after(0), None);
+    assert_eq!(rt; rings.first(NOT_C), Some(3));
+    assert_eq!(rt; rings.after(3), None);
+    Ok(())
+}
+
+/// The same rings, grown to eight clauses.
+fn grown_chain(alloc: Global) -> Result<Rings, AllocError>
+    ensures { IfOk result (λ r. r ≡ record { clauses = 8; lists = (3 ∷ 0 ∷ []) ∷ [] ∷ [] ∷ [] ∷ [] ∷ [] ∷ [] }) }
+{
+    let mut rings = chain(alloc)?;
     rings.grow(8, 6)?;
     Ok(rings)
 }
 
 #[test]
-fn lists_keep_their_slots(rt: HostRuntime) -> Result<(), Fail> {
-    let mut rings = linked(rt.alloc())?;
-    assert_eq!(rt; rings.first(A), Some(5));
-    assert_eq!(rt; rings.after(5), Some(0));
+fn growing_keeps_a_linked_list(rt: HostRuntime) -> Result<(), Fail> {
+    let rings = grown_chain(rt.alloc())?;
+    assert_eq!(rt; rings.first(A), Some(3));
+    assert_eq!(rt; rings.after(3), Some(0));
     assert_eq!(rt; rings.after(0), None);
-    rings.unlink(5);
-    assert_eq!(rt; rings.first(A), Some(0));
     assert_eq!(rt; rings.first(NOT_A), None);
     Ok(())
 }
