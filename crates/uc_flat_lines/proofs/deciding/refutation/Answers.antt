@@ -3,6 +3,7 @@ use Rattle.uc_symstep.proofs.Grown.{grows_length}
 use Rattle.uc_flat_lines.specs.Deciding.{IsSolution}
 use Rattle.uc_flat_lines.proofs.Unrollings.{state_within, state_ready, axioms_ready}
 use Rattle.uc_flat_lines.proofs.Outcomes.{goal_there, none_all, one_all}
+use Rattle.uc_flat_lines.proofs.Knowing.{goal_known, honest_after}
 use Rattle.uc_flat_lines.proofs.deciding.refutation.Goals as goal
 
 pub refuted_term-requires-clause-axioms : goal.refuted_term-requires-clause-axioms
@@ -29,3 +30,8 @@ pub returns-in_ok-trace-in-Some-clause-outcome : goal.returns-in_ok-trace-in-Som
 returns-in_ok-trace-in-Some-clause-outcome g c =
     one_all c.args.f.now c.args.k c.args.steps _ _ _ c.args.run.now _ c.index-states-steps.result _ _ c.requires.sound c.requires.there c.requires.unrolled c.as_slice-states.ensures c.index-states-steps.is c.in_ok-goal.ensures.ok
     c.in_ok-solution.ensures.grown c.in_ok-trace-in-Some.ensures
+
+pub returns-in_err-solution-clause-honest : goal.returns-in_err-solution-clause-honest
+returns-in_err-solution-clause-honest g c =
+    honest_after c.args.f.now c.args.budget c.args.steps _ _ _ (goal_known c.args.f.now _ _ c.args.steps c.args.run.now _ c.index-states-steps.result _ c.requires.unrolled c.as_slice-states.ensures c.index-states-steps.is c.in_ok-goal.ensures.known)
+    c.in_err-solution.ensures.honest
