@@ -1,5 +1,5 @@
 -- Known terms stay known, and what is made of them is known.
-use Rattle.std.proofs.Common.{◌≡◌, ℕ, ◌+◌, ◌<◌, ◌≤◌, List, [], ◌∷◌, ◌++◌, length, map, Option, Some, refl, sym, ap, ◌∙◌, subst, arith, slice_get, slice_set, zero, suc, take, drop, get_or, append-nil, append_assoc, length-append}
+use Rattle.std.proofs.Common.{◌≡◌, ℕ, ◌+◌, ◌<◌, ◌≤◌, List, [], ◌∷◌, ◌++◌, length, map, Some, refl, sym, ap, ◌∙◌, subst, arith, slice_get, slice_set, zero, suc, take, drop, get_or, append-nil, append_assoc, length-append}
 use Rattle.std.specs.Prelude.{All, Contains, Bool as Truth}
 use Rattle.std.specs.List.{flat_map}
 use Rattle.std.proofs.lemmas.List.{take_more, map-append, take_all, length-take-le, length-map}

@@ -5,7 +5,7 @@ use Rattle.uc_symstep.proofs.Grown.{grows_on, cells_grow}
 use Rattle.uc_symstep.proofs.States.{truth_grows}
 use Rattle.uc_symstep.proofs.Branches.{second_state}
 use Rattle.uc_symstep.proofs.Doing.{assign_fine, havoc_fine, assume_fine, assert_fine, if_fine, first_fine, second_fine, one_at, size_if, size_at, follows_none, follows_more, assign_goes, havoc_goes, assume_goes, assert_goes, if_goes}
-use Rattle.uc_symstep.proofs.Known.{code_none, code_more, code_end, assign_read, assume_read, assert_read, assign_extends, havoc_extends, assume_extends, assert_extends, if_extends}
+use Rattle.uc_symstep.proofs.Known.{code_none, code_more, assign_read, assume_read, assert_read, assign_extends, havoc_extends, assume_extends, assert_extends, if_extends}
 use Rattle.uc_symstep.proofs.code.+sym_code.Goals as goal
 
 pub sym_code-loop-statement-init : goal.sym_code-loop-statement-init
