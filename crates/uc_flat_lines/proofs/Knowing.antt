@@ -62,10 +62,10 @@ brought supply nodes t number ty h b = symbol_below supply nodes t b.place numbe
 pub simpler_known : (supply : List Ty) (old new : List Node) (t u : ℕ) → WellTyped new → u < length new → BringsNoMore new u old t → IsKnown supply old t → IsKnown supply new u
 simpler_known supply old new t u w there no_more h = known_so supply new w u there (λ k number ty s has.
     let node = at_place new k (subterm_there new u k w there s) in
-    brought supply old t number ty h (no_more (symbol number ty) (record { place = k; below = s; bears = record { node = node.0; there = node.1; shows = op_at node.0 node.1 number ty has } })))
+    brought supply old t number ty h (no_more (symbol number ty) (record { place = k; below = s; bears = record { node = node.0; there = node.1; shows = op_at k node.0 node.1 number ty has } })))
   where
-    op_at : {k : ℕ} (node : Node) → slice_get new k ≡ Some node → (number : ℕ) (ty : Ty) → HasOp new k (Symbol number ty) → node.op ≡ Symbol number ty
-    op_at node at number ty has = let e : Some node.op ≡ Some (Symbol number ty) = sym (ap (option_map (λ (n : Node). n.op)) at) ∙ has in cc
+    op_at : (k : ℕ) (node : Node) → slice_get new k ≡ Some node → (number : ℕ) (ty : Ty) → HasOp new k (Symbol number ty) → node.op ≡ Symbol number ty
+    op_at k node at number ty has = let e : Some node.op ≡ Some (Symbol number ty) = sym (ap (option_map (λ (n : Node). n.op)) at) ∙ has in cc
 
 pub state_known : (supply : List Ty) (old mid new : List Node) (s : SymState) (own cells : List ℕ) (path next : ℕ) → Grows old mid → Grows mid new → own ≡ s.cells
     → (All (IsKnown supply old) own → All (IsKnown supply mid) cells) → (IsKnown supply mid s.path → IsKnown supply new path)
@@ -184,8 +184,8 @@ goal_known f now new n u run s goal h i j made reads =
     place (y ∷ xs) (suc k) x l q = place xs k x (omega (arith, l)) q
 
 pub honest_after : (f : Flat) (budget n : ℕ) (nodes : List Node) (goal : ℕ) (why : FlatWhy) → (ReadsOwnTypes f → IsKnown (supply_after f n) nodes goal) → IsHonestFor budget nodes goal why → IsHonestAfter f budget n why
-honest_after f budget n nodes goal Budget known_so h reads = h (supply_after f n) (known_so reads)
-honest_after f budget n nodes goal Memory known_so h = tt
+honest_after f budget n nodes goal Budget k h = λ reads. h (supply_after f n) (k reads)
+honest_after f budget n nodes goal Memory k h = tt
 
 pub axiom_read : (supply : List Ty) (formulas : List Formula) (k : ℕ) (x : Formula) → slice_get formulas k ≡ Some x → AllReadTyped supply formulas → ReadsTyped supply x.condition
 axiom_read supply formulas k x at h =

@@ -94,7 +94,7 @@ has_number op n = elim (kind_of op) [
     | inl i ↦ inl (ty, e ∙ ap (λ x. Symbol x ty) i)
     | inr differs ↦ inr (λ r. differs (same_number op m n ty r.0 e r.1))
   ]
-  | other_kind no ↦ inr (λ r. no n r.0 r.1)
+  | other_kind never ↦ inr (λ r. never n r.0 r.1)
 ]
 
 -- the term is below t, and is the symbol of a number
@@ -107,9 +107,9 @@ is_symbol_at : (nodes : List Node) (t number k : ℕ) → WellTyped nodes → t 
 is_symbol_at nodes t number k w there l = elim (is_below nodes w k t there) [
   | inl s ↦ elim (has_number node.0.op number) [
     | inl p ↦ inl (record { below = s; ty = p.0; has = ap (option_map (λ (n : Node). n.op)) node.1 ∙ ap Some p.1 })
-    | inr no ↦ inr (λ a. no (a.ty, op_is nodes k node.0 (Symbol number a.ty) node.1 a.has))
+    | inr never ↦ inr (λ a. never (a.ty, op_is nodes k node.0 (Symbol number a.ty) node.1 a.has))
   ]
-  | inr no ↦ inr (λ a. no a.below)
+  | inr never ↦ inr (λ a. never a.below)
 ]
   where
     node : (n : Node) × (slice_get nodes k ≡ Some n)
