@@ -1,6 +1,6 @@
 -- Which terms are subterms of a term: this can be decided.
-use Rattle.std.specs.Prelude.{◌≡◌, ℕ, zero, suc, ◌+◌, ◌<◌, ◌≤◌, Bool as Truth, true, false, List, [], ◌∷◌, length, get_or, nat_eq, All, Contains}
-use Rattle.std.proofs.Common.{refl, sym, ap, ◌∙◌, subst, arith, ◌⊎◌, inl, inr}
+use Rattle.std.specs.Prelude.{◌≡◌, ℕ, zero, suc, ◌+◌, ◌<◌, Bool as Truth, true, false, List, [], ◌∷◌, length, get_or, nat_eq, All, Contains}
+use Rattle.std.proofs.Common.{refl, sym, subst, arith, ◌⊎◌, inl, inr}
 use Rattle.std.proofs.lemmas.Bool.Decides.{nat_tests}
 use Rattle.std.proofs.lemmas.List.Elements.{All-head, All-tail}
 use Rattle.uc_ops.specs.declared.node.Node.{Node}

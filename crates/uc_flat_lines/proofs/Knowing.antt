@@ -1,5 +1,5 @@
 -- Known terms of axioms, goals and states, over simplified terms.
-use Rattle.std.proofs.Common.{◌≡◌, ℕ, ◌+◌, ◌<◌, ◌≤◌, List, [], ◌∷◌, ◌++◌, length, map, take, Some, refl, sym, ap, ◌∙◌, subst, arith, get_or, slice_get, zero, suc, append-nil, append_assoc, length-append, add-one}
+use Rattle.std.proofs.Common.{◌≡◌, ℕ, ◌+◌, ◌<◌, List, [], ◌∷◌, ◌++◌, length, Some, refl, sym, ap, ◌∙◌, subst, arith, get_or, slice_get, zero, suc, append-nil, append_assoc, add-one}
 use Rattle.std.specs.Prelude.{All, Contains}
 use Rattle.std.specs.Option.{option_map}
 use Rattle.std.proofs.lemmas.List.Elements.{All-nil, All-cons, All-contains, All-weaker}
@@ -13,7 +13,7 @@ use Rattle.uc_terms.specs.Subterms.{IsSubterm, itself, deeper}
 use Rattle.uc_terms.proofs.Grown.{parts-node}
 use Rattle.uc_lower.proofs.Growing.{parts_before}
 use Rattle.uc_models.proofs.Setting.{subterm_there}
-use Rattle.uc_simplify.specs.Features.{Feature, symbol, Bears, Brings, BringsNoMore}
+use Rattle.uc_simplify.specs.Features.{symbol, Brings, BringsNoMore}
 use Rattle.uc_flat.specs.declared.expression.Expression.{Expression}
 use Rattle.uc_flat.specs.declared.statement.Statement.{Statement}
 use Rattle.uc_flat.specs.declared.flat.Flat.{Flat}
@@ -29,7 +29,6 @@ use Rattle.uc_flat_lines.specs.declared.unrolling.Unrolling.{Unrolling}
 use Rattle.uc_flat_lines.specs.declared.line.FlatWhy.{FlatWhy}
 use Rattle.uc_flat_lines.specs.declared.line.FlatWhy.TheVariants.{Memory, Budget}
 use Rattle.uc_flat_lines.specs.Unrolling.{AllReadTyped, KnowsLast, IsUnrolled}
-use Rattle.uc_flat_lines.specs.Lines.{free_bits}
 use Rattle.uc_flat_lines.specs.Deciding.{IsHonestFor, IsHonestAfter}
 use Rattle.uc_flat_lines.proofs.Supplied.{symbol_below}
 
@@ -47,9 +46,9 @@ module _ (supply : List Ty) (nodes : List Node) (w : WellTyped nodes) (goal : �
       let node = at_place nodes t inside in
       known t node.0 node.1 (λ number ty e. h t number ty s (ap (option_map (λ (n : Node). n.op)) node.1 ∙ ap Some e))
       (λ p c.
-          let d : Contains (parts_at nodes t) p = subst (λ ps. Contains ps p) (sym (parts-node nodes t node.0 node.1)) c in
-          let before : p < t = All-contains (λ q. q < t) (parts_at nodes t) p (parts_before nodes t w inside) d in
-          known_within bound p (omega (arith, l, before)) (deeper t p s d))
+      let d : Contains (parts_at nodes t) p = subst (λ ps. Contains ps p) (sym (parts-node nodes t node.0 node.1)) c in
+      let before : p < t = All-contains (λ q. q < t) (parts_at nodes t) p (parts_before nodes t w inside) d in
+      known_within bound p (omega (arith, l, before)) (deeper t p s d))
 
   -- where this holds, the term is known
   known_so : IsKnown supply nodes goal

@@ -1,5 +1,5 @@
 -- The bits of a known goal, and what an answer that the budget is spent says of them.
-use Rattle.std.specs.Prelude.{◌≡◌, ◌≢◌, ℕ, zero, suc, ◌+◌, ◌<◌, ◌≤◌, ◌^◌, Bool as Truth, true, false, List, [], ◌∷◌, ◌++◌, length, take, get_or, slice_get, Some, All, Contains, Result, Err, nat_le}
+use Rattle.std.specs.Prelude.{◌≡◌, ◌≢◌, ℕ, zero, suc, ◌+◌, ◌<◌, ◌≤◌, ◌^◌, Bool as Truth, true, false, List, [], ◌∷◌, ◌++◌, length, take, slice_get, Some, All, Contains, Result, Err, nat_le}
 use Rattle.std.specs.Option.{option_map}
 use Rattle.std.proofs.Common.{refl, sym, ap, ◌∙◌, subst, arith, ◌⊎◌, inl, inr}
 use Rattle.std.proofs.lemmas.Bool.Decides.{nat_tests}
@@ -9,12 +9,12 @@ use Rattle.std.proofs.lemmas.List.Elements.{All-nil, All-cons}
 use Rattle.uc_values.specs.Sizes.{bit_count}
 use Rattle.uc_values.specs.declared.ty.Ty.{Ty}
 use Rattle.uc_ops.specs.declared.op.Op.{Op}
-use Rattle.uc_ops.specs.declared.op.Op.TheVariants.{Symbol}
+use Rattle.uc_ops.specs.declared.op.Op.TheVariants.{Symbol, App}
 use Rattle.uc_ops.specs.declared.node.Node.{Node}
 use Rattle.uc_ops.specs.Typing.{Suits, type_at, type_in, type_of, types_at}
 use Rattle.uc_ops.proofs.Lists.{at_place}
 use Rattle.uc_terms.specs.Tables.{HasOp, WellTyped, NoTwoEqual, parts_at}
-use Rattle.uc_terms.specs.Subterms.{IsSubterm, itself, deeper}
+use Rattle.uc_terms.specs.Subterms.{IsSubterm, itself, deeper, EvenlyTyped}
 use Rattle.uc_terms.proofs.Grown.{parts-node}
 use Rattle.uc_lower.specs.Bits.{bits_or, type_bits, bits_at, IsSymbolBelow}
 use Rattle.uc_lower.proofs.Bits.{type_bits-append}
@@ -47,6 +47,15 @@ known_symbol supply nodes t number ty (known u node there symbol parts) has = sy
 -- each symbol at or below a known term has its type in the supply, at its number
 pub symbol_below : (supply : List Ty) (nodes : List Node) (t k number : ℕ) (ty : Ty) → IsKnown supply nodes t → IsSubterm nodes t k → HasOp nodes k (Symbol number ty) → slice_get supply number ≡ Some ty
 symbol_below supply nodes t k number ty h s has = known_symbol supply nodes k number ty (known_below supply nodes t h k s) has
+
+-- a known term without functions gives each number one type
+pub known_even : (supply : List Ty) (nodes : List Node) (t : ℕ) → IsKnown supply nodes t → ((k number : ℕ) (ty : Ty) → IsSubterm nodes t k → ¬ HasOp nodes k (App number ty)) → EvenlyTyped nodes t
+known_even supply nodes t h none = record {
+  symbols = λ j k number r s sj sk hj hk.
+      let e : Some r ≡ Some s = sym (symbol_below supply nodes t j number r h sj hj) ∙ symbol_below supply nodes t k number s h sk hk in
+      cc;
+  functions = λ j k number r s sj sk hj hk. absurd (none j number r sj hj);
+}
 
 -- Symbols are one term where their numbers and types are the same.
 

@@ -15,5 +15,5 @@ mod solving;
 mod unrolling;
 
 pub use judging::judge_flat;
-pub use law::reads_own_types;
+pub use law::{is_even_where_known, reads_own_types};
 pub use line::{FlatLine, FlatVerdict, FlatWhy};
