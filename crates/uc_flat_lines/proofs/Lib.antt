@@ -4,3 +4,6 @@ pub mod Alike
 pub mod Read
 pub mod Outcomes
 pub mod Judged
+pub mod Below
+pub mod Supplied
+pub mod Knowing

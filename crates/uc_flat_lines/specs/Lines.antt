@@ -1,8 +1,10 @@
 -- The lines of a design up to a number of steps, and what is right of their verdicts.
-use Rattle.std.specs.Prelude.{◌≡◌, ℕ, zero, suc, ◌+◌, ◌*◌, ◌≤◌, ◌^◌, Bool, true, false, nat_eq, List, [], ◌++◌, map, length, slice_get, count_by, Option, None, Some, All}
+use Rattle.std.specs.Prelude.{◌≡◌, ℕ, zero, suc, ◌+◌, ◌*◌, ◌<◌, ◌≤◌, ◌^◌, Bool, true, false, nat_eq, List, [], ◌++◌, map, length, slice_get, count_by, Option, None, Some, All}
 use Rattle.uc_flat.specs.declared.flat.Flat.{Flat}
 use Rattle.uc_flat.specs.declared.flat.Formula.{Formula}
 use Rattle.uc_flat.specs.Drawn.{listed_if}
+use Rattle.uc_symstep.specs.Known.{supply_after, ReadsOwnTypes}
+use Rattle.uc_lower.specs.Bits.{type_bits}
 use Rattle.uc_flat_traces.specs.declared.trace.FlatTrace.{FlatTrace}
 use Rattle.uc_flat_traces.specs.Traces.{RefutesFlat}
 use Rattle.uc_flat_lines.specs.declared.line.FlatLine.{FlatLine}
@@ -47,9 +49,22 @@ abbrev pub is_out_of_budget : FlatVerdict → Bool
 is_out_of_budget (Undef Budget) = true
 is_out_of_budget other = false
 
+-- The free bits of a line after n steps: those of the types of the constants, of the cells and of the free values that the init code draws, and n times those of the free values that a step draws.
+abbrev pub free_bits : Flat → ℕ → ℕ
+free_bits f n = type_bits (supply_after f n)
+
+-- Where each constant is read at its own type, a line is undecided by its budget only where the budget is below 2 to its free bits.
+abbrev pub IsHonestVerdict : Flat → ℕ → ℕ → FlatVerdict → Type 0
+IsHonestVerdict f budget n (Undef Budget) = ReadsOwnTypes f → budget < 2 ^ free_bits f n
+IsHonestVerdict f budget n other = Unit {0}
+
+abbrev pub IsHonestLine : Flat → ℕ → FlatLine → Type 0
+IsHonestLine f budget l = IsHonestVerdict f budget l.steps l.verdict
+
 -- These lines are judged, in order, each with a right verdict. Each one that is undecided by its budget spent it: before and after count the entries that were spent in all.
 pub record AreFlatJudged (f : Flat) (budget before after : ℕ) (lines : List (ℕ × ℕ)) (ls : List FlatLine) : Type 0 where
   pub are : map (λ l. (l.steps, l.formula)) ls ≡ lines
   pub right : All (IsRightLine f) ls
   pub spent : before + budget * count_by (λ l. is_out_of_budget l.verdict) ls ≤ after
   pub few : after ≤ before + 2 ^ 32 * length ls
+  pub honest : All (IsHonestLine f budget) ls

@@ -1,7 +1,8 @@
 //! The terms of the axioms and of goals.
 
-ghost use Rattle.std.specs.Prelude.{◌≡◌, ◌<◌, not, ◌&&◌, map, length, slice_get, IfOk, Some};
+ghost use Rattle.std.specs.Prelude.{◌≡◌, ℕ, ◌<◌, not, ◌&&◌, List, map, length, slice_get, IfOk, Some};
 ghost use Rattle.uc_values.specs.declared.value.Value.TheVariants.{Bool as Truth};
+ghost use Rattle.uc_values.specs.declared.ty.Ty.{Ty as AType};
 ghost use Rattle.uc_values.specs.declared.ty.Ty.TheVariants.{Bool};
 ghost use Rattle.uc_terms.specs.Values.{value};
 ghost use Rattle.uc_flat.specs.declared.flat.Formula.{Formula as AFormula};
@@ -10,6 +11,8 @@ ghost use Rattle.uc_flat.specs.Unrolled.{holds_in, axioms_hold};
 ghost use Rattle.uc_symstep.specs.Growing.{Grows, IsTerm};
 ghost use Rattle.uc_symstep.specs.Stands.{holds, IsTruth};
 ghost use Rattle.uc_symstep.specs.Unrolled.{IsSeen};
+ghost use Rattle.uc_symstep.specs.Known.{IsKnown, KnowsState};
+ghost use Rattle.uc_flat_lines.specs.Unrolling.{AllReadTyped};
 
 use crate::build::{both, negated, truth};
 use std::alloc::{AllocError, Global};
@@ -23,6 +26,7 @@ use uc_terms::{TermId, Terms};
 pub(crate) fn axioms_term(terms: &mut Terms, alloc: Global, f: &Flat) -> Result<TermId, AllocError>
     requires sound { IsSound f.now }
     ensures ok { IfOk result (λ t. IsTerm terms.old terms.new t Bool (λ m. Truth (axioms_hold f.now m))) }
+    ensures known { IfOk result (λ t. (supply : List AType) → AllReadTyped supply f.now.formulas → IsKnown supply terms.new t) }
     ensures grown { Grows terms.old terms.new }
 {
     let mut all = truth(terms, alloc)?;
@@ -48,6 +52,7 @@ pub(crate) fn refuted_term(
     requires axioms { IsTruth terms.old axioms }
     requires state { IsSeen terms.old (cell_types f.now) last.now }
     ensures ok { IfOk result (λ t. (x : AFormula) → slice_get f.now.formulas k ≡ Some x → IsTerm terms.old terms.new t Bool (λ m. Truth (holds m terms.old axioms && (holds m terms.old last.now.path && not (holds_in f.now x m (map (value m terms.old) last.now.cells)))))) }
+    ensures known { IfOk result (λ t. (supply : List AType) (next : ℕ) → AllReadTyped supply f.now.formulas → IsKnown supply terms.old axioms → KnowsState supply terms.old last.now next → IsKnown supply terms.new t) }
     ensures grown { Grows terms.old terms.new }
 {
     let condition = sym_formula(terms, alloc, f, k, from_ref(last))?;

@@ -4,10 +4,10 @@ ghost use Rattle.std.specs.Prelude.{◌≡◌, ◌+◌, ◌≤◌, ◌<◌, ◌^
 ghost use Rattle.uc_flat.specs.declared.flat.Formula.{Formula as AFormula};
 ghost use Rattle.uc_flat.specs.Flats.{IsSound};
 ghost use Rattle.uc_symstep.specs.Growing.{Grows};
-ghost use Rattle.uc_flat_lines.specs.Lines.{IsFlatVerdict};
+ghost use Rattle.uc_flat_lines.specs.Lines.{IsFlatVerdict, IsHonestVerdict};
 ghost use Rattle.uc_flat_lines.specs.Unrolling.{IsUnrolled};
 ghost use Rattle.uc_flat_lines.specs.Reading.{IsTraceOf};
-ghost use Rattle.uc_flat_lines.specs.Deciding.{IsOutcome, IsSpentFor, IsSpentOn};
+ghost use Rattle.uc_flat_lines.specs.Deciding.{IsOutcome, IsSpentFor, IsSpentOn, IsHonestAfter};
 
 use crate::axioms::refuted_term;
 use crate::line::{FlatVerdict, FlatWhy};
@@ -40,6 +40,7 @@ pub(crate) fn verdict_on<M: Meter>(
     requires total { M.total meter.old + 2 ^ 32 ≤ 2 ^ 127 }
     ensures right { (x : AFormula) → slice_get f.now.formulas k ≡ Some x → IsFlatVerdict f.now x steps result }
     ensures spent { IsSpentOn budget (M.total meter.old) (M.total meter.new) result }
+    ensures honest { IsHonestVerdict f.now budget steps result }
     ensures few { M.total meter.new ≤ M.total meter.old + 2 ^ 32 }
     ensures grown { Grows terms.old terms.new }
 {
@@ -69,6 +70,7 @@ fn refutation<M: Meter>(
     requires total { M.total meter.old + 2 ^ 32 ≤ 2 ^ 127 }
     ensures outcome { IfOk result (λ o. (x : AFormula) → slice_get f.now.formulas k ≡ Some x → IsOutcome f.now x steps o) }
     ensures cause { IfErr result (IsSpentFor budget (M.total meter.old) (M.total meter.new)) }
+    ensures honest { IfErr result (IsHonestAfter f.now budget steps) }
     ensures later { M.total meter.old ≤ M.total meter.new }
     ensures few { M.total meter.new ≤ M.total meter.old + 2 ^ 32 }
     ensures grown { Grows terms.old terms.new }

@@ -16,7 +16,8 @@ use uc_items::Items;
 use uc_log::Meter;
 use uc_terms::Terms;
 
-/// A line for each formula of one copy after 0, 1 and so on up to `depth` steps. A line is undecided for want of memory also where its
+/// A line for each formula of one copy after 0, 1 and so on up to `depth` steps. Where the design reads each constant at its own type, a
+/// line is undecided by its budget only where the budget is below 2 to its free bits. A line is undecided for want of memory also where its
 /// goal has integers, arrays or functions, where one number is read as constants of two types, or where a constant is read at
 /// another type than its own. There is an error for want of memory, and where there are 2^32 constants, formulas or symbols.
 pub fn judge_flat<M: Meter>(

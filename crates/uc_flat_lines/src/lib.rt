@@ -8,10 +8,12 @@ mod axioms;
 mod build;
 mod deciding;
 mod judging;
+mod law;
 mod line;
 mod reading;
 mod solving;
 mod unrolling;
 
 pub use judging::judge_flat;
+pub use law::{is_even_where_known, reads_own_types};
 pub use line::{FlatLine, FlatVerdict, FlatWhy};

@@ -6,7 +6,7 @@ ghost use Rattle.uc_ops.specs.Typing.{type_at};
 ghost use Rattle.uc_terms.specs.Subterms.{EvenlyTyped};
 ghost use Rattle.uc_lower.specs.Lowering.{IsFiniteTerm};
 ghost use Rattle.uc_symstep.specs.Growing.{Grows};
-ghost use Rattle.uc_flat_lines.specs.Deciding.{IsSolution, IsSpentFor};
+ghost use Rattle.uc_flat_lines.specs.Deciding.{IsSolution, IsSpentFor, IsHonestFor};
 
 use crate::line::FlatWhy;
 use std::alloc::Global;
@@ -30,6 +30,7 @@ pub(crate) fn solution<M: Meter>(
     requires total { M.total meter.old + 2 ^ 32 ≤ 2 ^ 127 }
     ensures solution { IfOk result (IsSolution terms.old goal) }
     ensures cause { IfErr result (IsSpentFor budget (M.total meter.old) (M.total meter.new)) }
+    ensures honest { IfErr result (IsHonestFor budget terms.old goal) }
     ensures later { M.total meter.old ≤ M.total meter.new }
     ensures few { M.total meter.new ≤ M.total meter.old + 2 ^ 32 }
     ensures grown { Grows terms.old terms.new }
@@ -60,6 +61,7 @@ fn asked<M: Meter>(
     requires total { M.total meter.old + 2 ^ 32 ≤ 2 ^ 127 }
     ensures solution { IfOk result (IsSolution terms.old goal) }
     ensures cause { IfErr result (IsSpentFor budget (M.total meter.old) (M.total meter.new)) }
+    ensures honest { IfErr result (IsHonestFor budget terms.old goal) }
     ensures later { M.total meter.old ≤ M.total meter.new }
     ensures few { M.total meter.new ≤ M.total meter.old + 2 ^ 32 }
     ensures grown { Grows terms.old terms.new }

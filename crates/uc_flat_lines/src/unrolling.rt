@@ -1,11 +1,13 @@
 //! The states after 0, 1 and so on steps, over simplified terms.
 
-ghost use Rattle.std.specs.Prelude.{◌≡◌, ◌+◌, ◌<◌, map, length, IfOk, All};
+ghost use Rattle.std.specs.Prelude.{◌≡◌, ℕ, ◌+◌, ◌<◌, List, map, length, IfOk, All};
+ghost use Rattle.uc_values.specs.declared.ty.Ty.{Ty as AType};
 ghost use Rattle.uc_ops.specs.Typing.{type_at};
 ghost use Rattle.uc_terms.specs.Values.{value};
 ghost use Rattle.uc_flat.specs.Flats.{cell_types, IsSound};
 ghost use Rattle.uc_symstep.specs.Growing.{Grows, IsTerm, AreTerms};
 ghost use Rattle.uc_symstep.specs.Unrolled.{IsSeen};
+ghost use Rattle.uc_symstep.specs.Known.{IsKnown, KnowsState};
 ghost use Rattle.uc_flat_lines.specs.Unrolling.{IsUnrolled, IsSimpler};
 
 use crate::axioms::axioms_term;
@@ -83,6 +85,7 @@ fn simpler(
 ) -> Result<SymState, AllocError>
     requires { IsSeen terms.old (cell_types f.now) state }
     ensures ok { IfOk result (λ t. IsSimpler terms.old terms.new (cell_types f.now) state t) }
+    ensures known { IfOk result (λ t. (supply : List AType) (next : ℕ) → KnowsState supply terms.old state next → KnowsState supply terms.new t next) }
     ensures grown { Grows terms.old terms.new }
 {
     let SymState {
@@ -110,6 +113,7 @@ fn simpler_terms(
 ) -> Result<Items<TermId>, AllocError>
     requires { All (λ t. t < length terms.old) ts.now }
     ensures ok { IfOk result (λ us. AreTerms terms.old terms.new us (map (type_at terms.old) ts.now) (λ m. map (value m terms.old) ts.now)) }
+    ensures known { IfOk result (λ us. (supply : List AType) → All (IsKnown supply terms.old) ts.now → All (IsKnown supply terms.new) us) }
     ensures grown { Grows terms.old terms.new }
 {
     let mut all = Items::new(alloc);
@@ -125,8 +129,10 @@ fn simpler_terms(
 fn simpler_term(terms: &mut Terms, alloc: Global, t: TermId) -> Result<TermId, AllocError>
     requires { t < length terms.old }
     ensures ok { IfOk result (λ u. IsTerm terms.old terms.new u (type_at terms.old t) (λ m. value m terms.old t)) }
+    ensures known { IfOk result (λ u. (supply : List AType) → IsKnown supply terms.old t → IsKnown supply terms.new u) }
     ensures grown { Grows terms.old terms.new }
 {
     let u = simplify(alloc, terms, t)?;
+    let _well = terms.len();
     Ok(u)
 }

@@ -5,3 +5,4 @@ pub mod Branches
 pub mod Doing
 pub mod Steps
 pub mod Runs
+pub mod Known

@@ -3,3 +3,4 @@ pub mod Cost
 pub mod Stands
 pub mod Unrolled
 pub mod Designs
+pub mod Known

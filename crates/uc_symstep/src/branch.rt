@@ -1,6 +1,7 @@
 //! Conditionals.
 
-ghost use Rattle.std.specs.Prelude.{◌≡◌, ◌<◌, length, map, IfOk};
+ghost use Rattle.std.specs.Prelude.{◌≡◌, ◌<◌, List, length, map, IfOk, All};
+ghost use Rattle.uc_values.specs.declared.ty.Ty.{Ty as AType};
 ghost use Rattle.uc_values.specs.Values.{truth_of};
 ghost use Rattle.uc_ops.specs.Typing.{type_at};
 ghost use Rattle.uc_terms.specs.Values.{value};
@@ -8,6 +9,7 @@ ghost use Rattle.uc_flat.specs.Drawn.{either};
 ghost use Rattle.uc_flat.specs.Fine.{IsTest};
 ghost use Rattle.uc_symstep.specs.Growing.{Grows, IsTerm, AreCells};
 ghost use Rattle.uc_symstep.specs.Stands.{IsState, IsTruth, Opens, Merges, Joins};
+ghost use Rattle.uc_symstep.specs.Known.{IsKnown, ReadsTyped, Knows, KnowsArms};
 
 use crate::build::{both, either, negated};
 use crate::formula::sym_expression;
@@ -40,6 +42,7 @@ pub(crate) fn open_arms(
     requires state { IsState terms.old types.now s }
     requires fine { IsTest types.now e.now }
     ensures ok { IfOk result (λ o. Opens terms.old terms.new types.now e.now s o) }
+    ensures known { IfOk result (λ o. (supply : List AType) → ReadsTyped supply e.now → Knows supply terms.old s → KnowsArms supply terms.new o) }
     ensures grown { Grows terms.old terms.new }
 {
     let condition = sym_expression(terms, alloc, types, s.cells.as_slice(), e)?;
@@ -84,6 +87,7 @@ fn merged_cell(
     requires there { (x < length terms.old) × (y < length terms.old) }
     requires alike { type_at terms.old x ≡ type_at terms.old y }
     ensures ok { IfOk result (λ r. IsTerm terms.old terms.new r (type_at terms.old y) (λ m. either (truth_of (value m terms.old condition)) (value m terms.old x) (value m terms.old y))) }
+    ensures known { IfOk result (λ r. (supply : List AType) → IsKnown supply terms.old condition → IsKnown supply terms.old x → IsKnown supply terms.old y → IsKnown supply terms.new r) }
     ensures grown { Grows terms.old terms.new }
 {
     if x.index() == y.index() {
@@ -107,6 +111,7 @@ fn merged(
     requires first { AreCells terms.old types.now xs.now }
     requires second { AreCells terms.old types.now ys.now }
     ensures ok { IfOk result (λ zs. Merges terms.old terms.new types.now condition xs.now ys.now zs) }
+    ensures known { IfOk result (λ zs. (supply : List AType) → IsKnown supply terms.old condition → All (IsKnown supply terms.old) xs.now → All (IsKnown supply terms.old) ys.now → All (IsKnown supply terms.new) zs) }
     ensures grown { Grows terms.old terms.new }
 {
     let mut zs = Items::new(alloc);
@@ -134,6 +139,7 @@ pub(crate) fn join(
     requires path { IsTruth terms.old path }
     requires cells { AreCells terms.old types.now cells.now }
     ensures ok { IfOk result (λ t. Joins terms.old terms.new types.now condition taken cells.now path second t) }
+    ensures known { IfOk result (λ t. (supply : List AType) → IsKnown supply terms.old condition → All (IsKnown supply terms.old) cells.now → IsKnown supply terms.old path → Knows supply terms.old second → Knows supply terms.new t) }
     ensures grown { Grows terms.old terms.new }
 {
     let Symbolic {

@@ -5,6 +5,7 @@ ghost use Rattle.uc_flat.specs.Drawn.{go, drawn};
 ghost use Rattle.uc_flat.specs.Fine.{AreFine};
 ghost use Rattle.uc_symstep.specs.Growing.{Grows};
 ghost use Rattle.uc_symstep.specs.Stands.{IsState, Follows};
+ghost use Rattle.uc_symstep.specs.Known.{CodeReadsTyped, drawn_by, draw_types, Extends};
 
 use crate::branch::{join, open_arms};
 use crate::simple::{assert_at, assign, assume, havoc};
@@ -26,6 +27,7 @@ fn sym_statement(
     requires state { IsState terms.old types.now s }
     requires fine { AreFine types.now (statement.now ∷ []) }
     ensures ok { IfOk result (λ t. Follows terms.old terms.new types.now (λ m. go m types.now m.symbols statement.now) s t) }
+    ensures known { IfOk result (λ t. Extends (λ supply. CodeReadsTyped supply (statement.now ∷ [])) (drawn_by types.now statement.now) terms.old s terms.new t) }
     ensures grown { Grows terms.old terms.new }
 {
     match statement {
@@ -85,6 +87,7 @@ pub fn sym_code(
     requires state { IsState terms.old types.now s }
     requires fine { AreFine types.now code.now }
     ensures ok { IfOk result (λ t. Follows terms.old terms.new types.now (λ m. drawn m types.now m.symbols code.now) s t) }
+    ensures known { IfOk result (λ t. Extends (λ supply. CodeReadsTyped supply code.now) (draw_types types.now code.now) terms.old s terms.new t) }
     ensures grown { Grows terms.old terms.new }
 {
     let mut state = s;

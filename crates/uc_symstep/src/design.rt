@@ -1,6 +1,7 @@
 //! Initial states, steps and formulas of a design over numbered cells.
 
-ghost use Rattle.std.specs.Prelude.{◌≡◌, ◌<◌, ◌≤◌, ◌++◌, map, length, slice_get, IfOk, OnErr, All, Some};
+ghost use Rattle.std.specs.Prelude.{◌≡◌, ◌<◌, ◌≤◌, ◌++◌, List, map, length, slice_get, IfOk, OnErr, All, Some};
+ghost use Rattle.uc_values.specs.declared.ty.Ty.{Ty as AType};
 ghost use Rattle.std.specs.List.{flat_map};
 ghost use Rattle.uc_values.specs.declared.value.Value.TheVariants.{Bool as Truth};
 ghost use Rattle.uc_values.specs.declared.ty.Ty.TheVariants.{Bool};
@@ -11,6 +12,7 @@ ghost use Rattle.uc_flat.specs.Unrolled.{initial, after_step, formula_in, axioms
 ghost use Rattle.uc_symstep.specs.Growing.{Grows, IsTerm, AreCells};
 ghost use Rattle.uc_symstep.specs.Unrolled.{IsSeen, StartsAs, StepsAs};
 ghost use Rattle.uc_symstep.specs.Designs.{IsInitialWhereTaken, HasEachInitial, IsStepWhereTaken};
+ghost use Rattle.uc_symstep.specs.Known.{IsKnown, ReadsTyped, CodeReadsTyped, draw_types, constants_typed, step_types, supply_after, KnowsState};
 
 use crate::build::{both, literal};
 use crate::formula::sym_expression;
@@ -33,6 +35,7 @@ pub(crate) fn start_of(
     requires sound { IsSound f.now }
     requires types { types.now ≡ cell_types f.now }
     ensures ok { IfOk result (λ r. StartsAs terms.old terms.new (cell_types f.now) (initial f.now next) r.0 r.1) }
+    ensures known { IfOk result (λ r. (supply : List AType) → CodeReadsTyped supply f.now.init → next ≡ length supply → KnowsState ((supply ++ cell_types f.now) ++ draw_types (cell_types f.now) f.now.init) terms.new r.0 r.1) }
     ensures grown { Grows terms.old terms.new }
 {
     let started = start(terms, alloc, types, f.init.as_slice(), next)?;
@@ -54,6 +57,7 @@ pub(crate) fn step_of(
     requires both { both_types.now ≡ types.now ++ types.now }
     requires state { IsSeen terms.old (cell_types f.now) pre.now }
     ensures ok { IfOk result (λ r. StepsAs terms.old terms.new (cell_types f.now) (after_step f.now) pre.now next r.0 r.1) }
+    ensures known { IfOk result (λ r. (supply : List AType) → CodeReadsTyped supply f.now.step → KnowsState supply terms.old pre.now next → KnowsState (supply ++ step_types f.now) terms.new r.0 r.1) }
     ensures grown { Grows terms.old terms.new }
 {
     let stepped = step_on(
@@ -79,6 +83,7 @@ pub fn sym_init(
     ensures ok { IfOk result (λ s. StartsAs terms.old terms.new (cell_types f.now) (initial f.now fresh.old.next) s fresh.new.next) }
     ensures initial { IfOk result (λ s. IsInitialWhereTaken f.now terms.new s) }
     ensures each { IfOk result (λ s. HasEachInitial f.now fresh.old.next terms.new s) }
+    ensures known { IfOk result (λ s. CodeReadsTyped (constants_typed f.now) f.now.init → fresh.old.next ≡ length f.now.constants → KnowsState (supply_after f.now 0) terms.new s fresh.new.next) }
     ensures grown { Grows terms.old terms.new }
     ensures err { OnErr result (fresh.new ≡ fresh.old) }
 {
@@ -100,6 +105,7 @@ pub fn sym_step(
     requires state { IsSeen terms.old (cell_types f.now) pre.now }
     ensures ok { IfOk result (λ s. StepsAs terms.old terms.new (cell_types f.now) (after_step f.now) pre.now fresh.old.next s fresh.new.next) }
     ensures step { IfOk result (λ s. IsStepWhereTaken f.now terms.old pre.now terms.new s) }
+    ensures known { IfOk result (λ s. (supply : List AType) → CodeReadsTyped supply f.now.step → KnowsState supply terms.old pre.now fresh.old.next → KnowsState (supply ++ step_types f.now) terms.new s fresh.new.next) }
     ensures grown { Grows terms.old terms.new }
     ensures err { OnErr result (fresh.new ≡ fresh.old) }
 {
@@ -143,6 +149,7 @@ pub(crate) fn formula_term(
     requires types { types.now ≡ cell_types f.now }
     requires cells { AreCells terms.old (repeated x.now.copies (cell_types f.now)) cells.now }
     ensures ok { IfOk result (λ t. IsTerm terms.old terms.new t Bool (λ m. formula_in f.now x.now m (map (value m terms.old) cells.now))) }
+    ensures known { IfOk result (λ t. (supply : List AType) → ReadsTyped supply x.now.condition → All (IsKnown supply terms.old) cells.now → IsKnown supply terms.new t) }
     ensures grown { Grows terms.old terms.new }
 {
     let all = repeat_types(alloc, types, x.copies)?;
@@ -163,6 +170,7 @@ pub fn sym_formula(
     requires states { All (IsSeen terms.old (cell_types f.now)) states.now }
     requires copies { (x : AFormula) → slice_get f.now.formulas k ≡ Some x → x.copies ≡ length states.now }
     ensures ok { IfOk result (λ t. (x : AFormula) → slice_get f.now.formulas k ≡ Some x → IsTerm terms.old terms.new t Bool (λ m. formula_in f.now x m (map (value m terms.old) (flat_map (λ s. s.cells) states.now)))) }
+    ensures known { IfOk result (λ t. (supply : List AType) (x : AFormula) → slice_get f.now.formulas k ≡ Some x → ReadsTyped supply x.condition → All (λ s. All (IsKnown supply terms.old) s.cells) states.now → IsKnown supply terms.new t) }
     ensures grown { Grows terms.old terms.new }
 {
     let types = types_of_cells(alloc, f)?;

@@ -1,10 +1,12 @@
 //! Terms of expressions.
 
-ghost use Rattle.std.specs.Prelude.{◌≡◌, IfOk, map, All};
+ghost use Rattle.std.specs.Prelude.{◌≡◌, List, IfOk, map, All};
+ghost use Rattle.uc_values.specs.declared.ty.Ty.{Ty as AType};
 ghost use Rattle.uc_terms.specs.Values.{value};
 ghost use Rattle.uc_flat.specs.Reading.{type_of, value_of};
 ghost use Rattle.uc_flat.specs.Fine.{IsTyped};
 ghost use Rattle.uc_symstep.specs.Growing.{Grows, IsTerm, AreTerms, AreCells};
+ghost use Rattle.uc_symstep.specs.Known.{IsKnown, ReadsTyped};
 
 use crate::copying::copy_op;
 use std::alloc::{AllocError, Global};
@@ -26,6 +28,7 @@ pub fn sym_expression(
     requires cells { AreCells terms.old types.now cells.now }
     requires typed { IsTyped types.now e.now }
     ensures ok { IfOk result (λ t. IsTerm terms.old terms.new t (type_of types.now e.now) (λ m. value_of m types.now (map (value m terms.old) cells.now) e.now)) }
+    ensures known { IfOk result (λ t. (supply : List AType) → ReadsTyped supply e.now → All (IsKnown supply terms.old) cells.now → IsKnown supply terms.new t) }
     ensures grown { Grows terms.old terms.new }
 {
     match e {
@@ -55,6 +58,7 @@ fn sym_parts(
     requires cells { AreCells terms.old types.now cells.now }
     requires typed { All (IsTyped types.now) parts.now }
     ensures ok { IfOk result (λ ts. AreTerms terms.old terms.new ts (map (type_of types.now) parts.now) (λ m. map (value_of m types.now (map (value m terms.old) cells.now)) parts.now)) }
+    ensures known { IfOk result (λ ts. (supply : List AType) → All (ReadsTyped supply) parts.now → All (IsKnown supply terms.old) cells.now → All (IsKnown supply terms.new) ts) }
     ensures grown { Grows terms.old terms.new }
 {
     let mut made = Items::new(alloc);

@@ -1,12 +1,14 @@
 //! Statements without statements inside them.
 
-ghost use Rattle.std.specs.Prelude.{◌≡◌, ◌<◌, ◌∷◌, ◌++◌, [], IfOk, Some, slice_get, length};
+ghost use Rattle.std.specs.Prelude.{◌≡◌, ◌<◌, ◌∷◌, ◌++◌, List, [], IfOk, Some, slice_get, length};
+ghost use Rattle.uc_values.specs.declared.ty.Ty.{Ty as AType};
 ghost use Rattle.uc_ops.specs.Typing.{Valid, part_type};
 ghost use Rattle.uc_flat.specs.Reading.{type_of};
 ghost use Rattle.uc_flat.specs.Fine.{IsTyped, IsTest};
 ghost use Rattle.uc_flat.specs.Drawn.{takes, free, assigns, assumes, asserts, listed_if};
 ghost use Rattle.uc_symstep.specs.Growing.{Grows};
 ghost use Rattle.uc_symstep.specs.Stands.{IsState, Follows, IsSymbol, IsHavocked};
+ghost use Rattle.uc_symstep.specs.Known.{IsKnown, ReadsTyped, Extends};
 
 use crate::build::{both, negated};
 use crate::formula::sym_expression;
@@ -29,6 +31,7 @@ pub(crate) fn assign(
     requires typed { IsTyped types.now e.now }
     requires fine { slice_get types.now k ≡ Some (type_of types.now e.now) }
     ensures ok { IfOk result (λ t. Follows terms.old terms.new types.now (λ m. assigns m types.now k e.now) s t) }
+    ensures known { IfOk result (λ t. Extends (λ supply. ReadsTyped supply e.now) [] terms.old s terms.new t) }
     ensures grown { Grows terms.old terms.new }
 {
     let mut s = s;
@@ -47,6 +50,7 @@ pub(crate) fn assume(
     requires state { IsState terms.old types.now s }
     requires fine { IsTest types.now e.now }
     ensures ok { IfOk result (λ t. Follows terms.old terms.new types.now (λ m. assumes m types.now e.now) s t) }
+    ensures known { IfOk result (λ t. Extends (λ supply. ReadsTyped supply e.now) [] terms.old s terms.new t) }
     ensures grown { Grows terms.old terms.new }
 {
     let mut s = s;
@@ -67,6 +71,7 @@ pub(crate) fn assert_at(
     requires state { IsState terms.old types.now s }
     requires fine { IsTest types.now e.now }
     ensures ok { IfOk result (λ t. Follows terms.old terms.new types.now (λ m. asserts m types.now site e.now) s t) }
+    ensures known { IfOk result (λ t. Extends (λ supply. ReadsTyped supply e.now) [] terms.old s terms.new t) }
     ensures grown { Grows terms.old terms.new }
 {
     let mut s = s;
@@ -86,6 +91,7 @@ pub(crate) fn symbol(
 ) -> Result<TermId, AllocError>
     requires { Valid ty.now }
     ensures ok { IfOk result (λ t. IsSymbol terms.old terms.new t ty.now number) }
+    ensures known { IfOk result (λ t. (supply : List AType) → slice_get supply number ≡ Some ty.now → IsKnown supply terms.new t) }
     ensures grown { Grows terms.old terms.new }
 {
     let ty = copy_ty(alloc, ty)?;
@@ -120,6 +126,7 @@ pub(crate) fn havoc(
     requires state { IsState terms.old types.now s }
     requires fine { IsHavocked types.now k }
     ensures ok { IfOk result (λ t. Follows terms.old terms.new types.now (λ m r. takes listed (free m.symbols (part_type types.now k) r.next) k r) s t) }
+    ensures known { IfOk result (λ t. Extends (λ supply. Unit {0}) (part_type types.now k ∷ []) terms.old s terms.new t) }
     ensures grown { Grows terms.old terms.new }
 {
     let Some(next) = s.next.checked_add(1) else {

@@ -1,12 +1,14 @@
 //! Initial states and steps, over the types of the cells.
 
-ghost use Rattle.std.specs.Prelude.{◌≡◌, ◌≤◌, drop, ◌++◌, length, IfOk};
+ghost use Rattle.std.specs.Prelude.{◌≡◌, ◌≤◌, drop, ◌++◌, List, length, IfOk};
+ghost use Rattle.uc_values.specs.declared.ty.Ty.{Ty as AType};
 ghost use Rattle.uc_ops.specs.Typing.{AllValid};
 ghost use Rattle.uc_flat.specs.Fine.{AreFine};
 ghost use Rattle.uc_symstep.specs.Growing.{Grows, AreCells};
 ghost use Rattle.uc_symstep.specs.Stands.{IsTruth};
 ghost use Rattle.uc_flat.specs.Unrolled.{started, stepped};
 ghost use Rattle.uc_symstep.specs.Unrolled.{IsSeen, Begins, Doubles, StartsAs, StepsAs};
+ghost use Rattle.uc_symstep.specs.Known.{CodeReadsTyped, draw_types, KnowsPlace, Knows, KnowsState};
 
 use crate::build::literal;
 use crate::code::sym_code;
@@ -28,6 +30,7 @@ pub(crate) fn begin(
 ) -> Result<Symbolic, AllocError>
     requires valid { AllValid types.now }
     ensures ok { IfOk result (λ t. Begins terms.old terms.new types.now next t) }
+    ensures known { IfOk result (λ t. (supply : List AType) → next ≡ length supply → Knows (supply ++ types.now) terms.new t) }
     ensures grown { Grows terms.old terms.new }
 {
     let truth = literal(terms, alloc, true)?;
@@ -67,6 +70,7 @@ fn doubled(
     requires path { IsTruth terms.old path }
     requires types { both_types.now ≡ types.now ++ types.now }
     ensures ok { IfOk result (λ t. Doubles terms.old terms.new both_types.now cells.now path next t) }
+    ensures known { IfOk result (λ t. (supply : List AType) → KnowsPlace supply terms.old cells.now path next → Knows supply terms.new t) }
     ensures grown { Grows terms.old terms.new }
 {
     let taken = literal(terms, alloc, true)?;
@@ -104,6 +108,7 @@ pub(crate) fn start(
     requires valid { AllValid types.now }
     requires fine { AreFine types.now init.now }
     ensures ok { IfOk result (λ r. StartsAs terms.old terms.new types.now (λ m. started m types.now init.now next) r.0 r.1) }
+    ensures known { IfOk result (λ r. (supply : List AType) → CodeReadsTyped supply init.now → next ≡ length supply → KnowsState ((supply ++ types.now) ++ draw_types types.now init.now) terms.new r.0 r.1) }
     ensures grown { Grows terms.old terms.new }
 {
     let first = begin(terms, alloc, types, next)?;
@@ -139,6 +144,7 @@ pub(crate) fn step_on(
     requires types { both_types.now ≡ types.now ++ types.now }
     requires fine { AreFine both_types.now step.now }
     ensures ok { IfOk result (λ r. StepsAs terms.old terms.new types.now (λ m. stepped m types.now step.now) pre.now next r.0 r.1) }
+    ensures known { IfOk result (λ r. (supply : List AType) → CodeReadsTyped supply step.now → KnowsState supply terms.old pre.now next → KnowsState (supply ++ draw_types both_types.now step.now) terms.new r.0 r.1) }
     ensures grown { Grows terms.old terms.new }
 {
     let first = doubled(

@@ -5,17 +5,24 @@ use Rattle.uc_symstep.proofs.Grown.{grows_on, cells_grow}
 use Rattle.uc_symstep.proofs.States.{truth_grows}
 use Rattle.uc_symstep.proofs.Branches.{second_state}
 use Rattle.uc_symstep.proofs.Doing.{assign_fine, havoc_fine, assume_fine, assert_fine, if_fine, first_fine, second_fine, one_at, size_if, size_at, follows_none, follows_more, assign_goes, havoc_goes, assume_goes, assert_goes, if_goes}
+use Rattle.uc_symstep.proofs.Known.{code_none, code_more, assign_read, assume_read, assert_read, assign_extends, havoc_extends, assume_extends, assert_extends, if_extends}
 use Rattle.uc_symstep.proofs.code.+sym_code.Goals as goal
 
 pub sym_code-loop-statement-init : goal.sym_code-loop-statement-init
-sym_code-loop-statement-init t c = follows_none _ _ c.args.code.now _ c.requires.state
+sym_code-loop-statement-init t c = record {
+  follows = follows_none _ _ c.args.code.now _ c.requires.state;
+  known = code_none c.args.types.now c.args.code.now _ c.args.s;
+}
 
 pub sym_code-sym_statement-requires : goal.sym_code-sym_statement-requires
 sym_code-sym_statement-requires t c =
-    (omega (arith, c.decreases, size_at _ _ _ c.loop-statement-test.true c.statement-item.is), (c.loop-statement.invariant.state, one_at _ _ _ _ c.loop-statement-test.true c.statement-item.is c.requires.fine))
+    (omega (arith, c.decreases, size_at _ _ _ c.loop-statement-test.true c.statement-item.is), (c.loop-statement.invariant.follows.state, one_at _ _ _ _ c.loop-statement-test.true c.statement-item.is c.requires.fine))
 
 pub sym_code-loop-statement-preserved : goal.sym_code-loop-statement-preserved
-sym_code-loop-statement-preserved t c = follows_more _ _ _ _ _ _ _ _ _ _ c.loop-statement.invariant c.in_ok-state.ensures.ok c.loop-statement-test.true c.statement-item.is
+sym_code-loop-statement-preserved t c = record {
+  follows = follows_more _ _ _ _ _ _ _ _ _ _ c.loop-statement.invariant.follows c.in_ok-state.ensures.ok c.loop-statement-test.true c.statement-item.is;
+  known = code_more _ _ _ _ _ c.args.s c.loop-statement.state c.in_ok-state.state _ _ c.loop-statement.invariant.known c.in_ok-state.ensures.known c.loop-statement-test.true c.statement-item.is;
+}
 
 pub sym_statement-assign-requires-clause-typed : goal.sym_statement-assign-requires-clause-typed
 sym_statement-assign-requires-clause-typed t c = (assign_fine _ _ _ _ c.in-Assign.is c.requires.fine).0
@@ -76,3 +83,25 @@ pub sym_statement-returns-in_ok-end-in-If-clause-ok : goal.sym_statement-returns
 sym_statement-returns-in_ok-end-in-If-clause-ok t c =
     if_goes _ _ _ _ _ _ _ _ _ _ _ _ _ _ c.in_ok-arms-in-If.arms _ _ _ c.in-If.is c.as_slice.ensures c.as_slice-in-If.ensures c.as_slice-in-If-2.ensures c.requires.state
     c.in_ok-arms-in-If.ensures.ok c.in_ok-first-in-If.ensures.ok c.in_ok-second-in-If.ensures.ok c.in_ok-end-in-If.ensures.ok
+
+pub sym_statement-returns-in_ok-assigned-in-Assign-clause-known : goal.sym_statement-returns-in_ok-assigned-in-Assign-clause-known
+sym_statement-returns-in_ok-assigned-in-Assign-clause-known t c = λ supply reads h.
+    assign_extends supply c.args.types.now _ c.in_ok-assigned-in-Assign.assigned _ _ _ c.in-Assign.is (c.in_ok-assigned-in-Assign.ensures.known supply (assign_read supply _ _ _ c.in-Assign.is reads) h)
+
+pub sym_statement-returns-in_ok-havocked-in-Havoc-clause-known : goal.sym_statement-returns-in_ok-havocked-in-Havoc-clause-known
+sym_statement-returns-in_ok-havocked-in-Havoc-clause-known t c = λ supply reads h.
+    havoc_extends supply c.args.types.now _ c.in_ok-havocked-in-Havoc.havocked _ _ _ c.in-Havoc.is (c.in_ok-havocked-in-Havoc.ensures.known supply tt h)
+
+pub sym_statement-returns-in_ok-assumed-in-Assume-clause-known : goal.sym_statement-returns-in_ok-assumed-in-Assume-clause-known
+sym_statement-returns-in_ok-assumed-in-Assume-clause-known t c = λ supply reads h.
+    assume_extends supply c.args.types.now _ c.in_ok-assumed-in-Assume.assumed _ _ c.in-Assume.is (c.in_ok-assumed-in-Assume.ensures.known supply (assume_read supply _ _ c.in-Assume.is reads) h)
+
+pub sym_statement-returns-in_ok-asserted-in-Assert-clause-known : goal.sym_statement-returns-in_ok-asserted-in-Assert-clause-known
+sym_statement-returns-in_ok-asserted-in-Assert-clause-known t c = λ supply reads h.
+    assert_extends supply c.args.types.now _ c.in_ok-asserted-in-Assert.asserted _ _ _ c.in-Assert.is (c.in_ok-asserted-in-Assert.ensures.known supply (assert_read supply _ _ _ c.in-Assert.is reads) h)
+
+pub sym_statement-returns-in_ok-end-in-If-clause-known : goal.sym_statement-returns-in_ok-end-in-If-clause-known
+sym_statement-returns-in_ok-end-in-If-clause-known t c =
+    if_extends _ _ _ _ _ _ _ _ _ _ _ _ _ c.args.s c.in_ok-arms-in-If.arms c.in_ok-first-in-If.first c.in_ok-second-in-If.second c.in_ok-end-in-If.end c.in-If.is c.as_slice.ensures c.as_slice-in-If.ensures c.as_slice-in-If-2.ensures
+    c.in_ok-first-in-If.ensures.grown c.in_ok-second-in-If.ensures.grown
+    c.in_ok-arms-in-If.ensures.known c.in_ok-first-in-If.ensures.known c.in_ok-second-in-If.ensures.known c.in_ok-end-in-If.ensures.known

@@ -1,4 +1,5 @@
 use Rattle.uc_symstep.proofs.Runs.{starts_in, init_fine, types_valid}
+use Rattle.uc_symstep.proofs.Known.{start_of_known}
 use Rattle.uc_symstep.proofs.design.start_of.Goals as goal
 
 pub start-requires-clause-valid : goal.start-requires-clause-valid
@@ -9,3 +10,6 @@ start-requires-clause-fine c = init_fine _ _ _ c.requires.types c.as_slice.ensur
 
 pub returns-clause-ok : goal.returns-clause-ok
 returns-clause-ok c = starts_in _ _ c.args.f.now _ _ _ _ _ c.requires.types c.as_slice.ensures c.in_ok-started.ensures.ok
+
+pub returns-clause-known : goal.returns-clause-known
+returns-clause-known c = start_of_known c.args.f.now _ _ _ _ _ _ _ c.requires.types c.as_slice.ensures c.in_ok-started.ensures.known
