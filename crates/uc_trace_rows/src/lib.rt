@@ -1,0 +1,5 @@
+//! Worked rows of the text of counterexamples, which only tests run.
+#![tactic(auto)]
+
+#[cfg(test)]
+mod traces;
