@@ -10,7 +10,7 @@ use Rattle.uc_values.specs.declared.ty.Ty.TheOpen.Ty-F.{Bool as boolean_type, In
 use Rattle.uc_values.specs.declared.value.Value.{Value}
 use Rattle.uc_values.specs.Values.{truth_of, number_of, bits_of, label_of, member_of, parts_of}
 use Rattle.uc_meaning.specs.Lookup.{System}
-use Rattle.uc_trace.specs.Values.{Printer, truth_text, bits_text, member_text, text_of, label_at, field_texts, record_text, printers, value_form, value_text}
+use Rattle.uc_trace.specs.Values.{Printer, truth_text, bits_text, member_text, text_of, label_at, field_texts, record_text, array_text, rows_of, default_of, printers, value_form, value_text}
 
 pub boolean_is : (d : System) (ty : Ty) (v : Value) → ty ≡ Boolean → value_text d ty v ≡ truth_text (truth_of v)
 unfolding value_text
@@ -36,6 +36,6 @@ pub record_is : (d : System) (ty : Ty) (v : Value) (fs : List (Field Ty)) → ty
 unfolding value_text
 record_is d ty v fs e = ap (λ t. value_text d t v) (e ∙ sym (rolls-Rec fs)) ∙ ap (λ f. f v) (fold-roll-Ty Printer (value_form d) (record_type fs))
 
-pub array_is : (d : System) (ty : Ty) (v : Value) (index element : Ty) → ty ≡ Array index element → value_text d ty v ≡ []
+pub array_is : (d : System) (ty : Ty) (v : Value) (index element : Ty) → ty ≡ Array index element → value_text d ty v ≡ array_text (value_text d index) (value_text d element) (rows_of v) (default_of v)
 unfolding value_text
 array_is d ty v index element e = ap (λ t. value_text d t v) (e ∙ sym (rolls-Arr index element)) ∙ ap (λ f. f v) (fold-roll-Ty Printer (value_form d) (array_type index element))

@@ -1,5 +1,5 @@
 -- What is left to write of the fields of a record and of the states of a copy, from a place on.
-use Rattle.std.specs.Prelude.{ℕ, zero, suc, ◌+◌, ◌<◌, ◌≤◌, min, ◌≡◌, List, [], ◌∷◌, ◌++◌, ◌×◌, length, codes, nat_eq, if◌then◌else◌}
+use Rattle.std.specs.Prelude.{ℕ, zero, suc, ◌+◌, ◌<◌, ◌≤◌, min, ◌≡◌, List, [], ◌∷◌, ◌++◌, length, codes}
 use Rattle.std.specs.List.{flat_map, join_by}
 use Rattle.std.proofs.Common.{get_or, drop, add-one, drop-cons, append_assoc, arith, refl, sym, ap, ◌∙◌}
 use Rattle.std.proofs.Math.Seq.{drop-nil}
@@ -53,6 +53,10 @@ field_more d fs vs k f v now middle next whole lf lv ef ev h m n =
     ∙ ap (λ x. now ++ x) (sym (field_step d fs vs k f v lf lv ef ev))
     ∙ h
 
+no_fields : (d : System) (vs : List Value) → field_texts d [] vs ≡ []
+no_fields d [] = refl
+no_fields d (v ∷ vs) = refl
+
 no_parts : (d : System) (fs : List (Field Printer)) → field_texts d fs [] ≡ []
 no_parts d [] = refl
 no_parts d (f ∷ fs) = refl
@@ -62,7 +66,7 @@ no_texts zero = refl
 no_texts (suc k) = refl
 
 texts_end : (d : System) (fs : List (Field Ty)) (vs : List Value) (k : ℕ) → min (length fs) (length vs) ≤ k → field_texts d (printers d (drop k fs)) (drop k vs) ≡ []
-texts_end d [] vs k h = ap (λ gs. field_texts d (printers d gs) (drop k vs)) (drop-nil {A = Field Ty} k)
+texts_end d [] vs k h = ap (λ gs. field_texts d (printers d gs) (drop k vs)) (drop-nil {A = Field Ty} k) ∙ no_fields d (drop k vs)
 texts_end d (f ∷ fs) [] k h = ap (λ ws. field_texts d (printers d (drop k (f ∷ fs))) ws) (drop-nil {A = Value} k) ∙ no_parts d (printers d (drop k (f ∷ fs)))
 texts_end d (f ∷ fs) (v ∷ vs) zero h = absurd (omega arith)
 texts_end d (f ∷ fs) (v ∷ vs) (suc k) h = texts_end d fs vs k (omega arith)

@@ -1,7 +1,7 @@
 -- The text of a value, as bytes.
 use Rattle.std.specs.Prelude.{ℕ, Bool, true, false, List, [], ◌∷◌, ◌++◌, map, codes, decimal, slice_get, Option, if◌then◌else◌, nat_eq}
 use Rattle.std.specs.Option.{option_map, option_map_or, option_and_then}
-use Rattle.std.specs.List.{join_by}
+use Rattle.std.specs.List.{join_by, flat_map}
 use Rattle.std.specs.Fmt.{signed_decimal}
 use Rattle.uc_syntax.specs.WrittenTypes.{labels_of}
 use Rattle.uc_values.specs.declared.ty.Field.{Field}
@@ -10,7 +10,9 @@ use Rattle.uc_values.specs.declared.ty.Ty.TheFolds.{fold-Ty}
 use Rattle.uc_values.specs.declared.ty.Ty.TheOpen.{Ty-F}
 use Rattle.uc_values.specs.declared.ty.Ty.TheOpen.Ty-F.{Bool as boolean_type, Int as integer_type, Bv as bits_type, Enum as enum_type, Un as open_type, Rec as record_type, Arr as array_type}
 use Rattle.uc_values.specs.declared.value.Value.{Value}
-use Rattle.uc_values.specs.Values.{truth_of, number_of, bits_of, label_of, member_of, parts_of}
+use Rattle.uc_values.specs.declared.value.Value.TheViews.{out-Value}
+use Rattle.uc_values.specs.declared.value.Value.TheOpen.Value-F.{Arr as array}
+use Rattle.uc_values.specs.Values.{Form, Exception, truth_of, number_of, bits_of, label_of, member_of, parts_of}
 use Rattle.uc_meaning.specs.Lookup.{System}
 use Rattle.uc_meaning.specs.Types.{opaque_types_of}
 use Rattle.uc_control.specs.Described.{name_of}
@@ -56,7 +58,31 @@ field_texts d fs vs = []
 abbrev pub record_text : List (List ℕ) → List ℕ
 record_text fields = codes "{" ++ join_by (λ text. text) (codes ", ") fields ++ codes "}"
 
--- what is written for a value as one of a type, where the types inside stand for what is written for theirs; nothing is written for an array
+-- the exceptions of an array, none for another value
+abbrev pub rows_form : Form → List Exception
+rows_form (array default rows) = rows
+rows_form other = []
+
+abbrev pub rows_of : Value → List Exception
+rows_of v = rows_form (out-Value v)
+
+-- what an array holds at every other index, and any other value itself
+abbrev pub default_form : Value → Form → Value
+default_form v (array default rows) = default
+default_form v other = v
+
+abbrev pub default_of : Value → Value
+default_of v = default_form v (out-Value v)
+
+-- an exception: the index, the element there, and what is between it and the next
+abbrev pub row_text : Printer → Printer → Exception → List ℕ
+row_text index element row = index row.0 ++ codes " -> " ++ element row.1 ++ codes ", "
+
+-- an array in brackets: its exceptions as they stand, and then its default
+abbrev pub array_text : Printer → Printer → List Exception → Value → List ℕ
+array_text index element rows default = codes "[" ++ flat_map (row_text index element) rows ++ codes "else " ++ element default ++ codes "]"
+
+-- what is written for a value as one of a type, where the types inside stand for what is written for theirs
 abbrev pub value_form : System → Ty-F Printer → Value → List ℕ
 value_form d boolean_type v = truth_text (truth_of v)
 value_form d integer_type v = signed_decimal (number_of v)
@@ -64,7 +90,7 @@ value_form d (bits_type width) v = bits_text (bits_of v) width
 value_form d (enum_type number count) v = text_of d (label_at d number (label_of v))
 value_form d (open_type number) v = member_text d number (member_of v)
 value_form d (record_type fields) v = record_text (field_texts d fields (parts_of v))
-value_form d (array_type index element) v = []
+value_form d (array_type index element) v = array_text index element (rows_of v) (default_of v)
 
 -- the text of a value as one of a type
 unfoldable pub value_text : System → Ty → Value → List ℕ

@@ -2,6 +2,7 @@
 
 ghost use Rattle.std.specs.Prelude.{◌≡◌};
 ghost use Rattle.uc_values.specs.Values.{truth_of, number_of, bits_of, label_of, member_of, parts_of};
+ghost use Rattle.uc_trace.specs.Values.{rows_of, default_of};
 
 use uc_values::Value;
 
@@ -62,5 +63,25 @@ pub(crate) fn parts_of(value: &Value) -> &[Value]
     match value {
         Value::Rec(parts) => parts.as_slice(),
         _ => &[],
+    }
+}
+
+/// The exceptions of an array, none for another value.
+pub(crate) fn rows_of(value: &Value) -> &[(Value, Value)]
+    ensures { result.now ≡ rows_of value.now }
+{
+    match value {
+        Value::Arr(_, rows) => rows.as_slice(),
+        _ => &[],
+    }
+}
+
+/// What an array holds at every other index, and any other value itself.
+pub(crate) fn default_of(value: &Value) -> &Value
+    ensures { result.now ≡ default_of value.now }
+{
+    match value {
+        Value::Arr(default, _) => default.get(),
+        _ => value,
     }
 }

@@ -1,12 +1,14 @@
 //! The text of a value.
 
 ghost use Rattle.std.specs.Prelude.{◌≡◌, ◌++◌, [], OnOk, codes};
-ghost use Rattle.std.specs.List.{join_by};
+ghost use Rattle.std.specs.List.{join_by, flat_map};
 ghost use Rattle.uc_control.specs.Described.{described, name_of};
-ghost use Rattle.uc_trace.specs.Values.{truth_text, bits_text, member_text, field_texts, printers, value_text, separator};
+ghost use Rattle.uc_trace.specs.Values.{truth_text, bits_text, member_text, field_texts, printers, row_text, value_text, separator};
 ghost use Rattle.uc_trace.specs.Tables.{AreTables};
 
-use crate::parts::{bits_of, label_of, member_of, number_of, parts_of, truth_of};
+use crate::parts::{
+    bits_of, default_of, label_of, member_of, number_of, parts_of, rows_of, truth_of,
+};
 use crate::put::{put, put_integer, put_number};
 use crate::tables::Tables;
 use std::alloc::AllocError;
@@ -54,7 +56,14 @@ pub(crate) fn put_value(
             put(out, b"}")?;
             Ok(())
         }
-        Ty::Arr(_, _) => Ok(()),
+        Ty::Arr(index, element) => {
+            put(out, b"[")?;
+            put_rows(out, d, tables, index.get(), element.get(), rows_of(value))?;
+            put(out, b"else ")?;
+            put_value(out, d, tables, element.get(), default_of(value))?;
+            put(out, b"]")?;
+            Ok(())
+        }
     }
 }
 
@@ -72,8 +81,31 @@ fn put_fields(
 {
     let count = fields.len().min(parts.len());
     for place in 0..count {
-        put_field_name(out, d, place, fields[place].name)?;
-        put_value(out, d, tables, &fields[place].ty, &parts[place])?;
+        let field = &fields[place];
+        put_field_name(out, d, place, field.name)?;
+        put_value(out, d, tables, &field.ty, &parts[place])?;
+    }
+    Ok(())
+}
+
+/// Puts the exceptions of an array, each with a comma and a space behind it.
+#[cycle(put_value)]
+fn put_rows(
+    out: &mut Vec<u8>,
+    d: &DesignView<'_>,
+    tables: &Tables<'_>,
+    index: &Ty,
+    element: &Ty,
+    rows: &[(Value, Value)],
+) -> Result<(), AllocError>
+    requires { AreTables (described d.now) tables.now }
+    ensures { OnOk result (out.new.items ≡ out.old.items ++ flat_map (row_text (value_text (described d.now) index.now) (value_text (described d.now) element.now)) rows.now) }
+{
+    for (place, held) in rows {
+        put_value(out, d, tables, index, place)?;
+        put(out, b" -> ")?;
+        put_value(out, d, tables, element, held)?;
+        put(out, b", ")?;
     }
     Ok(())
 }

@@ -4,7 +4,7 @@ ghost use Rattle.uc_syntax.specs.WrittenTypes.{labels_of};
 use std::alloc::{AllocError, Global};
 use std::test::Fail;
 use uc_control::DesignView;
-use uc_items::Items;
+use uc_items::{Boxed, Items};
 use uc_meaning::{Choices, Interp, Path, State, Trace};
 use uc_syntax::{Decl, Identifier, Module, Names, Place, TypeExpr, VariableKind};
 use uc_trace::{ShownCell, cex_text};
@@ -203,5 +203,29 @@ fn each_kind_of_value(rt: HostRuntime) -> Result<(), Fail> {
         whole.extend_from_slice(b"\n")?;
         assert_eq!(rt; text.as_slice(), whole.as_slice());
     }
+    Ok(())
+}
+
+/// An array of truth values at bit-vectors of width 2, in its text between the name and the end of the line.
+fn flags(alloc: Global, rows: Items<(Value, Value)>) -> Result<Vec<u8>, AllocError> {
+    let index = Boxed::new(alloc, Ty::Bv(2))?;
+    let element = Boxed::new(alloc, Ty::Bool)?;
+    let default = Boxed::new(alloc, Value::Bool(true))?;
+    alone(alloc, Ty::Arr(index, element), Value::Arr(default, rows))
+}
+
+#[test]
+fn an_array_with_exceptions_and_without(rt: HostRuntime) -> Result<(), Fail> {
+    let alloc = rt.alloc();
+    let mut rows = Items::new(alloc);
+    rows.push((Value::Bv(2, 3), Value::Bool(false)))?;
+    rows.push((Value::Bv(2, 0), Value::Bool(true)))?;
+    let text = flags(alloc, rows)?;
+    let wanted =
+        b"CEX for f [step 1] invariant up\n  state 0\n    x = [3bv2 -> false, 0bv2 -> true, else true]\n";
+    assert_eq!(rt; text.as_slice(), wanted.as_slice());
+    let text = flags(alloc, Items::new(alloc))?;
+    let wanted = b"CEX for f [step 1] invariant up\n  state 0\n    x = [else true]\n";
+    assert_eq!(rt; text.as_slice(), wanted.as_slice());
     Ok(())
 }
