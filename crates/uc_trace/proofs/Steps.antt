@@ -1,9 +1,10 @@
 -- What is left to write of the fields of a record and of the states of a copy, from a place on.
 use Rattle.std.specs.Prelude.{ℕ, zero, suc, ◌+◌, ◌<◌, ◌≤◌, min, ◌≡◌, List, [], ◌∷◌, ◌++◌, length, codes}
 use Rattle.std.specs.List.{flat_map, join_by}
-use Rattle.std.proofs.Common.{get_or, drop, add-one, drop-cons, append_assoc, arith, refl, sym, ap, ◌∙◌}
+use Rattle.std.proofs.Common.{get_or, drop, add-one, drop-cons, append_assoc, arith, inl, inr, cond, refl, sym, ap, ◌∙◌}
 use Rattle.std.proofs.Math.Seq.{drop-nil}
 use Rattle.std.proofs.lemmas.List.{append-nil, drop_all}
+use Rattle.std.proofs.lemmas.Bool.Decides.{eqb_tells}
 use Rattle.uc_values.specs.declared.ty.Field.{Field}
 use Rattle.uc_values.specs.declared.ty.Ty.{Ty}
 use Rattle.uc_values.specs.declared.value.Value.{Value}
@@ -23,9 +24,13 @@ joined_from (suc k) texts = flat_map (λ text. codes ", " ++ text) texts
 abbrev pub fields_from : System → List (Field Ty) → List Value → ℕ → List ℕ
 fields_from d fs vs k = joined_from k (field_texts d (printers d (drop k fs)) (drop k vs))
 
+later : (k : ℕ) → separator (suc k) ≡ codes ", "
+later k = elim (eqb_tells (suc k) 0) [ inl x ↦ absurd (omega (arith, x.1)) | inr x ↦ ap (λ b. cond b [] (codes ", ")) x.0 ]
+
 begin : (k : ℕ) (text : List ℕ) (texts : List (List ℕ)) → joined_from k (text ∷ texts) ≡ separator k ++ (text ++ joined_from (suc k) texts)
 begin zero text texts = refl
-begin (suc k) text texts = append_assoc (codes ", ") text (flat_map (λ text. codes ", " ++ text) texts)
+begin (suc k) text texts =
+    append_assoc (codes ", ") text (flat_map (λ text. codes ", " ++ text) texts) ∙ ap (λ s. s ++ (text ++ flat_map (λ text. codes ", " ++ text) texts)) (sym (later k))
 
 field_step : (d : System) (fs : List (Field Ty)) (vs : List Value) (k : ℕ) (f : Field Ty) (v : Value) → k < length fs → k < length vs → f ≡ get_or fs k f → v ≡ get_or vs k v →
     fields_from d fs vs k ≡ separator k ++ (field_text d f.name (value_text d f.ty v) ++ fields_from d fs vs (suc k))
@@ -37,7 +42,7 @@ field_step d fs vs k f v lf lv ef ev =
     ∙ begin k (field_text d f.name (value_text d f.ty v)) (field_texts d (printers d (drop (suc k) fs)) (drop (suc k) vs))
 
 -- the same bytes in two orders of joining
-regrouped : (now s n e v left : List ℕ) → ((now ++ (s ++ (n ++ e))) ++ v) ++ left ≡ now ++ (s ++ ((n ++ (e ++ v)) ++ left))
+regrouped : (now s n e v left : List ℕ) → ((now ++ (s ++ (n ++ e))) ++ v) ++ left ≡ now ++ (s ++ (((n ++ e) ++ v) ++ left))
 regrouped now s n e v left = simp append_assoc
 
 -- a field more

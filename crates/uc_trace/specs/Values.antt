@@ -1,11 +1,12 @@
 -- The text of a value, as bytes.
-use Rattle.std.specs.Prelude.{ℕ, Bool, true, false, List, [], ◌∷◌, ◌++◌, map, codes, decimal, slice_get, Option, if◌then◌else◌, nat_eq}
+use Rattle.std.specs.Prelude.{ℕ, ◌≡◌, Bool, true, false, List, [], ◌∷◌, ◌++◌, map, codes, decimal, slice_get, Option, if◌then◌else◌, nat_eq}
 use Rattle.std.specs.Option.{option_map, option_map_or, option_and_then}
 use Rattle.std.specs.List.{join_by, flat_map}
 use Rattle.std.specs.Fmt.{signed_decimal}
 use Rattle.uc_syntax.specs.WrittenTypes.{labels_of}
 use Rattle.uc_values.specs.declared.ty.Field.{Field}
 use Rattle.uc_values.specs.declared.ty.Ty.{Ty}
+use Rattle.uc_values.specs.declared.ty.Ty.TheVariants.{Arr as Array}
 use Rattle.uc_values.specs.declared.ty.Ty.TheFolds.{fold-Ty}
 use Rattle.uc_values.specs.declared.ty.Ty.TheOpen.{Ty-F}
 use Rattle.uc_values.specs.declared.ty.Ty.TheOpen.Ty-F.{Bool as boolean_type, Int as integer_type, Bv as bits_type, Enum as enum_type, Un as open_type, Rec as record_type, Arr as array_type}
@@ -103,3 +104,9 @@ printers d fs = map (λ f. record { name = f.name; ty = value_text d f.ty }) fs
 -- what stands before the field at a place
 abbrev pub separator : ℕ → List ℕ
 separator place = if nat_eq place 0 then [] else codes ", "
+
+-- the type of an array
+pub record IsArray (ty : Ty) : Type 0 where
+  pub index : Ty
+  pub element : Ty
+  pub is : ty ≡ Array index element

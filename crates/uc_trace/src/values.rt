@@ -1,9 +1,9 @@
 //! The text of a value.
 
 ghost use Rattle.std.specs.Prelude.{◌≡◌, ◌++◌, [], OnOk, codes};
-ghost use Rattle.std.specs.List.{join_by, flat_map};
+ghost use Rattle.std.specs.List.{join_by};
 ghost use Rattle.uc_control.specs.Described.{described, name_of};
-ghost use Rattle.uc_trace.specs.Values.{truth_text, bits_text, member_text, field_texts, printers, row_text, value_text, separator};
+ghost use Rattle.uc_trace.specs.Values.{truth_text, bits_text, member_text, field_texts, printers, value_text, separator, IsArray};
 ghost use Rattle.uc_trace.specs.Tables.{AreTables};
 
 use crate::parts::{
@@ -17,7 +17,7 @@ use uc_values::{Field, Ty, Value};
 
 /// Puts a value as one of a type.
 #[cycle(put_value)]
-#[tactic(auto, using(crate::proofs::Forms::boolean_is, crate::proofs::Forms::integer_is, crate::proofs::Forms::bits_is, crate::proofs::Forms::enum_is, crate::proofs::Forms::open_is, crate::proofs::Forms::record_is, crate::proofs::Forms::array_is))]
+#[tactic(auto, using(crate::proofs::Forms::boolean_is, crate::proofs::Forms::integer_is, crate::proofs::Forms::bits_is, crate::proofs::Forms::enum_is, crate::proofs::Forms::open_is))]
 pub(crate) fn put_value(
     out: &mut Vec<u8>,
     d: &DesignView<'_>,
@@ -56,14 +56,7 @@ pub(crate) fn put_value(
             put(out, b"}")?;
             Ok(())
         }
-        Ty::Arr(index, element) => {
-            put(out, b"[")?;
-            put_rows(out, d, tables, index.get(), element.get(), rows_of(value))?;
-            put(out, b"else ")?;
-            put_value(out, d, tables, element.get(), default_of(value))?;
-            put(out, b"]")?;
-            Ok(())
-        }
+        Ty::Arr(_, _) => put_array(out, d, tables, ty, value),
     }
 }
 
@@ -88,25 +81,32 @@ fn put_fields(
     Ok(())
 }
 
-/// Puts the exceptions of an array, each with a comma and a space behind it.
+/// Puts an array: its exceptions as they stand, each with a comma and a space behind it, and its default.
 #[cycle(put_value)]
-fn put_rows(
+fn put_array(
     out: &mut Vec<u8>,
     d: &DesignView<'_>,
     tables: &Tables<'_>,
-    index: &Ty,
-    element: &Ty,
-    rows: &[(Value, Value)],
+    ty: &Ty,
+    value: &Value,
 ) -> Result<(), AllocError>
-    requires { AreTables (described d.now) tables.now }
-    ensures { OnOk result (out.new.items ≡ out.old.items ++ flat_map (row_text (value_text (described d.now) index.now) (value_text (described d.now) element.now)) rows.now) }
+    requires tables { AreTables (described d.now) tables.now }
+    requires array { IsArray ty.now }
+    ensures { OnOk result (out.new.items ≡ out.old.items ++ value_text (described d.now) ty.now value.now) }
 {
-    for (place, held) in rows {
-        put_value(out, d, tables, index, place)?;
+    let Ty::Arr(index, element) = ty else {
+        return Ok(());
+    };
+    put(out, b"[")?;
+    for (place, held) in rows_of(value) {
+        put_value(out, d, tables, index.get(), place)?;
         put(out, b" -> ")?;
-        put_value(out, d, tables, element, held)?;
+        put_value(out, d, tables, element.get(), held)?;
         put(out, b", ")?;
     }
+    put(out, b"else ")?;
+    put_value(out, d, tables, element.get(), default_of(value))?;
+    put(out, b"]")?;
     Ok(())
 }
 

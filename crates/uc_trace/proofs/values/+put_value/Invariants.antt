@@ -1,6 +1,7 @@
-use Rattle.std.proofs.Common.{◌≡◌, ◌++◌, take}
+use Rattle.std.proofs.Common.{◌≡◌, ◌++◌}
 use Rattle.std.specs.Prelude.{codes}
-use Rattle.std.specs.List.{join_by, flat_map}
+use Rattle.std.specs.List.{join_by}
+use Rattle.uc_syntax.proofs.Added.{AddedUpTo}
 use Rattle.uc_control.specs.Described.{described}
 use Rattle.uc_trace.specs.Values.{field_texts, printers, row_text, value_text}
 use Rattle.uc_trace.proofs.Steps.{fields_from}
@@ -11,6 +12,6 @@ invariant-put_fields-loop-place l =
     l.out.items ++ fields_from (described l.d) l.fields l.parts l.place
     ≡ l.initial.out.items ++ join_by (λ text. text) (codes ", ") (field_texts (described l.d) (printers (described l.d) l.fields) l.parts)
 
-abbrev pub invariant-put_rows-loop-place : goal.invariant-put_rows-loop-place
-invariant-put_rows-loop-place l =
-    l.out.items ≡ l.initial.out.items ++ flat_map (row_text (value_text (described l.d) l.index) (value_text (described l.d) l.element)) (take l.place-index l.rows)
+abbrev pub invariant-put_array-loop-place : goal.invariant-put_array-loop-place
+invariant-put_array-loop-place l =
+    AddedUpTo (row_text (value_text (described l.d) l.index) (value_text (described l.d) l.element)) l.place-items l.initial.out.items l.place-index l.out.items
