@@ -1,0 +1,43 @@
+-- The text of a counterexample, as bytes.
+use Rattle.std.specs.Prelude.{ℕ, ◌+◌, if◌then◌else◌, List, [], ◌∷◌, ◌++◌, codes, decimal, slice_get, unwrap_or, Option, Some, None}
+use Rattle.std.specs.List.{flat_map}
+use Rattle.uc_values.specs.declared.ty.Ty.{Ty}
+use Rattle.uc_values.specs.declared.value.Value.{Value}
+use Rattle.uc_values.specs.Values.{fits}
+use Rattle.uc_meaning.specs.declared.scope.State.{State}
+use Rattle.uc_meaning.specs.declared.line.Trace.{Trace}
+use Rattle.uc_meaning.specs.Lookup.{System}
+use Rattle.uc_control.specs.Described.{name_of}
+use Rattle.uc_control.specs.Text.{path_text}
+use Rattle.uc_trace.specs.declared.shown.ShownCell.{ShownCell}
+use Rattle.uc_trace.specs.Values.{value_text}
+
+-- a value that fits a type; nothing for one that does not
+abbrev pub fitting_text : System → Ty → Value → List ℕ
+fitting_text d ty v = if fits ty v then value_text d ty v else []
+
+-- the value of a cell; nothing where the state has none at its place
+abbrev pub shown_text : System → Ty → Option Value → List ℕ
+shown_text d ty None = []
+shown_text d ty (Some v) = fitting_text d ty v
+
+-- a cell in a line of its own: each instance with a dot, the name, and the value
+unfoldable pub cell_text : System → State → ShownCell → List ℕ
+cell_text d s c = codes "    " ++ path_text d c.path ++ name_of d c.name ++ codes " = " ++ shown_text d c.ty (slice_get s.cells c.place) ++ codes "\n"
+
+-- the number of a state in a line of its own, and then its cells that are shown
+unfoldable pub state_text : System → List ShownCell → ℕ → State → List ℕ
+state_text d cells place s = codes "  state " ++ decimal place ++ codes "\n" ++ flat_map (cell_text d s) cells
+
+-- the states from the place on
+abbrev pub states_text : System → List ShownCell → ℕ → List (State × List Value) → List ℕ
+states_text d cells place [] = []
+states_text d cells place (s ∷ ss) = state_text d cells place s.0 ++ states_text d cells (place + 1) ss
+
+-- the states of the first copy of a trace
+abbrev pub first_copy : Trace → List (State × List Value)
+first_copy trace = unwrap_or (slice_get trace.copies 0) []
+
+-- A counterexample of a line whose head is given: the head in a line of its own, and then each state, numbered from 0.
+unfoldable pub cex_text : System → List ShownCell → List ℕ → Trace → List ℕ
+cex_text d cells head trace = codes "CEX for " ++ head ++ codes "\n" ++ states_text d cells 0 (first_copy trace)
