@@ -1,23 +1,42 @@
--- Where words leave the grammar of the designs that run today.
-use Rattle.std.specs.Prelude.{◌≡◌, List, [], ◌∷◌}
+-- The first word of a form that does not run today.
+use Rattle.std.specs.Prelude.{Bool, true, false, ◌||◌, ◌&&◌, if◌then◌else◌, List, [], ◌∷◌, Option, Some, None}
 use Rattle.uc_lexer.specs.declared.place.Place.{Place}
-use Rattle.uc_forms.specs.Answer.{Answer, spelled, wrong, too_deep, too_many, IsAnswer}
+use Rattle.uc_grammar.specs.declared.word.Kind.{Kind}
+use Rattle.uc_grammar.specs.declared.word.Kind.TheVariants.{Induction, Verify, PrintCex, Arrow, KwModule, KwConst, KwFunction, KwDefine, KwProcedure, KwInstance, KwAxiom, KwHyperinvariant, KwHyperaxiom, KwInteger, KwFor, KwCall, KwAssert, KwForall, KwExists, KwWhile}
 use Rattle.uc_grammar.specs.declared.word.Word.{Word}
-use Rattle.uc_built.specs.Syntax.{built}
 
--- the place of the first of these words, or the end
-abbrev pub place_at : Place → List Word → Place
-place_at end [] = end
-place_at end (w ∷ ws) = w.place
+-- Constants, functions, defines, procedures, instances, axioms and hyper formulas; whole numbers and arrays with a part replaced; loops, calls, assertions and quantifiers; and commands other than `unroll`, `check` and `print_results`.
+abbrev pub is_outside : Kind → Bool
+is_outside KwConst = true
+is_outside KwFunction = true
+is_outside KwDefine = true
+is_outside KwProcedure = true
+is_outside KwInstance = true
+is_outside KwAxiom = true
+is_outside KwHyperinvariant = true
+is_outside KwHyperaxiom = true
+is_outside KwInteger = true
+is_outside Arrow = true
+is_outside KwFor = true
+is_outside KwWhile = true
+is_outside KwCall = true
+is_outside KwAssert = true
+is_outside KwForall = true
+is_outside KwExists = true
+is_outside (Induction n) = true
+is_outside (Verify n) = true
+is_outside (PrintCex n) = true
+is_outside other = false
 
--- The place of the first word with which no text goes on; the end, where the words end too early; and the front, where they
--- spell a text. No word of this grammar lies in a nested form or declares a name.
-abbrev pub place_told : Place → Place → Answer Word (Unit {0}) → Place
-place_told front end (spelled x) = front
-place_told front end (wrong rest) = place_at end rest
-place_told front end (too_deep rest) = place_at end rest
-place_told front end (too_many w) = w.place
+abbrev pub begins_module : Kind → Bool
+begins_module KwModule = true
+begins_module other = false
 
--- These words leave the grammar at this place. Where they do not, it is the front.
-abbrev pub LeaveAt : Place → Place → List Word → Place → Type 0
-LeaveAt front end ws place = (answer : Answer Word (Unit {0})) × IsAnswer built 0 0 ws answer × (place_told front end answer ≡ place)
+-- such a word, or a module behind another one
+abbrev pub leaves : Bool → Kind → Bool
+leaves behind kind = is_outside kind || (behind && begins_module kind)
+
+-- The place of the first such word.
+unfoldable pub left_at : Bool → List Word → Option Place
+left_at behind [] = None
+left_at behind (w ∷ ws) = if leaves behind w.kind then Some w.place else left_at (behind || begins_module w.kind) ws

@@ -1,39 +1,62 @@
-//! Where words leave the grammar.
+//! The first word of such a form.
 
-ghost use Rattle.std.specs.Prelude.{◌≡◌, IfOk};
-ghost use Rattle.uc_built.specs.Outside.{LeaveAt, place_at};
+ghost use Rattle.std.specs.Prelude.{◌≡◌, ◌||◌, ◌&&◌, false};
+ghost use Rattle.uc_built.specs.Outside.{is_outside, begins_module, leaves, left_at};
 
-use crate::declarations::text;
-use std::alloc::{AllocError, Global};
-use uc_forms::Stop;
-use uc_grammar::Word;
+use uc_grammar::{Kind, Word};
 use uc_lexer::Place;
-use uc_reader::Reader;
 
-/// The place of the first word with which no text of this grammar goes on, or `end`, where the words end too early. Where the
-/// words spell a text it is `front`.
-pub fn left_at(alloc: Global, words: &[Word], front: Place, end: Place) -> Result<Place, AllocError>
-    ensures { IfOk result (LeaveAt front end words.now) }
+fn is_outside(kind: Kind) -> bool
+    ensures { result ≡ is_outside kind }
 {
-    let mut reader = Reader::new(alloc, words, 0);
-    match text(&mut reader) {
-        Ok(()) => {
-            if reader.rest.is_empty() {
-                return Ok(front);
-            }
-            Ok(place(reader.rest, end))
-        }
-        Err(Stop::Memory) => Err(AllocError),
-        Err(Stop::At(_fault)) => Ok(place(reader.rest, end)),
-    }
+    matches!(
+        kind,
+        Kind::KwConst
+            | Kind::KwFunction
+            | Kind::KwDefine
+            | Kind::KwProcedure
+            | Kind::KwInstance
+            | Kind::KwAxiom
+            | Kind::KwHyperinvariant
+            | Kind::KwHyperaxiom
+            | Kind::KwInteger
+            | Kind::Arrow
+            | Kind::KwFor
+            | Kind::KwWhile
+            | Kind::KwCall
+            | Kind::KwAssert
+            | Kind::KwForall
+            | Kind::KwExists
+            | Kind::Induction(_)
+            | Kind::Verify(_)
+            | Kind::PrintCex(_)
+    )
 }
 
-/// The place of the next word, or the end.
-fn place(rest: &[Word], end: Place) -> Place
-    ensures { result ≡ place_at end rest.now }
+fn begins_module(kind: Kind) -> bool
+    ensures { result ≡ begins_module kind }
 {
-    match rest {
-        [] => end,
-        [word, ..] => word.place,
+    matches!(kind, Kind::KwModule)
+}
+
+/// Whether a word begins such a form, or a module where there is one before.
+fn leaves(behind: bool, kind: Kind) -> bool
+    ensures { result ≡ leaves behind kind }
+{
+    is_outside(kind) || (behind && begins_module(kind))
+}
+
+/// The place of the first word of a form that does not run today, or of a second module.
+#[tactic(auto, unfolding(crate::specs::Outside::left_at))]
+pub fn left_at(words: &[Word]) -> Option<Place>
+    ensures { result ≡ left_at false words.now }
+{
+    let mut behind = false;
+    for word in words {
+        if leaves(behind, word.kind) {
+            return Some(word.place);
+        }
+        behind = behind || begins_module(word.kind);
     }
+    None
 }

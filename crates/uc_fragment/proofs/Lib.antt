@@ -1,3 +1,4 @@
-pub mod Decided
+pub mod Counts
+pub mod Forms
+pub mod Labels
 pub mod Once
-pub mod Simple

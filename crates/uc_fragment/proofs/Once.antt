@@ -1,10 +1,10 @@
--- Lists in which one element at most passes a test, and lists of numbers that differ.
+-- Lists in which one element at most passes a test.
 use Rattle.std.proofs.Common.{◌≡◌, ℕ, ◌<◌, ◌+◌, List, [], ◌∷◌, length, get_or, take, drop, ◌-◌, ◌≤◌, Bool, true, false, not, ◌&&◌, nat_le, cond, refl, ap, ◌∙◌, sym, rules, arith}
 use Rattle.std.specs.List.{list_any, filter, count_by}
 use Rattle.std.proofs.lemmas.List.Sums.{length-filter, count_by_more_yes, count_by_more_no}
 use Rattle.std.proofs.lemmas.List.{at_drop_more, take_rest, take_all}
 use Rattle.std.proofs.Math.ListN.{drop_of_length-le}
-use Rattle.uc_meaning.specs.Fragment.{at_most_one, at_most_one_after, all_differ, holds_name}
+use Rattle.uc_meaning.specs.Fragment.{at_most_one, at_most_one_after}
 
 none_turn : {A : Type 0} (p : A → Bool) (x : A) (xs : List A) (b : Bool) → p x ≡ b → not (list_any p xs) ≡ nat_le (length (filter p xs)) 0 →
     not (list_any p (x ∷ xs)) ≡ nat_le (length (filter p (x ∷ xs))) 0
@@ -27,16 +27,6 @@ once p (x ∷ xs) = once_turn p x xs (p x) refl (once p xs)
 
 pub counted_once : {A : Type 0} (p : A → Bool) (xs : List A) → nat_le (count_by p xs) 1 ≡ at_most_one p xs
 counted_once p xs = ap (λ n. nat_le n 1) (sym (length-filter p xs)) ∙ once p xs
-
-pub differ_turn : (xs : List ℕ) (k : ℕ) → k < length xs →
-    all_differ (drop k xs) ≡ (not (holds_name (take (length xs - (k + 1)) (drop (k + 1) xs)) (get_or xs k 0)) && all_differ (drop (k + 1) xs))
-unfolding all_differ
-differ_turn xs k within =
-    at_drop_more all_differ xs k 0 within ∙ ap (λ ys. not (holds_name ys (get_or xs k 0)) && all_differ (drop (k + 1) xs)) (sym (take_rest xs (k + 1)))
-
-pub differ_end : (xs : List ℕ) (k : ℕ) → length xs ≤ k → all_differ (drop k xs) ≡ true
-unfolding all_differ
-differ_end xs k past = ap all_differ (drop_of_length-le xs past)
 
 -- A count of the elements before k.
 abbrev pub IsCount : {A : Type 0} → (A → Bool) → List A → ℕ → ℕ → Type 0

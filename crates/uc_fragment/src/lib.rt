@@ -1,6 +1,11 @@
-//! Which designs run today: exactly those of one module of boolean variables.
+//! Whether the declarations of a design's one module are of the fragment that runs today.
 #![tactic(auto)]
 
-mod check;
+mod blocks;
+mod declared;
+mod inputs;
+mod known;
+mod plain;
 
-pub use check::is_in_fragment;
+pub use known::unknown_type;
+pub use plain::is_plain;

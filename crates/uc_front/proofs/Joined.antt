@@ -1,15 +1,11 @@
 -- The words of all texts, one behind the other.
-use Rattle.std.specs.Prelude.{◌==◌}
-use Rattle.std.proofs.Common.{◌≡◌, ℕ, zero, suc, ◌+◌, ◌-◌, ◌<◌, false, arith, List, [], ◌∷◌, ◌++◌, length, take, drop, fold, slice_get, Option, None, Some, refl, sym, ap, subst, ◌∙◌, append-nil, append_assoc}
+use Rattle.std.proofs.Common.{◌≡◌, ℕ, ◌+◌, List, [], ◌∷◌, ◌++◌, take, drop, fold, slice_get, Some, refl, sym, ap, subst, ◌∙◌, append-nil, append_assoc}
 use Rattle.uc_grammar.specs.declared.word.Word.{Word}
 use Rattle.uc_words.specs.Words.{AreWords, with_tokens}
 use Rattle.uc_words.proofs.TokenByToken.{words_stay}
 use Rattle.uc_front.specs.declared.lexing.Source.{Source}
 use Rattle.uc_front.specs.Denotes.{with_source}
-use Rattle.uc_lexer.specs.declared.place.Place.{Place}
-use Rattle.uc_lexer.specs.Places.{place_of}
-use Rattle.uc_front.specs.Refusals.{front}
-use Rattle.uc_front.specs.Refused.{AreJoined, end_of}
+use Rattle.uc_front.specs.Refused.{AreJoined}
 use Rattle.uc_front.proofs.Lists.{take_next}
 use Rattle.uc_front.proofs.Names.{sources_more, kept_to_end}
 
@@ -28,14 +24,3 @@ words_more before after all sources i s ws found more at names so_far e are is =
     let last = words_stay after all s.text s.tokens found kept are in
     subst (λ us. AreJoined all (take (i + 1) sources) us) (sym is)
     (subst (λ ss. AreJoined all ss (ws ++ found)) (sym (take_next sources i s at)) (joined_behind all (take i sources) ws s found so_far last))
-
-pub last_within : (n : ℕ) → n == 0 ≡ false → n - 1 < n
-last_within zero e = absurd cc
-last_within (suc n) e = omega arith
-
--- the place behind the last text
-pub end_is : (sources : List Source) (s : Source) (text : List ℕ) (n : ℕ) (place : Place) → place ≡ place_of n text (length text) → n ≡ length sources - 1 → slice_get sources (length sources - 1) ≡ Some s → text ≡ s.text →
-    place ≡ end_of sources
-end_is sources s text n place is k at t =
-    is ∙ (λ j. place_of (k j) (t j) (length (t j)))
-    ∙ sym (ap (λ (o : Option Source). elim o [ Some source ↦ place_of (length sources - 1) source.text (length source.text) | None ↦ front 0 ]) at)

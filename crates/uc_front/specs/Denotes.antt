@@ -9,7 +9,7 @@ use Rattle.uc_grammar.specs.declared.word.Word.{Word}
 use Rattle.uc_grammar.specs.Language.{grammar}
 use Rattle.uc_words.specs.Words.{AreWords, with_tokens}
 use Rattle.uc_meaning.specs.Lookup.{System}
-use Rattle.uc_meaning.specs.Fragment.{InFragment}
+use Rattle.uc_runnable.specs.Runnable.{IsRunnable}
 use Rattle.uc_front.specs.declared.lexing.Source.{Source}
 use Rattle.uc_front.specs.Sources.{AreSources}
 
@@ -63,4 +63,4 @@ pub record Denotes (held : List ℕ → Option (List ℕ)) (files : List (List �
 
 -- It denotes one that runs today.
 abbrev pub IsAccepted : (List ℕ → Option (List ℕ)) → List (List ℕ) → System → Type 0
-IsAccepted held files system = Denotes held files system × InFragment system
+IsAccepted held files system = Denotes held files system × IsRunnable system

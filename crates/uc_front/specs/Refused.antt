@@ -1,5 +1,5 @@
 -- Which refusals are right. A pass refuses files with its first fault: it accepts all files before, and the passes before it accept all files.
-use Rattle.std.specs.Prelude.{◌≡◌, ◌⊎◌, ℕ, ◌+◌, ◌-◌, ◌<◌, List, [], ◌∷◌, ◌++◌, length, take, slice_get, Option, Some, None}
+use Rattle.std.specs.Prelude.{◌≡◌, ◌⊎◌, ℕ, ◌+◌, ◌-◌, ◌<◌, List, [], ◌∷◌, ◌++◌, length, take, slice_get, unwrap_or, false, Option, Some, None}
 use Rattle.std.specs.List.{concat}
 use Rattle.uc_lexer.specs.declared.place.Place.{Place}
 use Rattle.uc_lexer.specs.declared.fault.LexFault.{LexFault}
@@ -11,9 +11,10 @@ use Rattle.uc_syntax.specs.declared.declaration.Module.{Module}
 use Rattle.uc_forms.specs.Answer.{Answer, spelled, wrong, too_deep, too_many}
 use Rattle.uc_grammar.specs.declared.word.Word.{Word}
 use Rattle.uc_words.specs.Words.{AreWords}
-use Rattle.uc_built.specs.Outside.{LeaveAt}
-use Rattle.uc_meaning.specs.Lookup.{System}
-use Rattle.uc_meaning.specs.Fragment.{InFragment}
+use Rattle.uc_built.specs.Outside.{left_at}
+use Rattle.uc_meaning.specs.Lookup.{System, or_else}
+use Rattle.uc_unfit.specs.Unfit.{unfit_of}
+use Rattle.uc_runnable.specs.Runnable.{IsRunnable}
 use Rattle.uc_front.specs.declared.lexing.Source.{Source}
 use Rattle.uc_front.specs.declared.refusal.Refusal.{Refusal}
 use Rattle.uc_front.specs.declared.refusal.Refusal.TheVariants.{NoFile, TooLong, BadByte, BadNumber, OpenComment, Syntax, TooDeep, TooManyNames, NoMain, NotBuilt}
@@ -64,13 +65,9 @@ AreJoined names [] ws = ws ≡ []
 AreJoined names (source ∷ sources) ws =
     (first : List Word) × (others : List Word) × AreWords names source.text source.tokens first × AreJoined names sources others × (ws ≡ first ++ others)
 
--- the place behind the last text
-abbrev pub end_of : List Source → Place
-end_of sources = elim (slice_get sources (length sources - 1)) [ Some source ↦ place_of (length sources - 1) source.text (length source.text) | None ↦ front 0 ]
-
--- With the token at this place the texts leave the grammar of the designs that run today. Where they do not, it is the front of the first file.
-abbrev pub IsLeftAt : List (List ℕ) → List Source → Place → Type 0
-IsLeftAt names sources p = (ws : List Word) × AreJoined names sources ws × LeaveAt (front 0) (end_of sources) ws p
+-- Where a design that does not run is at fault: the texts name the first form that does not run there; where they name none, its one module is at fault there; else it is the front of the first file.
+abbrev pub IsLeftAt : List (List ℕ) → List Source → System → Place → Type 0
+IsLeftAt names sources system p = (ws : List Word) × AreJoined names sources ws × (p ≡ unwrap_or (or_else (left_at false ws) (unfit_of system)) (front 0))
 
 -- The passes behind lexing refuse: parsing; no module is called `main`; or the design is none that runs today.
 abbrev pub IsUnbuilt : List (List ℕ) → List Source → Refusal → Type 0
@@ -78,7 +75,7 @@ IsUnbuilt files sources (Syntax p) = IsUnspelled (names_of files sources) source
 IsUnbuilt files sources (TooDeep p) = IsUnspelled (names_of files sources) sources (TooDeep p)
 IsUnbuilt files sources (TooManyNames p) = IsUnspelled (names_of files sources) sources (TooManyNames p)
 IsUnbuilt files sources NoMain = (modules : List Module) × AreSpelled (names_of files sources) sources modules × (main_in (names_of files sources) modules ≡ None)
-IsUnbuilt files sources (NotBuilt p) = (system : System) × IsDesignOf files sources system × (InFragment system → ⊥) × IsLeftAt (names_of files sources) sources p
+IsUnbuilt files sources (NotBuilt p) = (system : System) × IsDesignOf files sources system × (IsRunnable system → ⊥) × IsLeftAt (names_of files sources) sources system p
 IsUnbuilt files sources other = ⊥
 
 -- Which refusals are right for what is held under the files' names: a pass refuses with it, and the passes before accept all files.

@@ -3,7 +3,7 @@
 ghost use Rattle.std.specs.Prelude.{◌≡◌, ◌∷◌, [], ◌≤◌, ◌<◌, codes, length, map, slice_get, unwrap_or, Some, IfOk, IfErr};
 ghost use Rattle.std.specs.List.{concat, position_from};
 ghost use Rattle.std.specs.Str.{bytes_eq};
-ghost use Rattle.uc_meaning.specs.Fragment.{InFragment};
+ghost use Rattle.uc_runnable.specs.Runnable.{IsRunnable};
 ghost use Rattle.uc_front.specs.Denotes.{AreSpelled, IsDesignOf, names_of, is_main, main_in};
 ghost use Rattle.uc_front.specs.Errors.{IsTextError};
 ghost use Rattle.uc_front.specs.Refused.{IsUnbuilt, IsUnspelled};
@@ -16,9 +16,8 @@ use crate::parsing::{intern_all, parse_all};
 use crate::reading::MAX_FILES;
 use crate::refusal::Refusal;
 use std::alloc::Global;
-use uc_fragment::is_in_fragment;
 use uc_lexer::MAX_TEXT;
-use uc_meaning::Ordered;
+use uc_runnable::{NotRunnable, Runnable};
 use uc_syntax::{Design, Module, Names};
 
 /// The design that the sources of these files spell, if it runs today.
@@ -26,13 +25,13 @@ pub(crate) fn design_of(
     alloc: Global,
     files: &[&str],
     sources: &[Source],
-) -> Result<Ordered, FrontError>
+) -> Result<Runnable, FrontError>
     requires few { length sources.now ≤ MAX_FILES }
     requires count { length sources.now ≡ length files.now }
     requires within { length (concat (texts_of sources.now)) ≤ MAX_TEXT }
     requires lexed { AreLexed 0 sources.now }
     ensures denotes { IfOk result (IsDesignOf (words_of files.now) sources.now) }
-    ensures runs { IfOk result InFragment }
+    ensures runs { IfOk result IsRunnable }
     ensures refused { IfErr result (IsTextError (IsUnbuilt (words_of files.now) sources.now)) }
 {
     let design = spelled(alloc, files, sources)?;
@@ -42,11 +41,17 @@ pub(crate) fn design_of(
     let Ok(main) = u32::try_from(main) else {
         return Err(FrontError::NoMemory);
     };
-    if !is_in_fragment(alloc, &design, main)? {
-        let place = left_at(alloc, files, sources)?;
-        return Err(FrontError::Refused(Refusal::NotBuilt(place)));
+    match Runnable::of(alloc, design, main) {
+        Ok(runnable) => {
+            runnable.keeps();
+            Ok(runnable)
+        }
+        Err(NotRunnable::NoMemory) => Err(FrontError::NoMemory),
+        Err(NotRunnable::NotBuilt(unfit)) => {
+            let place = left_at(alloc, files, sources, unfit)?;
+            Err(FrontError::Refused(Refusal::NotBuilt(place)))
+        }
     }
-    Ok(Ordered::of(design, main))
 }
 
 /// The design of the modules that the texts spell.

@@ -14,7 +14,7 @@ use crate::lexing::lex;
 use crate::reading::{MAX_FILES, read_texts};
 use std::alloc::Global;
 use uc_io::Texts;
-use uc_meaning::Ordered;
+use uc_runnable::Runnable;
 
 /// The design that the texts of these names denote, if it runs today. A file is numbered by its place.
 ///
@@ -23,7 +23,7 @@ pub fn read_design<X: Texts>(
     alloc: Global,
     texts: &mut X,
     files: &[&str],
-) -> Result<Ordered, FrontError>
+) -> Result<Runnable, FrontError>
     requires { length files.now ≤ MAX_FILES }
     ensures accepted { IsTrue (X.tells texts.old) → IfOk result (IsAccepted (X.held texts.old) (words_of files.now)) }
     ensures refused { IsTrue (X.tells texts.old) → IfErr result (IsFrontError (IsRefused (X.held texts.old) (words_of files.now))) }

@@ -1,14 +1,15 @@
-//! Where texts leave the grammar of the designs that run today.
+//! Where texts name the first form that does not run today.
 
 ghost use Rattle.std.specs.Prelude.{◌≡◌, ◌≤◌, length, fold, IfOk, OnOk};
 ghost use Rattle.std.specs.List.{concat};
 ghost use Rattle.uc_front.specs.Denotes.{names_of, with_source};
-ghost use Rattle.uc_front.specs.Refused.{AreJoined, IsLeftAt, end_of};
+ghost use Rattle.uc_meaning.specs.Lookup.{System};
+ghost use Rattle.uc_unfit.specs.Unfit.{unfit_of};
+ghost use Rattle.uc_front.specs.Refused.{AreJoined, IsLeftAt};
 ghost use Rattle.uc_front.specs.Sources.{words_of, AreLexed, texts_of};
 
 use crate::lexing::Source;
 use crate::parsing::intern_all;
-use crate::reading::MAX_FILES;
 use crate::refusal::front;
 use std::alloc::{AllocError, Global};
 use uc_grammar::Word;
@@ -17,22 +18,25 @@ use uc_lexer::{MAX_TEXT, Place};
 use uc_syntax::Names;
 use uc_words::words;
 
-/// The place of the first token with which the texts of these files leave the grammar of the designs that run today. Where they do
-/// not, it is the front of the first file.
+/// The place of the first form that does not run today in the texts of these files. Where they name none, it is the other place, if
+/// there, else the front of the first file.
 pub(crate) fn left_at(
     alloc: Global,
     files: &[&str],
     sources: &[Source],
+    unfit: Option<Place>,
 ) -> Result<Place, AllocError>
-    requires few { length sources.now ≤ MAX_FILES }
     requires within { length (concat (texts_of sources.now)) ≤ MAX_TEXT }
     requires lexed { AreLexed 0 sources.now }
-    ensures { IfOk result (IsLeftAt (names_of (words_of files.now) sources.now) sources.now) }
+    ensures { (system : System) → unfit ≡ unfit_of system → IfOk result (IsLeftAt (names_of (words_of files.now) sources.now) sources.now system) }
 {
     let mut names = Names::new(alloc);
     intern_all(alloc, &mut names, files)?;
     let joined = joined_words(alloc, &mut names, sources)?;
-    uc_built::left_at(alloc, joined.as_slice(), front(0), end_of(sources))
+    match uc_built::left_at(joined.as_slice()) {
+        Some(place) => Ok(place),
+        None => Ok(unfit.unwrap_or(front(0))),
+    }
 }
 
 /// The words of all texts, one behind the other.
@@ -54,17 +58,4 @@ fn joined_words(
         joined.append(Items::from_vec(found))?;
     }
     Ok(joined)
-}
-
-/// The place behind the last text.
-fn end_of(sources: &[Source]) -> Place
-    requires few { length sources.now ≤ MAX_FILES }
-    requires within { length (concat (texts_of sources.now)) ≤ MAX_TEXT }
-    ensures { result ≡ end_of sources.now }
-{
-    if sources.is_empty() {
-        return front(0);
-    }
-    let last = sources.len() - 1;
-    uc_parser::end_of(last as u16, sources[last].text.as_slice())
 }

@@ -26,8 +26,8 @@ pub enum Refusal {
     TooManyNames(Place),
     /// No module is called `main`.
     NoMain,
-    /// The design is none of those that run today: with this token the texts leave the grammar of these. Where they do not, the
-    /// place is the front of the first file.
+    /// The design is none of those that run today: at this token the texts name the first form that does not run. Where they name
+    /// none, it is the first declaration or statement that has no form over cells, or else the front of the first file.
     NotBuilt(Place),
 }
 

@@ -1,17 +1,21 @@
 -- The commands of the one control block.
 use Rattle.std.proofs.Common.{◌≡◌, ℕ, zero, suc, ◌+◌, ◌<◌, Bool, true, false, not, ◌&&◌, ◌||◌, List, [], ◌∷◌, ◌++◌, drop, length, get_or, refl, sym, ap, ◌∙◌}
-use Rattle.std.specs.Prelude.{nat_le}
+use Rattle.std.specs.Prelude.{nat_le, slice_get}
 use Rattle.std.specs.List.{list_all, list_any, flat_map}
 use Rattle.std.proofs.lemmas.List.{append-nil}
 use Rattle.uc_lexer.specs.declared.place.Place.{Place}
 use Rattle.uc_syntax.specs.declared.declaration.Command.{Command}
 use Rattle.uc_syntax.specs.declared.declaration.Decl.{Decl}
 use Rattle.uc_syntax.specs.declared.declaration.Decl.TheVariants.{Control}
+use Rattle.uc_syntax.specs.declared.declaration.Module.{Module}
 use Rattle.uc_values.proofs.Shapes.{and_true}
 use Rattle.uc_meaning.specs.Lookup.{System}
 use Rattle.uc_meaning.specs.Lines.{commands_in, main_declarations}
-use Rattle.uc_meaning.specs.Fragment.{InFragment, at_most_one, at_most_one_after, is_control, is_simple_decl, is_init, is_next, variable_names, declared_names, all_differ, most_variables, unrolls}
-use Rattle.uc_meaning.proofs.Fragments.{NoneBefore, fragment_declarations}
+use Rattle.uc_meaning.specs.Cells.{as_list}
+use Rattle.uc_meaning.specs.Fragment.{at_most_one, at_most_one_after, is_init, is_next, is_control, variable_names, most_variables, unrolls}
+use Rattle.uc_meaning.proofs.Fragments.{NoneBefore}
+use Rattle.uc_fragment.specs.Plain.{with_inputs, types_known, are_new, declared, is_plain_decl, is_plain}
+use Rattle.uc_runnable.specs.Runnable.{IsRunnable}
 use Rattle.uc_meaning.proofs.Lists.{drop_turn}
 use Rattle.uc_judge.specs.Unrolling.{control_unrolls}
 
@@ -70,28 +74,38 @@ control_more ds k d before within is never =
 
 -- ---- the premises, for a design that runs today
 
-parts : (a b c d e f : Bool) → (a && (b && (c && (d && (e && f))))) ≡ true → (a ≡ true) × (e ≡ true)
-parts true true true true true f h = (refl, refl)
-parts a b c d e f h = cc
+pub only_declarations : (system : System) (code : Module) → system.modules ≡ code ∷ [] → system.main ≡ 0 → main_declarations system ≡ code.decls
+only_declarations system code only first =
+    ap (λ ms. flat_map (λ m. m.decls) (as_list (slice_get ms system.main))) only
+    ∙ ap (λ k. flat_map (λ m. m.decls) (as_list (slice_get (code ∷ []) k))) first
+    ∙ append-nil code.decls
 
-simple_unrolls : (names : List ℕ) (d : Decl) → is_simple_decl names d ≡ true → control_unrolls d ≡ true
-simple_unrolls names (Control place commands) h = h
-simple_unrolls names other h = refl
+plain_unrolls : (inputs : List ℕ) (d : Decl) → is_plain_decl inputs d ≡ true → control_unrolls d ≡ true
+plain_unrolls inputs (Control place commands) h = h
+plain_unrolls inputs other h = refl
 
-all_unroll : (names : List ℕ) (ds : List Decl) → list_all (is_simple_decl names) ds ≡ true → list_all control_unrolls ds ≡ true
-all_unroll names [] h = refl
-all_unroll names (d ∷ ds) h = ap (λ b. b && list_all control_unrolls ds) (simple_unrolls names d (and_true h).0) ∙ all_unroll names ds (and_true h).1
+all_unroll : (inputs : List ℕ) (ds : List Decl) → list_all (is_plain_decl inputs) ds ≡ true → list_all control_unrolls ds ≡ true
+all_unroll inputs [] h = refl
+all_unroll inputs (d ∷ ds) h = ap (λ b. b && list_all control_unrolls ds) (plain_unrolls inputs d (and_true h).0) ∙ all_unroll inputs ds (and_true h).1
 
-code_parts : (system : System) (f : InFragment system) → (list_all (is_simple_decl (variable_names f.code.decls)) f.code.decls ≡ true) × (at_most_one is_control f.code.decls ≡ true)
-code_parts system f =
-    let ds = f.code.decls in
-    parts (list_all (is_simple_decl (variable_names ds)) ds) (all_differ (declared_names ds)) (at_most_one is_init ds) (at_most_one is_next ds) (at_most_one is_control ds) (nat_le (length (variable_names ds)) most_variables) f.simple
+parts : (a b c d e f g : Bool) → (a && (b && (c && (d && (e && (f && g)))))) ≡ true → (a ≡ true) × (f ≡ true)
+parts true true true true true true g h = (refl, refl)
+parts a b c d e f g h = cc
 
-pub one_control : (system : System) → InFragment system → (ds : List Decl) → ds ≡ main_declarations system → at_most_one is_control ds ≡ true
-one_control system f ds e = ap (at_most_one is_control) (e ∙ fragment_declarations system f) ∙ (code_parts system f).1
+plain_parts : (m : Module) → is_plain m ≡ true → (list_all (is_plain_decl (with_inputs [] m.decls)) m.decls ≡ true) × (at_most_one is_control m.decls ≡ true)
+plain_parts m h =
+    parts (list_all (is_plain_decl (with_inputs [] m.decls)) m.decls) (types_known [] m.decls) (are_new [] (declared m)) (at_most_one is_init m.decls) (at_most_one is_next m.decls) (at_most_one is_control m.decls)
+    (nat_le (length (variable_names m.decls)) most_variables) h
 
-pub controls_unroll : (system : System) → InFragment system → (ds : List Decl) → ds ≡ main_declarations system → list_all control_unrolls ds ≡ true
-controls_unroll system f ds e = ap (list_all control_unrolls) (e ∙ fragment_declarations system f) ∙ all_unroll (variable_names f.code.decls) f.code.decls (code_parts system f).0
+pub one_control : (system : System) → IsRunnable system → (ds : List Decl) → ds ≡ main_declarations system → at_most_one is_control ds ≡ true
+one_control system r ds e =
+    let is : ds ≡ r.over.code.decls = e ∙ only_declarations system r.over.code r.over.is_flat.only r.over.is_flat.first in
+    ap (at_most_one is_control) is ∙ (plain_parts r.over.code r.over.plain).1
+
+pub controls_unroll : (system : System) → IsRunnable system → (ds : List Decl) → ds ≡ main_declarations system → list_all control_unrolls ds ≡ true
+controls_unroll system r ds e =
+    let is : ds ≡ r.over.code.decls = e ∙ only_declarations system r.over.code r.over.is_flat.only r.over.is_flat.first in
+    ap (list_all control_unrolls) is ∙ all_unroll (with_inputs [] r.over.code.decls) r.over.code.decls (plain_parts r.over.code r.over.plain).0
 
 -- the commands of a block that a walk meets
 pub turn_unrolls : (ds : List Decl) (k : ℕ) (d : Decl) (place : Place) (commands : List Command) → list_all control_unrolls ds ≡ true → k < length ds → d ≡ get_or ds k d → d ≡ Control place commands → unrolls commands ≡ true

@@ -1,2 +1,4 @@
 pub mod Controls
+pub mod Lined
+pub mod Honest
 pub mod Reported

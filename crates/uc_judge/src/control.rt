@@ -8,20 +8,21 @@ ghost use Rattle.uc_control.specs.Verdicts.{out_of_budget};
 ghost use Rattle.uc_judge.specs.Reports.{IsReport};
 ghost use Rattle.uc_judge.specs.Unrolling.{Unrolls, control_unrolls};
 
+use crate::lines::lines_as;
 use crate::results::report_of;
 use std::alloc::{AllocError, Global};
 use uc_control::Report;
+use uc_flat_lines::judge_flat;
 use uc_items::Items;
 use uc_log::Meter;
-use uc_meaning::Ordered;
+use uc_runnable::Runnable;
 use uc_syntax::{Command, Decl, WrittenRun};
-use uc_unrolling::judge_unroll;
 
 /// The report of the design's control block, with this budget of log entries for each line. Want of memory is answered too where a
-/// report would have 2^32 lines, and where an invariant stands behind the first 2^32 declarations of main.
+/// report would have 2^32 lines, and where the run has 2^32 free values.
 pub fn run_control<M: Meter>(
     alloc: Global,
-    d: &Ordered,
+    d: &Runnable,
     budget: u64,
     meter: &mut M,
 ) -> Result<Report, AllocError>
@@ -33,7 +34,9 @@ pub fn run_control<M: Meter>(
 {
     match unrolled(d) {
         Some(depth) => {
-            let lines = judge_unroll(alloc, d, 0, depth, budget, meter)?;
+            let f = d.flat();
+            let judged = judge_flat(alloc, f, depth, budget, meter)?;
+            let lines = lines_as(alloc, f, budget, judged)?;
             report_of(alloc, lines)
         }
         None => Ok(Report {
@@ -44,10 +47,10 @@ pub fn run_control<M: Meter>(
 }
 
 /// How many steps the control block unrolls, or none where there is no block.
-fn unrolled(d: &Ordered) -> Option<u32>
+fn unrolled(d: &Runnable) -> Option<u32>
     ensures { MatchOption result (commands_of d.now ≡ []) (λ n. Unrolls (commands_of d.now) n) }
 {
-    d.keeps_fragment();
+    d.keeps();
     unrolled_in(d.declarations())
 }
 

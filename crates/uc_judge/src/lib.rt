@@ -2,6 +2,7 @@
 #![tactic(auto)]
 
 mod control;
+mod lines;
 mod results;
 
 pub use control::run_control;

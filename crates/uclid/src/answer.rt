@@ -12,7 +12,7 @@ use uc_front::{FrontError, MAX_FILES, Refusal, read_design};
 use uc_io::Texts;
 use uc_judge::run_control;
 use uc_log::Meter;
-use uc_meaning::Ordered;
+use uc_runnable::Runnable;
 
 /// How many entries of a log each line may spend.
 const LINE_BUDGET: u64 = 1_048_576;
@@ -20,7 +20,7 @@ const LINE_BUDGET: u64 = 1_048_576;
 /// An accepted design and the report of its control block.
 #[derive(Drop)]
 pub struct Session {
-    pub design: Ordered,
+    pub design: Runnable,
     pub report: Report,
 }
 

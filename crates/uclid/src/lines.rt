@@ -41,12 +41,12 @@ fn word_at<'a>(words: &[&'a str], number: usize) -> &'a [u8]
 fn session_text(alloc: Global, session: &Session) -> Result<Vec<u8>, AllocError>
     ensures { IfOk result (λ text. text.items ≡ report_text session.now.design session.now.report) }
 {
-    let design = session.design.design();
+    let system = session.design.system();
     let view = DesignView {
-        names: design.names(),
-        files: design.files().as_slice(),
-        modules: design.modules().as_slice(),
-        main: session.design.main(),
+        names: system.names,
+        files: system.files,
+        modules: system.modules,
+        main: system.main,
     };
     report_text(alloc, &view, &session.report)
 }

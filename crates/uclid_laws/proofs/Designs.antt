@@ -15,7 +15,7 @@ use Rattle.uc_grammar.specs.declared.word.Word.{Word}
 use Rattle.uc_grammar.specs.Language.{grammar}
 use Rattle.uc_words.proofs.TokenByToken.{one_list}
 use Rattle.uc_meaning.specs.Lookup.{System}
-use Rattle.uc_meaning.specs.Fragment.{InFragment}
+use Rattle.uc_runnable.specs.Runnable.{IsRunnable}
 use Rattle.uc_front.specs.declared.lexing.Source.{Source}
 use Rattle.uc_front.specs.declared.refusal.Refusal.{Refusal}
 use Rattle.uc_front.specs.declared.refusal.Refusal.TheVariants.{NoFile, TooLong, BadByte, BadNumber, OpenComment, Syntax, TooDeep, TooManyNames, NoMain, NotBuilt}
@@ -214,7 +214,7 @@ one_design held files a b h k =
 
 -- ---- both
 
-never_unbuilt : (files : List (List ℕ)) (sources : List Source) (system : System) (r : Refusal) → IsDesignOf files sources system → InFragment system → IsUnbuilt files sources r → ⊥
+never_unbuilt : (files : List (List ℕ)) (sources : List Source) (system : System) (r : Refusal) → IsDesignOf files sources system → IsRunnable system → IsUnbuilt files sources r → ⊥
 never_unbuilt files sources system r d runs h = by r h
   where
     distinct : AreDistinct (names_of files sources)
@@ -231,7 +231,7 @@ never_unbuilt files sources system r d runs h = by r h
         let modules = one_spelled (names_of files sources) sources system.modules h.0 distinct all h.1 in
         let e : Some system.main ≡ None = sym d.main_is ∙ (λ i. main_in (d.names_are i) (modules i)) ∙ h.2 in
         cc e
-    by (NotBuilt p) h = h.2 (subst InFragment (one_of_sources files sources system h.0 d h.1) runs)
+    by (NotBuilt p) h = h.2 (subst IsRunnable (one_of_sources files sources system h.0 d h.1) runs)
     by (NoFile n) h = h
     by (TooLong n) h = h
     by (BadByte p) h = h

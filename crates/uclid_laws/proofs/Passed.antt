@@ -15,8 +15,7 @@ use Rattle.uc_control.specs.declared.report.Report.{Report}
 use Rattle.uc_control.specs.Reports.{is_passed}
 use Rattle.uc_control.specs.declared.report.Why.TheVariants.{Budget, Memory}
 use Rattle.uc_control.specs.Verdicts.{IsRightVerdict, IsHonest, is_out_of_budget}
-use Rattle.uc_meaning.specs.Cells.{cells_of}
-use Rattle.uc_judge.specs.Reports.{IsReport}
+use Rattle.uc_judge.specs.Reports.{IsReport, line_bits}
 use Rattle.uclid_laws.specs.Laws.{AllPassed, EnoughBudget, PassedInduction, PassedUnroll}
 
 passed_is_valid : (system : System) (line : Line) (v : Verdict) → IsRightVerdict system line v → is_passed v ≡ true → IsValid system line
@@ -48,4 +47,4 @@ within_budget budget bits Passed h room = refl
 within_budget budget bits (Failed trace) h room = refl
 
 pub enough_budget : EnoughBudget
-enough_budget system budget report is room i d lt = within_budget budget (length (cells_of system)) _ (is.honest i d lt) room
+enough_budget system code f budget report d is i x lt room = within_budget budget (line_bits f _) _ (is.honest code f d i x lt) room

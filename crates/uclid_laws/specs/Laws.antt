@@ -3,6 +3,7 @@ use Rattle.std.specs.Prelude.{◌≡◌, ◌⊎◌, ℕ, ◌≤◌, ◌^◌, Boo
 use Rattle.std.specs.List.{list_any, All}
 use Rattle.uc_lexer.specs.declared.place.Place.{Place}
 use Rattle.uc_syntax.specs.declared.place.Identifier.{Identifier}
+use Rattle.uc_syntax.specs.declared.declaration.Module.{Module}
 use Rattle.uc_syntax.specs.declared.declaration.Command.{Command}
 use Rattle.uc_syntax.specs.declared.declaration.Command.TheVariants.{Run}
 use Rattle.uc_syntax.specs.declared.declaration.WrittenRun.TheVariants.{Unroll, Induction}
@@ -12,8 +13,9 @@ use Rattle.uc_laws.specs.Laws.{InstancesApart, HoldsAlways, HoldsUpTo, depth_of}
 use Rattle.uc_control.specs.declared.report.Report.{Report}
 use Rattle.uc_control.specs.Reports.{is_passed}
 use Rattle.uc_control.specs.Verdicts.{is_out_of_budget}
-use Rattle.uc_meaning.specs.Cells.{cells_of}
-use Rattle.uc_judge.specs.Reports.{IsReport}
+use Rattle.uc_flat.specs.declared.flat.Flat.{Flat}
+use Rattle.uc_flat_design.specs.Design.{IsFlatOf}
+use Rattle.uc_judge.specs.Reports.{IsReport, line_bits}
 use Rattle.uc_front.specs.declared.refusal.Refusal.{Refusal}
 use Rattle.uc_front.specs.Denotes.{Denotes, IsAccepted}
 use Rattle.uc_front.specs.Refused.{IsRefused}
@@ -55,11 +57,11 @@ RefusedRuns =
     Ends true files held texts_faults texts_faults_now sink_tells taken taken_now faults faults_now o →
     (o.session ≡ None) × ((o.status ≡ 3) ⊎ EndedByFault texts_faults texts_faults_now faults faults_now o ⊎ (o.status ≡ 7))
 
--- Where the budget of a line is at least 2 to the number of the design's variables, no line is undecided by its budget.
+-- A line whose budget is at least 2 to its free bits is not undecided by its budget.
 abbrev pub EnoughBudget : Type 0
 EnoughBudget =
-    (system : System) (budget : ℕ) (report : Report) → IsReport system budget report → 2 ^ length (cells_of system) ≤ budget →
-    All (λ l. is_out_of_budget l.verdict ≡ false) report.lines
+    (system : System) (code : Module) (f : Flat) (budget : ℕ) (report : Report) → IsFlatOf system code f → IsReport system budget report →
+    All (λ l. 2 ^ line_bits f l.line.at ≤ budget → is_out_of_budget l.verdict ≡ false) report.lines
 
 -- all lines of the command of a number passed
 abbrev pub AllPassed : ℕ → Report → Type 0

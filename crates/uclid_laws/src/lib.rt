@@ -24,7 +24,7 @@ pub fn refused_runs()
     ensures { RefusedRuns }
 {}
 
-/// Where the budget covers all values of the variables, no line is undecided by it.
+/// A line whose budget covers all values of its free bits is not undecided by it.
 pub fn enough_budget()
     ensures { EnoughBudget }
 {}

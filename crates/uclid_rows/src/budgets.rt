@@ -8,7 +8,7 @@ use uc_front::read_design;
 use uc_io::MemTexts;
 use uc_judge::run_control;
 use uc_log::CountMeter;
-use uc_meaning::Ordered;
+use uc_runnable::Runnable;
 
 /// Three pigeons do not fit into two holes: the first formula says it. The second one is false somewhere.
 const PIGEONS: &[u8] =
@@ -31,7 +31,7 @@ const ROWS: [Row; 2] = [
     ),
 ];
 
-fn design_of(rt: &impl Abort, alloc: Global, text: &[u8]) -> Result<Ordered, AllocError> {
+fn design_of(rt: &impl Abort, alloc: Global, text: &[u8]) -> Result<Runnable, AllocError> {
     let mut files = Vec::new(alloc);
     files.push((String::from_str(alloc, "m.ucl")?, text.to_vec(alloc)?))?;
     let mut texts = MemTexts::new(files, 4096, Vec::new(alloc));
@@ -41,15 +41,16 @@ fn design_of(rt: &impl Abort, alloc: Global, text: &[u8]) -> Result<Ordered, All
     }
 }
 
-fn check_budget(rt: &impl Abort, alloc: Global, d: &Ordered, row: &Row) -> Result<(), AllocError> {
+fn check_budget(rt: &impl Abort, alloc: Global, d: &Runnable, row: &Row) -> Result<(), AllocError> {
     let (budget, status, written) = row;
     let mut meter = CountMeter::new();
     let report = run_control(alloc, d, (*budget).max(1), &mut meter)?;
+    let system = d.system();
     let view = DesignView {
-        names: d.design().names(),
-        files: d.design().files().as_slice(),
-        modules: d.design().modules().as_slice(),
-        main: d.main(),
+        names: system.names,
+        files: system.files,
+        modules: system.modules,
+        main: system.main,
     };
     let text = report_text(alloc, &view, &report)?;
     assert_eq!(rt; status_of(&report), *status);

@@ -79,7 +79,7 @@ const JUDGED: [Row; 7] = [
 ];
 
 /// Texts that are refused, each at its place.
-const REFUSED: [Row; 10] = [
+const REFUSED: [Row; 9] = [
     (b"module #", 3, b"error 3 in m.ucl at line 1, column 8\n"),
     (
         b"module main { var 1x : boolean; }",
@@ -113,20 +113,120 @@ const REFUSED: [Row; 10] = [
         b"error 33 in m.ucl at line 1, column 23\n",
     ),
     (
-        b"module main { input x : boolean; }",
-        3,
-        b"error 33 in m.ucl at line 1, column 15\n",
-    ),
-    (
         b"module main { var x : boolean; next { x' = x; x' = !x; } }",
         3,
-        b"error 33 in m.ucl at line 1, column 1\n",
+        b"error 33 in m.ucl at line 1, column 32\n",
     ),
 ];
 
 /// An invariant behind 201 parentheses.
 const DEEP: &[u8] =
     b"module main { invariant p : ((((((((((((((((((((((((((((((((((((((((((((((((((((((((((((((((((((((((((((((((((((((((((((((((((((((((((((((((((((((((((((((((((((((((((((((((((((((((((((((((((((((((((((((((((((((((((((((((((((((((true)))))))))))))))))))))))))))))))))))))))))))))))))))))))))))))))))))))))))))))))))))))))))))))))))))))))))))))))))))))))))))))))))))))))))))))))))))))))))))))))))))))))))))))))))))))))))))))))))))))))); }";
+
+/// Designs of bit-vectors, enums, records and inputs.
+const TYPED: [Row; 6] = [
+    // A number of four bits reaches the bound at step 3.
+    (
+        b"module main { var n : bv4; init { n = 0bv4; } next { n' = n + 1bv4; } invariant small : n <_u 3bv4; control { unroll(3); check; print_results; } }",
+        1,
+        b"3 assertions passed.\n1 assertions failed.\n0 assertions indeterminate.\n  PASSED -> unroll [step 0] invariant small\n  PASSED -> unroll [step 1] invariant small\n  PASSED -> unroll [step 2] invariant small\n  FAILED -> unroll [step 3] invariant small\n",
+    ),
+    // It wraps around modulo 4: a sum of two bits is never past 3.
+    (
+        b"module main { var n : bv2; next { n' = n + 1bv2; } invariant wraps : n <=_u 3bv2; control { unroll(1); check; print_results; } }",
+        0,
+        b"2 assertions passed.\n0 assertions failed.\n0 assertions indeterminate.\n  PASSED -> unroll [step 0] invariant wraps\n  PASSED -> unroll [step 1] invariant wraps\n",
+    ),
+    // A light goes from red to green to yellow.
+    (
+        b"module main { type light = enum { red, green, yellow }; var l : light; init { l = red; } next { case (l == red) : { l' = green; } (l == green) : { l' = yellow; } default : { l' = red; } esac } invariant never : l != yellow; control { unroll(3); check; print_results; } }",
+        1,
+        b"3 assertions passed.\n1 assertions failed.\n0 assertions indeterminate.\n  PASSED -> unroll [step 0] invariant never\n  PASSED -> unroll [step 1] invariant never\n  FAILED -> unroll [step 2] invariant never\n  PASSED -> unroll [step 3] invariant never\n",
+    ),
+    // An input may let the number stay.
+    (
+        b"module main { input go : boolean; var n : bv2; init { n = 0bv2; } next { if (go) { n' = n + 1bv2; } } invariant low : n != 2bv2; control { unroll(2); check; print_results; } }",
+        1,
+        b"2 assertions passed.\n1 assertions failed.\n0 assertions indeterminate.\n  PASSED -> unroll [step 0] invariant low\n  PASSED -> unroll [step 1] invariant low\n  FAILED -> unroll [step 2] invariant low\n",
+    ),
+    // Records are the same where all fields are, and fields are read.
+    (
+        b"module main { type pair = record { flag : boolean, n : bv3 }; var s, t : pair; init { s = t; } next { s' = t; t' = s; } invariant same : s == t; invariant field : s.n == t.n; invariant flag : s.flag; control { unroll(1); check; print_results; } }",
+        1,
+        b"4 assertions passed.\n2 assertions failed.\n0 assertions indeterminate.\n  PASSED -> unroll [step 0] invariant same\n  PASSED -> unroll [step 0] invariant field\n  FAILED -> unroll [step 0] invariant flag\n  PASSED -> unroll [step 1] invariant same\n  PASSED -> unroll [step 1] invariant field\n  FAILED -> unroll [step 1] invariant flag\n",
+    ),
+    // Only values that are assumed begin a run.
+    (
+        b"module main { var a, b : bv8; init { havoc a; assume (a <_u 16bv8); b = a & 15bv8; } next { havoc b'; } invariant low : a == b; control { unroll(1); check; print_results; } }",
+        1,
+        b"1 assertions passed.\n1 assertions failed.\n0 assertions indeterminate.\n  PASSED -> unroll [step 0] invariant low\n  FAILED -> unroll [step 1] invariant low\n",
+    ),
+];
+
+/// Designs that do not run yet, each at the form, the declaration or the statement at fault.
+const NOT_BUILT: [Row; 12] = [
+    (
+        b"module main { var x : boolean; invariant a : x; invariant b : x + 1bv2 == x; }",
+        3,
+        b"error 33 in m.ucl at line 1, column 49\n",
+    ),
+    (
+        b"module main { var x : bv4; init { x = 1bv4;\n x = 1bv5; } }",
+        3,
+        b"error 33 in m.ucl at line 2, column 2\n",
+    ),
+    (
+        b"module main { var x : bv4;\n var y : shade; }",
+        3,
+        b"error 33 in m.ucl at line 2, column 2\n",
+    ),
+    (
+        b"module main { var x : bv4; var y : bv65; }",
+        3,
+        b"error 33 in m.ucl at line 1, column 28\n",
+    ),
+    (
+        b"module main { var x : boolean; invariant p : x; init { assert (x); } }",
+        3,
+        b"error 33 in m.ucl at line 1, column 56\n",
+    ),
+    (
+        b"module main { var x : boolean; procedure p() { } }",
+        3,
+        b"error 33 in m.ucl at line 1, column 32\n",
+    ),
+    (
+        b"module main { type t; }",
+        3,
+        b"error 33 in m.ucl at line 1, column 15\n",
+    ),
+    // Only the front is told of a name that is declared twice, of a second block, and of an input that is written.
+    (
+        b"module main { var x : boolean; var x : bv2; }",
+        3,
+        b"error 33 in m.ucl at line 1, column 1\n",
+    ),
+    (
+        b"module main { type c = enum { red, blue }; var red : c; }",
+        3,
+        b"error 33 in m.ucl at line 1, column 1\n",
+    ),
+    (
+        b"module main { init { } init { } }",
+        3,
+        b"error 33 in m.ucl at line 1, column 1\n",
+    ),
+    (
+        b"module main { input x : boolean; next { x' = true; } }",
+        3,
+        b"error 33 in m.ucl at line 1, column 1\n",
+    ),
+    (
+        b"module main { control { unroll(1001); check; print_results; } }",
+        3,
+        b"error 33 in m.ucl at line 1, column 1\n",
+    ),
+];
 
 fn check_rows(rt: &impl Abort, alloc: Global, rows: &[Row]) -> Result<(), AllocError> {
     for (text, status, written) in rows {
@@ -140,6 +240,20 @@ fn check_rows(rt: &impl Abort, alloc: Global, rows: &[Row]) -> Result<(), AllocE
 #[test]
 fn designs_are_judged(rt: HostRuntime) -> Result<(), Fail> {
     check_rows(&rt, rt.alloc(), &JUDGED)?;
+    Ok(())
+}
+
+#[test]
+fn designs_of_finite_types_are_judged(rt: HostRuntime) -> Result<(), Fail> {
+    check_rows(&rt, rt.alloc(), &TYPED)?;
+    Ok(())
+}
+
+#[test]
+fn designs_that_do_not_run_yet_are_refused_where_they_are_at_fault(
+    rt: HostRuntime,
+) -> Result<(), Fail> {
+    check_rows(&rt, rt.alloc(), &NOT_BUILT)?;
     Ok(())
 }
 

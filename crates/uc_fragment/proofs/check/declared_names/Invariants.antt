@@ -1,7 +1,0 @@
-use Rattle.std.proofs.Common.{◌≡◌, take}
-use Rattle.uc_meaning.specs.Fragment.{declared_names}
-use Rattle.uc_fragment.proofs.check.declared_names.Given as goal
-
-abbrev pub invariant-loop-decl : goal.invariant-loop-decl
-invariant-loop-decl l =
-    l.names.items ≡ declared_names (take l.decl-index l.decls)

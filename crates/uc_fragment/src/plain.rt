@@ -1,0 +1,99 @@
+//! The declarations of a module.
+
+ghost use Rattle.std.specs.Prelude.{◌≡◌, ◌&&◌, nat_le, IfOk, length};
+ghost use Rattle.std.specs.List.{list_all};
+ghost use Rattle.uc_meaning.specs.Fragment.{names_in, variable_names, most_variables};
+ghost use Rattle.uc_fragment.specs.Plain.{is_plain_decl, is_plain};
+
+use crate::blocks::{at_most_one_control, at_most_one_init, at_most_one_next, unrolls};
+use crate::declared::{are_new, declared};
+use crate::inputs::{all_spare, inputs};
+use crate::known::types_known;
+use std::alloc::{AllocError, Global};
+use uc_syntax::{Decl, Module};
+use uc_type_names::NameSet;
+
+/// How many variables a design may have.
+const MOST_VARIABLES: usize = 65535;
+
+fn is_plain_decl(inputs: &NameSet, decl: &Decl) -> bool
+    ensures { result ≡ is_plain_decl inputs.now decl.now }
+{
+    match decl {
+        Decl::TypeAlias(..) => true,
+        Decl::Variables(..) => true,
+        Decl::Init(_, block) => all_spare(inputs, block.as_slice()),
+        Decl::Next(_, block) => all_spare(inputs, block.as_slice()),
+        Decl::Invariant(..) => true,
+        Decl::Control(_, commands) => unrolls(commands.as_slice()),
+        Decl::OpaqueType(..) => false,
+        Decl::TypeImport(..) => false,
+        Decl::Function(..) => false,
+        Decl::Define(..) => false,
+        Decl::Procedure(..) => false,
+        Decl::Instance(..) => false,
+        Decl::Axiom(..) => false,
+        Decl::Hyperinvariant(..) => false,
+        Decl::Hyperaxiom(..) => false,
+    }
+}
+
+fn are_plain(inputs: &NameSet, decls: &[Decl]) -> bool
+    ensures { result ≡ list_all (is_plain_decl inputs.now) decls.now }
+{
+    decls.iter().all(|decl| is_plain_decl(inputs, decl))
+}
+
+/// How many variables, inputs, outputs and constants a declaration names.
+fn count_in(decl: &Decl) -> usize
+    ensures { result ≡ length (names_in decl.now) }
+{
+    match decl {
+        Decl::Variables(_, _, identifiers, _) => identifiers.len(),
+        _ => 0,
+    }
+}
+
+/// Whether there are no more variables than a design may have.
+#[tactic(auto, using(crate::proofs::Counts::too_many, crate::proofs::Counts::few_enough))]
+fn are_few(decls: &[Decl]) -> bool
+    ensures { result ≡ nat_le (length (variable_names decls.now)) most_variables }
+{
+    let mut room = MOST_VARIABLES;
+    for decl in decls {
+        let count = count_in(decl);
+        if count > room {
+            return false;
+        }
+        room -= count;
+    }
+    true
+}
+
+/// Whether the declarations of a module are of the fragment that runs.
+pub fn is_plain(alloc: Global, code: &Module) -> Result<bool, AllocError>
+    ensures { IfOk result (λ b. b ≡ is_plain code.now) }
+{
+    let decls = code.decls.as_slice();
+    let inputs = inputs(alloc, decls)?;
+    if !are_plain(&inputs, decls) {
+        return Ok(false);
+    }
+    if !types_known(alloc, decls)? {
+        return Ok(false);
+    }
+    let names = declared(alloc, code)?;
+    if !are_new(alloc, names.as_slice())? {
+        return Ok(false);
+    }
+    if !at_most_one_init(decls) {
+        return Ok(false);
+    }
+    if !at_most_one_next(decls) {
+        return Ok(false);
+    }
+    if !at_most_one_control(decls) {
+        return Ok(false);
+    }
+    Ok(are_few(decls))
+}

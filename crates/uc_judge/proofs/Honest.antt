@@ -1,0 +1,61 @@
+-- Lines are undecided by their budget only where that is below 2 to their free bits.
+use Rattle.std.proofs.Common.{◌≡◌, ℕ, ◌+◌, ◌<◌, ◌^◌, List, [], ◌∷◌, map, length, refl, sym, ap, ◌∙◌, subst, Some}
+use Rattle.std.specs.List.{All}
+use Rattle.std.proofs.lemmas.List.Elements.{All-nil, All-cons, All-head, All-tail}
+use Rattle.std.proofs.lemmas.Option.{same_Some}
+use Rattle.uc_syntax.specs.declared.declaration.Module.{Module}
+use Rattle.uc_meaning.specs.Lookup.{System, init_of, next_of}
+use Rattle.uc_meaning.specs.Cells.{cells_of}
+use Rattle.uc_flat.specs.declared.flat.Flat.{Flat}
+use Rattle.uc_flat.specs.Flats.{IsSound}
+use Rattle.uc_flat_code.specs.Code.{code_of}
+use Rattle.uc_flat_names.specs.Names.{names_over_cells}
+use Rattle.uc_code_meaning.specs.Sequential.{plainly}
+use Rattle.uc_step_meaning.specs.Next.{primed_behind}
+use Rattle.uc_flat_design.specs.Design.{formulas_from, flat_with, IsFlatOf}
+use Rattle.uc_flat_lines.specs.declared.line.FlatLine.{FlatLine}
+use Rattle.uc_flat_lines.specs.declared.line.FlatVerdict.{FlatVerdict}
+use Rattle.uc_flat_lines.specs.declared.line.FlatVerdict.TheVariants.{Passed, Failed, Undef}
+use Rattle.uc_flat_lines.specs.declared.line.FlatWhy.TheVariants.{Budget, Memory}
+use Rattle.uc_flat_lines.specs.Lines.{lines_below, free_bits, IsHonestVerdict, IsHonestLine as IsHonestFlat, AreFlatJudged}
+use Rattle.uc_flat_lines.proofs.Knowing.{no_constants}
+use Rattle.uc_symstep.specs.Known.{ReadsOwnTypes}
+use Rattle.uc_control.specs.declared.report.LineResult.{LineResult}
+use Rattle.uc_control.specs.Verdicts.{IsHonest}
+use Rattle.uc_judge.specs.Lines.{verdict_as, line_as}
+use Rattle.uc_judge.specs.Reports.{IsHonestLine}
+
+-- ---- a design has one design over cells
+
+abbrev head_of : Module → List Module → Module
+head_of d [] = d
+head_of d (m ∷ ms) = m
+
+pub one_flat : (system : System) (code other : Module) (f g : Flat) → IsFlatOf system code f → IsFlatOf system other g → f ≡ g
+one_flat system code other f g d e =
+    let same : code ≡ other = ap (head_of code) (sym d.only ∙ e.only) in
+    let init : d.init ≡ e.init = same_Some d.init e.init (sym d.init_is ∙ ap (λ m. code_of (names_over_cells system m) plainly (init_of m)) same ∙ e.init_is) in
+    let next : d.next ≡ e.next = same_Some d.next e.next (sym d.next_is ∙ ap (λ m. code_of (names_over_cells system m) (primed_behind (length (cells_of system))) (next_of m)) same ∙ e.next_is) in
+    let formulas : d.formulas ≡ e.formulas = same_Some d.formulas e.formulas (sym d.formulas_are ∙ ap (λ m. formulas_from (names_over_cells system m) 0 m.decls) same ∙ e.formulas_are) in
+    d.is ∙ (λ i. flat_with system (init i) (next i) (formulas i)) ∙ sym e.is
+
+-- ---- verdicts
+
+honest_as : (f : Flat) (budget n : ℕ) (v : FlatVerdict) → ReadsOwnTypes f → IsHonestVerdict f budget n v → IsHonest budget (free_bits f n) (verdict_as budget v)
+honest_as f budget n Passed r h = tt
+honest_as f budget n (Failed t) r h = tt
+honest_as f budget n (Undef Budget) r h = (refl, h r)
+honest_as f budget n (Undef Memory) r h = tt
+
+each_honest : (f : Flat) (budget : ℕ) (ls : List FlatLine) → ReadsOwnTypes f → All (IsHonestFlat f budget) ls → All (IsHonestLine f budget) (map (line_as f budget) ls)
+each_honest f budget [] r h = All-nil (IsHonestLine f budget)
+each_honest f budget (l ∷ ls) r h =
+    All-cons (IsHonestLine f budget) (line_as f budget l) (map (line_as f budget) ls)
+    (honest_as f budget l.steps l.verdict r (All-head (IsHonestFlat f budget) l ls h))
+    (each_honest f budget ls r (All-tail (IsHonestFlat f budget) l ls h))
+
+pub honest_are : (system : System) (code : Module) (f : Flat) (budget before after n : ℕ) (ls : List FlatLine) → IsFlatOf system code f → IsSound f → AreFlatJudged f budget before after (lines_below f n) ls
+    → (other : Module) (g : Flat) → IsFlatOf system other g → All (IsHonestLine g budget) (map (line_as f budget) ls)
+honest_are system code f budget before after n ls d sound j other g e =
+    let none : f.constants ≡ [] = ap (λ (h : Flat). h.constants) d.is in
+    subst (λ h. All (IsHonestLine h budget) (map (line_as f budget) ls)) (one_flat system code other f g d e) (each_honest f budget ls (no_constants f sound none) j.honest)

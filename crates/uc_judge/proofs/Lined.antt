@@ -1,0 +1,120 @@
+-- Judged lines over cells are right lines of the report.
+use Rattle.std.proofs.Common.{◌≡◌, ℕ, zero, suc, ◌+◌, ◌*◌, ◌≤◌, List, [], ◌∷◌, ◌++◌, map, length, Bool, true, false, refl, sym, ap, ◌∙◌, subst, Option, Some, None}
+use Rattle.std.specs.Prelude.{cond, count_by, slice_get, nat_eq}
+use Rattle.std.specs.List.{All}
+use Rattle.std.proofs.lemmas.List.Sums.{sum_by-append}
+use Rattle.std.proofs.lemmas.List.Elements.{All-nil, All-cons, All-head, All-tail, All-append, All-map}
+use Rattle.uc_syntax.specs.declared.declaration.Module.{Module}
+use Rattle.uc_meaning.specs.declared.line.At.TheVariants.{Exactly}
+use Rattle.uc_meaning.specs.declared.line.Line.{Line}
+use Rattle.uc_meaning.specs.Lookup.{System}
+use Rattle.uc_meaning.specs.Lines.{lines_from}
+use Rattle.uc_flat.specs.declared.flat.Flat.{Flat}
+use Rattle.uc_flat.specs.declared.flat.Formula.{Formula}
+use Rattle.uc_flat.specs.Drawn.{listed_if}
+use Rattle.uc_flat_design.specs.Design.{IsFlatOf}
+use Rattle.uc_flat_lines.specs.declared.line.FlatLine.{FlatLine}
+use Rattle.uc_flat_lines.specs.declared.line.FlatVerdict.{FlatVerdict}
+use Rattle.uc_flat_lines.specs.declared.line.FlatVerdict.TheVariants.{Passed, Failed, Undef}
+use Rattle.uc_flat_lines.specs.declared.line.FlatWhy.TheVariants.{Budget, Memory}
+use Rattle.uc_flat_lines.specs.Lines.{speaks_of_one, singles_below, lines_of, step_lines, lines_below, IsRightLine, is_out_of_budget as is_flat_out, AreFlatJudged}
+use Rattle.uc_flat_verdicts.specs.Laws.{design_line, IsRightOf}
+use Rattle.uc_flat_verdicts.proofs.Judged.{order_holds, verdict_holds}
+use Rattle.uc_control.specs.declared.report.LineResult.{LineResult}
+use Rattle.uc_control.specs.Verdicts.{IsRightVerdict, is_out_of_budget, out_of_budget}
+use Rattle.uc_judge.specs.Lines.{verdict_as, line_as}
+
+from_map : {A B : Type 0} (P : B → Type 0) (g : A → B) (xs : List A) → All P (map g xs) → All (λ x. P (g x)) xs
+from_map P g [] h = All-nil (λ x. P (g x))
+from_map P g (x ∷ xs) h = All-cons (λ x. P (g x)) x xs (All-head P (g x) (map g xs) h) (from_map P g xs (All-tail P (g x) (map g xs) h))
+
+weaker : {A : Type 0} (P Q : A → Type 0) (xs : List A) → ((x : A) → P x → Q x) → All P xs → All Q xs
+weaker P Q [] f h = All-nil Q
+weaker P Q (x ∷ xs) f h = All-cons Q x xs (f x (All-head P x xs h)) (weaker P Q xs f (All-tail P x xs h))
+
+both : {A : Type 0} (P Q : A → Type 0) (xs : List A) → All P xs → All Q xs → All (λ x. P x × Q x) xs
+both P Q [] h g = All-nil (λ x. P x × Q x)
+both P Q (x ∷ xs) h g = All-cons (λ x. P x × Q x) x xs (All-head P x xs h, All-head Q x xs g) (both P Q xs (All-tail P x xs h) (All-tail Q x xs g))
+
+-- ---- each line is one of a formula
+
+abbrev IsThere : Flat → ℕ → Type 0
+IsThere f k = (x : Formula) × (slice_get f.formulas k ≡ Some x)
+
+spoken : (o : Option Formula) → speaks_of_one o ≡ true → (x : Formula) × (o ≡ Some x)
+spoken None h = absurd cc
+spoken (Some x) h = (x, refl)
+
+single_there : (f : Flat) (k : ℕ) (b : Bool) → speaks_of_one (slice_get f.formulas k) ≡ b → All (IsThere f) (listed_if b k)
+single_there f k true h = All-cons (IsThere f) k [] (spoken (slice_get f.formulas k) h) (All-nil (IsThere f))
+single_there f k false h = All-nil (IsThere f)
+
+singles_there : (f : Flat) (n : ℕ) → All (IsThere f) (singles_below f n)
+unfolding singles_below
+singles_there f zero = All-nil (IsThere f)
+singles_there f (suc k) = All-append (IsThere f) (singles_below f k) (listed_if (speaks_of_one (slice_get f.formulas k)) k) (singles_there f k) (single_there f k (speaks_of_one (slice_get f.formulas k)) refl)
+
+abbrev IsOne : Flat → ℕ × ℕ → Type 0
+IsOne f p = IsThere f p.1
+
+step_there : (f : Flat) (steps : ℕ) (ks : List ℕ) → All (IsThere f) ks → All (IsOne f) (map (λ k. (steps, k)) ks)
+step_there f steps [] h = All-nil (IsOne f)
+step_there f steps (k ∷ ks) h = All-cons (IsOne f) (steps, k) (map (λ j. (steps, j)) ks) (All-head (IsThere f) k ks h) (step_there f steps ks (All-tail (IsThere f) k ks h))
+
+lines_there : (f : Flat) (n : ℕ) → All (IsOne f) (lines_below f n)
+unfolding lines_below
+lines_there f zero = All-nil (IsOne f)
+lines_there f (suc n) = All-append (IsOne f) (lines_below f n) (step_lines f n) (lines_there f n) (step_there f n (singles_below f (length f.formulas)) (singles_there f (length f.formulas)))
+
+-- ---- the lines of the report
+
+same_lines : (f : Flat) (budget : ℕ) (ls : List FlatLine) → map (λ l. l.line) (map (line_as f budget) ls) ≡ map (design_line f 0) (map (λ l. (l.steps, l.formula)) ls)
+same_lines f budget [] = refl
+same_lines f budget (l ∷ ls) = ap (λ xs. design_line f 0 (l.steps, l.formula) ∷ xs) (same_lines f budget ls)
+
+pub lines_are : (system : System) (code : Module) (f : Flat) (budget before after n : ℕ) (ls : List FlatLine) → IsFlatOf system code f → AreFlatJudged f budget before after (lines_below f n) ls
+    → map (λ l. l.line) (map (line_as f budget) ls) ≡ lines_from system 0 Exactly 0 n
+lines_are system code f budget before after n ls d j =
+    same_lines f budget ls ∙ ap (map (design_line f 0)) j.are ∙ sym (order_holds system code f 0 n d)
+
+abbrev OwnCommand : LineResult → Type 0
+OwnCommand l = l.command ≡ l.line.command
+
+pub commands_are : (f : Flat) (budget : ℕ) (ls : List FlatLine) → All OwnCommand (map (line_as f budget) ls)
+commands_are f budget [] = All-nil OwnCommand
+commands_are f budget (l ∷ ls) = All-cons OwnCommand (line_as f budget l) (map (line_as f budget) ls) refl (commands_are f budget ls)
+
+abbrev RightLine : System → LineResult → Type 0
+RightLine system l = IsRightVerdict system l.line l.verdict
+
+right_as : (system : System) (budget : ℕ) (line : Line) (v : FlatVerdict) → IsRightOf system line v → IsRightVerdict system line (verdict_as budget v)
+right_as system budget line Passed h = h
+right_as system budget line (Failed t) h = h
+right_as system budget line (Undef why) h = tt
+
+pub verdicts_are : (system : System) (code : Module) (f : Flat) (budget before after n : ℕ) (ls : List FlatLine) → IsFlatOf system code f → AreFlatJudged f budget before after (lines_below f n) ls
+    → All (RightLine system) (map (line_as f budget) ls)
+verdicts_are system code f budget before after n ls d j =
+    All-map (RightLine system) (line_as f budget) ls
+    (weaker (λ l. IsThere f l.formula × IsRightLine f l) (λ l. RightLine system (line_as f budget l)) ls
+    (λ l h. right_as system budget (design_line f 0 (l.steps, l.formula)) l.verdict (verdict_holds system code f 0 l h.0.0 d h.0.1 h.1))
+    (both (λ l. IsThere f l.formula) (IsRightLine f) ls there j.right))
+  where
+    there : All (λ (l : FlatLine). IsThere f l.formula) ls
+    there = from_map (IsOne f) (λ (l : FlatLine). (l.steps, l.formula)) ls (subst (All (IsOne f)) (sym j.are) (lines_there f n))
+
+out_as : (budget : ℕ) (v : FlatVerdict) → is_out_of_budget (verdict_as budget v) ≡ is_flat_out v
+out_as budget Passed = refl
+out_as budget (Failed t) = refl
+out_as budget (Undef Budget) = refl
+out_as budget (Undef Memory) = refl
+
+count_cons : {A : Type 0} (p : A → Bool) (x : A) (xs : List A) → count_by p (x ∷ xs) ≡ 0 + cond (p x) 1 0 + count_by p xs
+count_cons p x xs = sum_by-append (λ y. cond (p y) 1 0) (x ∷ []) xs
+
+pub out_are : (f : Flat) (budget : ℕ) (ls : List FlatLine) → out_of_budget (map (line_as f budget) ls) ≡ count_by (λ l. is_flat_out l.verdict) ls
+out_are f budget [] = refl
+out_are f budget (l ∷ ls) =
+    count_cons (λ (x : LineResult). is_out_of_budget x.verdict) (line_as f budget l) (map (line_as f budget) ls)
+    ∙ (λ i. 0 + cond (out_as budget l.verdict i) 1 0 + out_are f budget ls i)
+    ∙ sym (count_cons (λ (x : FlatLine). is_flat_out x.verdict) l ls)

@@ -1,0 +1,29 @@
+-- Lines over numbered cells as lines of the report.
+use Rattle.std.specs.Prelude.{ℕ}
+use Rattle.uc_flat.specs.declared.flat.Flat.{Flat}
+use Rattle.uc_flat_refutations.specs.Laws.{trace_of}
+use Rattle.uc_flat_lines.specs.declared.line.FlatLine.{FlatLine}
+use Rattle.uc_flat_lines.specs.declared.line.FlatVerdict.{FlatVerdict}
+use Rattle.uc_flat_lines.specs.declared.line.FlatVerdict.TheVariants.{Passed as FlatPassed, Failed as FlatFailed, Undef as FlatUndef}
+use Rattle.uc_flat_lines.specs.declared.line.FlatWhy.{FlatWhy}
+use Rattle.uc_flat_lines.specs.declared.line.FlatWhy.TheVariants.{Budget as FlatBudget, Memory as FlatMemory}
+use Rattle.uc_flat_verdicts.specs.Laws.{design_line}
+use Rattle.uc_control.specs.declared.report.Why.{Why}
+use Rattle.uc_control.specs.declared.report.Why.TheVariants.{Budget, Memory}
+use Rattle.uc_control.specs.declared.report.Verdict.{Verdict}
+use Rattle.uc_control.specs.declared.report.Verdict.TheVariants.{Passed, Failed, Undef}
+use Rattle.uc_control.specs.declared.report.LineResult.{LineResult}
+
+abbrev pub why_as : ℕ → FlatWhy → Why
+why_as budget FlatBudget = Budget budget
+why_as budget FlatMemory = Memory
+
+-- the verdict, with its trace as one of the design
+abbrev pub verdict_as : ℕ → FlatVerdict → Verdict
+verdict_as budget FlatPassed = Passed
+verdict_as budget (FlatFailed t) = Failed (trace_of t)
+verdict_as budget (FlatUndef why) = Undef (why_as budget why)
+
+-- the line of the formula's declaration after so many steps, with its verdict
+abbrev pub line_as : Flat → ℕ → FlatLine → LineResult
+line_as f budget l = record { command = 0; line = design_line f 0 (l.steps, l.formula); verdict = verdict_as budget l.verdict }

@@ -1,0 +1,118 @@
+//! Lines over numbered cells as lines of the report.
+
+ghost use Rattle.std.specs.Prelude.{◌≡◌, map, slice_get, IfOk};
+ghost use Rattle.uc_meaning.specs.Steps.{state_of};
+ghost use Rattle.uc_flat_refutations.specs.Laws.{trace_of};
+ghost use Rattle.uc_flat_verdicts.specs.Laws.{decl_of};
+ghost use Rattle.uc_judge.specs.Lines.{why_as, verdict_as, line_as};
+
+use std::alloc::{AllocError, Global};
+use uc_control::{LineResult, Verdict, Why};
+use uc_flat::Flat;
+use uc_flat_lines::{FlatLine, FlatVerdict, FlatWhy};
+use uc_flat_traces::{FlatPosition, FlatTrace};
+use uc_items::{Items, at};
+use uc_meaning::{At, Choices, Interp, Line, Path, State, Trace, What};
+
+/// The states, each with the choices that led to it.
+fn states_of(
+    alloc: Global,
+    positions: Items<FlatPosition>,
+) -> Result<Items<(State, Choices)>, AllocError>
+    ensures { IfOk result (λ states. states ≡ map (λ p. (state_of p.cells, p.choices)) positions) }
+{
+    let mut states = Items::new(alloc);
+    for position in positions.into_vec() {
+        let state = State {
+            cells: position.cells,
+        };
+        states.push((state, position.choices))?;
+    }
+    Ok(states)
+}
+
+/// A trace over cells as a trace of the design.
+fn trace_of(alloc: Global, trace: FlatTrace) -> Result<Trace, AllocError>
+    ensures { IfOk result (λ t. t ≡ trace_of trace) }
+{
+    let states = states_of(alloc, trace.positions)?;
+    let mut copies = Items::new(alloc);
+    copies.push(states)?;
+    Ok(Trace {
+        interp: Interp {
+            consts: Items::new(alloc),
+            tables: Items::new(alloc),
+        },
+        copies,
+    })
+}
+
+fn why_as(budget: u64, why: FlatWhy) -> Why
+    ensures { result ≡ why_as budget why }
+{
+    match why {
+        FlatWhy::Budget => Why::Budget(budget),
+        FlatWhy::Memory => Why::Memory,
+    }
+}
+
+fn verdict_as(alloc: Global, budget: u64, verdict: FlatVerdict) -> Result<Verdict, AllocError>
+    ensures { IfOk result (λ v. v ≡ verdict_as budget verdict) }
+{
+    match verdict {
+        FlatVerdict::Passed => Ok(Verdict::Passed),
+        FlatVerdict::Failed(trace) => {
+            let trace = trace_of(alloc, trace)?;
+            Ok(Verdict::Failed(trace))
+        }
+        FlatVerdict::Undef(why) => Ok(Verdict::Undef(why_as(budget, why))),
+    }
+}
+
+/// The declaration of a formula, by the formula's number.
+fn decl_of(f: &Flat, number: u32) -> u32
+    ensures { result ≡ decl_of (slice_get f.now.formulas number) }
+{
+    match at(f.formulas.as_slice(), number as usize) {
+        Some(formula) => formula.decl,
+        None => 0,
+    }
+}
+
+/// A line over cells as one of the report, of the first command.
+fn line_as(alloc: Global, f: &Flat, budget: u64, line: FlatLine) -> Result<LineResult, AllocError>
+    ensures { IfOk result (λ l. l ≡ line_as f.now budget line) }
+{
+    let decl = decl_of(f, line.formula);
+    let verdict = verdict_as(alloc, budget, line.verdict)?;
+    Ok(LineResult {
+        command: 0,
+        line: Line {
+            command: 0,
+            at: At::Exactly(line.steps),
+            what: What::Formula {
+                path: Path::main(alloc),
+                decl,
+            },
+            arity: 1,
+        },
+        verdict,
+    })
+}
+
+/// Lines over cells as lines of the report, in order.
+pub(crate) fn lines_as(
+    alloc: Global,
+    f: &Flat,
+    budget: u64,
+    lines: Items<FlatLine>,
+) -> Result<Items<LineResult>, AllocError>
+    ensures { IfOk result (λ ls. ls ≡ map (line_as f.now budget) lines) }
+{
+    let mut all = Items::new(alloc);
+    for line in lines.into_vec() {
+        let one = line_as(alloc, f, budget, line)?;
+        all.push(one)?;
+    }
+    Ok(all)
+}

@@ -1,3 +1,0 @@
-pub mod Successors
-pub mod Moves
-pub mod Trails

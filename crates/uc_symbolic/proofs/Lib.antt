@@ -1,4 +1,0 @@
-pub mod Plain
-pub mod Forms
-pub mod Steps
-pub mod Open

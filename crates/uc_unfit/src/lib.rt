@@ -1,0 +1,8 @@
+//! Where a design of one module that does not run is at fault.
+#![tactic(auto)]
+
+mod declarations;
+mod statements;
+mod types;
+
+pub use declarations::unfit_place;

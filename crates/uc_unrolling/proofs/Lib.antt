@@ -1,5 +1,0 @@
-pub mod Unrolled
-pub mod Below
-pub mod Judged
-pub mod Decided
-pub mod Walks
