@@ -7,6 +7,7 @@ mod instances;
 mod report;
 mod scanning;
 mod searching;
+mod watching;
 
 use crate::report::whole_report;
 use std::test::Fail;
