@@ -17,7 +17,7 @@ use uc_terms::{Op, Terms};
 use uc_values::Ty;
 
 /// Takes over each entry of the log.
-fn take_over<M: Meter>(
+pub(crate) fn take_over<M: Meter>(
     terms: &Terms,
     log: &Log,
     meter: &M,

@@ -4,6 +4,7 @@ use crate::entries::{extended_alone, resumed_alone};
 use crate::instances::{Random, commutativity, contradiction, factors, pigeons, random_clauses};
 use crate::scanning::has_candidate;
 use crate::searching::{Outcome, ended_alone};
+use crate::watching::{Count, observed_alone};
 use std::alloc::{AllocError, Global};
 use uc_log::Problem;
 
@@ -121,6 +122,45 @@ impl Report {
             "a gate and an input more: {outcome}; the gate is {value}\n"
         )
     }
+
+    fn add_count(&mut self, count: Count) -> Result<(), AllocError> {
+        let Count { two, none, others } = count;
+        write!(
+            self.text,
+            "{two} clauses watch two literals, {none} none; {others} others\n"
+        )
+    }
+
+    /// What the clauses of a problem watch, before and after a search.
+    fn add_watched(
+        &mut self,
+        alloc: Global,
+        name: &str,
+        p: Problem,
+        budget: u64,
+    ) -> Result<(), AllocError> {
+        let watched = observed_alone(alloc, p, budget)?;
+        write!(self.text, "{name}: at first ")?;
+        self.add_count(watched.first)?;
+        if let Some(count) = watched.candidate {
+            write!(self.text, "{name}: with a candidate ")?;
+            self.add_count(count)?;
+        }
+        let entries = watched.entries;
+        write!(self.text, "{name}: a log of length {entries} taken over, ")?;
+        self.add_count(watched.taken)
+    }
+
+    fn add_watches(&mut self, alloc: Global) -> Result<(), AllocError> {
+        self.add_watched(alloc, "a contradiction", contradiction(alloc)?, 1)?;
+        self.add_watched(alloc, "factors of 15", factors(alloc, 4, 15)?, 1 << 8)?;
+        self.add_watched(
+            alloc,
+            "5 pigeons in 4 holes",
+            pigeons(alloc, 5, 4)?,
+            1 << 20,
+        )
+    }
 }
 
 /// All rows.
@@ -132,5 +172,6 @@ pub(crate) fn whole_report(alloc: Global) -> Result<Report, AllocError> {
     report.add_products(alloc)?;
     report.add_random(alloc)?;
     report.add_entries(alloc)?;
+    report.add_watches(alloc)?;
     Ok(report)
 }
