@@ -2,10 +2,10 @@
 use Rattle.std.specs.Prelude.{Bool, true, false, ◌||◌, ◌&&◌, if◌then◌else◌, List, [], ◌∷◌, Option, Some, None}
 use Rattle.uc_lexer.specs.declared.place.Place.{Place}
 use Rattle.uc_grammar.specs.declared.word.Kind.{Kind}
-use Rattle.uc_grammar.specs.declared.word.Kind.TheVariants.{Induction, Verify, PrintCex, Arrow, KwModule, KwConst, KwFunction, KwDefine, KwProcedure, KwInstance, KwAxiom, KwHyperinvariant, KwHyperaxiom, KwInteger, KwFor, KwCall, KwAssert, KwForall, KwExists, KwWhile}
+use Rattle.uc_grammar.specs.declared.word.Kind.TheVariants.{Arrow, KwModule, KwConst, KwFunction, KwDefine, KwProcedure, KwInstance, KwAxiom, KwHyperinvariant, KwHyperaxiom, KwInteger, KwFor, KwCall, KwAssert, KwForall, KwExists, KwWhile}
 use Rattle.uc_grammar.specs.declared.word.Word.{Word}
 
--- Constants, functions, defines, procedures, instances, axioms and hyper formulas; whole numbers and arrays with a part replaced; loops, calls, assertions and quantifiers; and commands other than `unroll`, `check` and `print_results`.
+-- Constants, functions, defines, procedures, instances, axioms and hyper formulas; whole numbers and arrays with a part replaced; loops, calls, assertions and quantifiers.
 abbrev pub is_outside : Kind → Bool
 is_outside KwConst = true
 is_outside KwFunction = true
@@ -23,9 +23,6 @@ is_outside KwCall = true
 is_outside KwAssert = true
 is_outside KwForall = true
 is_outside KwExists = true
-is_outside (Induction n) = true
-is_outside (Verify n) = true
-is_outside (PrintCex n) = true
 is_outside other = false
 
 abbrev pub begins_module : Kind → Bool

@@ -27,9 +27,6 @@ fn is_outside(kind: Kind) -> bool
             | Kind::KwAssert
             | Kind::KwForall
             | Kind::KwExists
-            | Kind::Induction(_)
-            | Kind::Verify(_)
-            | Kind::PrintCex(_)
     )
 }
 

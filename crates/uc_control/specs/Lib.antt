@@ -1,6 +1,4 @@
-pub mod Described
 pub mod Reports
 pub mod Verdicts
+pub mod Prints
 pub mod Text
-pub mod Tables
-pub mod Named

@@ -6,6 +6,7 @@ ghost use Rattle.uc_control.specs.Reports.{status, is_passed, is_failed, is_unde
 
 use uc_items::Items;
 use uc_meaning::{Line, Trace};
+use uc_trace::CellRef;
 
 /// Why a line is undecided.
 #[derive(Clone, Copy, Debug, PartialEq, Eq)]
@@ -34,10 +35,18 @@ pub struct LineResult {
 }
 
 /// What a command prints.
-#[derive(Clone, Copy, Debug, PartialEq, Eq)]
+#[derive(Drop)]
 pub enum Print {
     /// The lines of the report from the place `first` on, up to `end` and without it.
-    Results { first: u32, end: u32 },
+    Results {
+        first: u32,
+        end: u32,
+    },
+    /// The counterexamples of the lines of these numbers, which failed, each with the values of these cells.
+    Cex {
+        lines: Items<u32>,
+        paths: Items<CellRef>,
+    },
 }
 
 /// The lines that are judged and the prints, both in the order of the commands.

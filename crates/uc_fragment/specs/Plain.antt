@@ -1,5 +1,5 @@
 -- What is asked of the declarations of a design that runs today, beside that there is a design over cells for it.
-use Rattle.std.specs.Prelude.{ℕ, Bool, true, false, not, ◌&&◌, nat_le, if◌then◌else◌, List, [], ◌∷◌, ◌++◌, map, length, Option, Some, None}
+use Rattle.std.specs.Prelude.{ℕ, Bool, true, false, not, ◌&&◌, nat_eq, nat_le, if◌then◌else◌, List, [], ◌∷◌, ◌++◌, map, length, Option, Some, None}
 use Rattle.uc_lexer.specs.declared.place.Place.{Place}
 use Rattle.std.specs.List.{list_all, flat_map}
 use Rattle.uc_syntax.specs.declared.place.Identifier.{Identifier}
@@ -12,13 +12,16 @@ use Rattle.uc_syntax.specs.declared.statement.Stmt.TheOpen.{Stmt-F}
 use Rattle.uc_syntax.specs.declared.statement.Stmt.TheOpen.Stmt-F.{Block, Havoc, Assign, If, Case}
 use Rattle.uc_syntax.specs.declared.statement.Stmt.TheFolds.{fold-Stmt}
 use Rattle.uc_syntax.specs.declared.declaration.VariableKind.TheVariants.{Input}
+use Rattle.uc_syntax.specs.declared.declaration.WrittenRun.TheVariants.{Unroll}
+use Rattle.uc_syntax.specs.declared.declaration.Command.{Command}
+use Rattle.uc_syntax.specs.declared.declaration.Command.TheVariants.{Run, Check, PrintResults, PrintCounterexamples}
 use Rattle.uc_syntax.specs.declared.declaration.Decl.{Decl}
 use Rattle.uc_syntax.specs.declared.declaration.Decl.TheVariants.{TypeAlias, Variables, Init, Next, Invariant, Control}
 use Rattle.uc_syntax.specs.declared.declaration.Module.{Module}
 use Rattle.uc_syntax.specs.WrittenTypes.{enums_of_module}
 use Rattle.uc_rules.specs.Names.{names_one_of}
 use Rattle.uc_type_names.specs.NameSets.{with_name, with_all}
-use Rattle.uc_meaning.specs.Fragment.{at_most_one, is_init, is_next, is_control, unrolls, variable_names, most_variables}
+use Rattle.uc_meaning.specs.Fragment.{at_most_one, is_init, is_next, is_control, variable_names, most_variables, most_steps}
 
 -- ---- names
 
@@ -111,22 +114,61 @@ spares_form names other = true
 unfoldable pub spares : List ℕ → Stmt → Bool
 spares names = fold-Stmt Bool (spares_form names)
 
+-- ---- the control block
+
+abbrev pub variables_by : Decl → List Identifier
+variables_by (Variables place kind is type) = is
+variables_by other = []
+
+-- names with those of the variables, inputs and outputs that are declared
+unfoldable pub with_variables : List ℕ → List Decl → List ℕ
+with_variables names [] = names
+with_variables names (d ∷ ds) = with_variables (with_all names (variables_by d)) ds
+
+-- a path is one name, and that of a cell
+abbrev pub is_cell_path : List ℕ → List Identifier → Bool
+is_cell_path cells (i ∷ []) = names_one_of cells i.name
+is_cell_path cells other = false
+
+-- no paths, or such ones
+abbrev pub are_cell_paths : List ℕ → Option (List (List Identifier)) → Bool
+are_cell_paths cells None = true
+are_cell_paths cells (Some paths) = list_all (is_cell_path cells) paths
+
+-- no name, or that of the command
+abbrev pub is_own_name : Option Identifier → Option Identifier → Bool
+is_own_name name None = true
+is_own_name None (Some f) = false
+is_own_name (Some i) (Some f) = nat_eq i.name f.name
+
+-- a print of the results, or of counterexamples of the command
+abbrev pub is_print : List ℕ → Option Identifier → Command → Bool
+is_print cells name (PrintResults place) = true
+is_print cells name (PrintCounterexamples place f paths) = is_own_name name f && are_cell_paths cells paths
+is_print cells name other = false
+
+-- No commands; or `unroll(N); check;`, with a name or without one, and then prints.
+abbrev pub runs_once : List ℕ → List Command → Bool
+runs_once cells [] = true
+runs_once cells (Run place name (Unroll n) ∷ (Check at ∷ prints)) = nat_le n most_steps && list_all (is_print cells name) prints
+runs_once cells other = false
+
 -- ---- declarations
 
--- a declaration of a type, of variables, inputs or outputs, a block that writes none of the inputs, an invariant, or a control block `unroll(N); check; print_results;`
-abbrev pub is_plain_decl : List ℕ → Decl → Bool
-is_plain_decl inputs (TypeAlias place i type) = true
-is_plain_decl inputs (Variables place kind is type) = true
-is_plain_decl inputs (Init place block) = list_all (spares inputs) block
-is_plain_decl inputs (Next place block) = list_all (spares inputs) block
-is_plain_decl inputs (Invariant place i e) = true
-is_plain_decl inputs (Control place commands) = unrolls commands
-is_plain_decl inputs other = false
+-- a declaration of a type, of variables, inputs or outputs, a block that writes none of the inputs, an invariant, or a control block that runs once
+abbrev pub is_plain_decl : List ℕ → List ℕ → Decl → Bool
+is_plain_decl inputs cells (TypeAlias place i type) = true
+is_plain_decl inputs cells (Variables place kind is type) = true
+is_plain_decl inputs cells (Init place block) = list_all (spares inputs) block
+is_plain_decl inputs cells (Next place block) = list_all (spares inputs) block
+is_plain_decl inputs cells (Invariant place i e) = true
+is_plain_decl inputs cells (Control place commands) = runs_once cells commands
+is_plain_decl inputs cells other = false
 
 -- All declarations are such, with types that are declared before; no name is declared twice; and there is at most one block of each kind, and not too many variables.
 abbrev pub is_plain : Module → Bool
 is_plain m =
-    list_all (is_plain_decl (with_inputs [] m.decls)) m.decls
+    list_all (is_plain_decl (with_inputs [] m.decls) (with_variables [] m.decls)) m.decls
     && (types_known [] m.decls
     && (are_new [] (declared m)
     && (at_most_one is_init m.decls && (at_most_one is_next m.decls && (at_most_one is_control m.decls && nat_le (length (variable_names m.decls)) most_variables)))))

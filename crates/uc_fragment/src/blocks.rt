@@ -1,26 +1,9 @@
-//! How many blocks of a kind a module has, and its commands.
+//! How many blocks of a kind a module has.
 
 ghost use Rattle.std.specs.Prelude.{◌≡◌, count_by, cond};
-ghost use Rattle.uc_meaning.specs.Fragment.{unrolls, is_init, is_next, is_control, at_most_one};
+ghost use Rattle.uc_meaning.specs.Fragment.{is_init, is_next, is_control, at_most_one};
 
-use uc_syntax::{Command, Decl, WrittenRun};
-
-/// How many steps a run may be unrolled.
-const MOST_STEPS: u128 = 1000;
-
-/// Whether commands are `unroll(N); check; print_results;`.
-pub(crate) fn unrolls(commands: &[Command]) -> bool
-    ensures { result ≡ unrolls commands.now }
-{
-    match commands {
-        [
-            Command::Run(_, None, WrittenRun::Unroll(steps)),
-            Command::Check(_),
-            Command::PrintResults(_),
-        ] => { *steps <= MOST_STEPS }
-        _ => false,
-    }
-}
+use uc_syntax::Decl;
 
 pub(crate) fn at_most_one_init(decls: &[Decl]) -> bool
     ensures { result ≡ at_most_one is_init decls.now }

@@ -12,7 +12,7 @@ use uc_type_names::NameSet;
 
 /// Adds the names of identifiers.
 #[tactic(auto, unfolding(uc_type_names::specs::NameSets::with_all))]
-fn add_all(names: &mut NameSet, identifiers: &[Identifier]) -> Result<(), AllocError>
+pub(crate) fn add_all(names: &mut NameSet, identifiers: &[Identifier]) -> Result<(), AllocError>
     ensures { OnOk result (names.new ≡ with_all names.old identifiers.now) }
 {
     for identifier in identifiers {

@@ -5,7 +5,8 @@ ghost use Rattle.std.specs.List.{list_all};
 ghost use Rattle.uc_meaning.specs.Fragment.{names_in, variable_names, most_variables};
 ghost use Rattle.uc_fragment.specs.Plain.{is_plain_decl, is_plain};
 
-use crate::blocks::{at_most_one_control, at_most_one_init, at_most_one_next, unrolls};
+use crate::blocks::{at_most_one_control, at_most_one_init, at_most_one_next};
+use crate::control::{runs_once, variables};
 use crate::declared::{are_new, declared};
 use crate::inputs::{all_spare, inputs};
 use crate::known::types_known;
@@ -16,8 +17,8 @@ use uc_type_names::NameSet;
 /// How many variables a design may have.
 const MOST_VARIABLES: usize = 65535;
 
-fn is_plain_decl(inputs: &NameSet, decl: &Decl) -> bool
-    ensures { result ≡ is_plain_decl inputs.now decl.now }
+fn is_plain_decl(inputs: &NameSet, cells: &NameSet, decl: &Decl) -> bool
+    ensures { result ≡ is_plain_decl inputs.now cells.now decl.now }
 {
     match decl {
         Decl::TypeAlias(..) => true,
@@ -25,7 +26,7 @@ fn is_plain_decl(inputs: &NameSet, decl: &Decl) -> bool
         Decl::Init(_, block) => all_spare(inputs, block.as_slice()),
         Decl::Next(_, block) => all_spare(inputs, block.as_slice()),
         Decl::Invariant(..) => true,
-        Decl::Control(_, commands) => unrolls(commands.as_slice()),
+        Decl::Control(_, commands) => runs_once(cells, commands.as_slice()),
         Decl::OpaqueType(..) => false,
         Decl::TypeImport(..) => false,
         Decl::Function(..) => false,
@@ -38,10 +39,10 @@ fn is_plain_decl(inputs: &NameSet, decl: &Decl) -> bool
     }
 }
 
-fn are_plain(inputs: &NameSet, decls: &[Decl]) -> bool
-    ensures { result ≡ list_all (is_plain_decl inputs.now) decls.now }
+fn are_plain(inputs: &NameSet, cells: &NameSet, decls: &[Decl]) -> bool
+    ensures { result ≡ list_all (is_plain_decl inputs.now cells.now) decls.now }
 {
-    decls.iter().all(|decl| is_plain_decl(inputs, decl))
+    decls.iter().all(|decl| is_plain_decl(inputs, cells, decl))
 }
 
 /// How many variables, inputs, outputs and constants a declaration names.
@@ -76,7 +77,8 @@ pub fn is_plain(alloc: Global, code: &Module) -> Result<bool, AllocError>
 {
     let decls = code.decls.as_slice();
     let inputs = inputs(alloc, decls)?;
-    if !are_plain(&inputs, decls) {
+    let cells = variables(alloc, decls)?;
+    if !are_plain(&inputs, &cells, decls) {
         return Ok(false);
     }
     if !types_known(alloc, decls)? {

@@ -1,10 +1,14 @@
 -- The commands of the one control block.
-use Rattle.std.proofs.Common.{◌≡◌, ℕ, zero, suc, ◌+◌, ◌<◌, Bool, true, false, not, ◌&&◌, ◌||◌, List, [], ◌∷◌, ◌++◌, drop, length, get_or, refl, sym, ap, ◌∙◌}
+use Rattle.std.proofs.Common.{◌≡◌, ℕ, zero, suc, ◌+◌, ◌<◌, ◌≤◌, Bool, true, false, not, ◌&&◌, ◌||◌, List, [], ◌∷◌, ◌++◌, drop, length, get_or, refl, sym, ap, subst, ◌∙◌, arith, Option}
 use Rattle.std.specs.Prelude.{nat_le, slice_get}
 use Rattle.std.specs.List.{list_all, list_any, flat_map}
 use Rattle.std.proofs.lemmas.List.{append-nil}
+use Rattle.std.proofs.lemmas.Bool.Decides.{nat_tests}
 use Rattle.uc_lexer.specs.declared.place.Place.{Place}
+use Rattle.uc_syntax.specs.declared.place.Identifier.{Identifier}
 use Rattle.uc_syntax.specs.declared.declaration.Command.{Command}
+use Rattle.uc_syntax.specs.declared.declaration.Command.TheVariants.{Run, Check}
+use Rattle.uc_syntax.specs.declared.declaration.WrittenRun.TheVariants.{Unroll}
 use Rattle.uc_syntax.specs.declared.declaration.Decl.{Decl}
 use Rattle.uc_syntax.specs.declared.declaration.Decl.TheVariants.{Control}
 use Rattle.uc_syntax.specs.declared.declaration.Module.{Module}
@@ -12,12 +16,12 @@ use Rattle.uc_values.proofs.Shapes.{and_true}
 use Rattle.uc_meaning.specs.Lookup.{System}
 use Rattle.uc_meaning.specs.Lines.{commands_in, main_declarations}
 use Rattle.uc_meaning.specs.Cells.{as_list}
-use Rattle.uc_meaning.specs.Fragment.{at_most_one, at_most_one_after, is_init, is_next, is_control, variable_names, most_variables, unrolls}
+use Rattle.uc_meaning.specs.Fragment.{at_most_one, at_most_one_after, is_init, is_next, is_control, variable_names, most_variables, most_steps}
 use Rattle.uc_meaning.proofs.Fragments.{NoneBefore}
-use Rattle.uc_fragment.specs.Plain.{with_inputs, types_known, are_new, declared, is_plain_decl, is_plain}
+use Rattle.uc_fragment.specs.Plain.{with_inputs, with_variables, types_known, are_new, declared, runs_once, is_plain_decl, is_plain}
 use Rattle.uc_runnable.specs.Runnable.{IsRunnable}
 use Rattle.uc_meaning.proofs.Lists.{drop_turn}
-use Rattle.uc_judge.specs.Unrolling.{control_unrolls}
+use Rattle.uc_judge.specs.Unrolling.{RunsOnce, Unrolls}
 
 or_parts : (a b : Bool) → (a || b) ≡ false → (a ≡ false) × (b ≡ false)
 or_parts true b h = cc
@@ -80,40 +84,51 @@ only_declarations system code only first =
     ∙ ap (λ k. flat_map (λ m. m.decls) (as_list (slice_get (code ∷ []) k))) first
     ∙ append-nil code.decls
 
-plain_unrolls : (inputs : List ℕ) (d : Decl) → is_plain_decl inputs d ≡ true → control_unrolls d ≡ true
-plain_unrolls inputs (Control place commands) h = h
-plain_unrolls inputs other h = refl
-
-all_unroll : (inputs : List ℕ) (ds : List Decl) → list_all (is_plain_decl inputs) ds ≡ true → list_all control_unrolls ds ≡ true
-all_unroll inputs [] h = refl
-all_unroll inputs (d ∷ ds) h = ap (λ b. b && list_all control_unrolls ds) (plain_unrolls inputs d (and_true h).0) ∙ all_unroll inputs ds (and_true h).1
+-- the commands of the one control block run once
+once_in : (inputs cells : List ℕ) (ds : List Decl) → list_all (is_plain_decl inputs cells) ds ≡ true → at_most_one is_control ds ≡ true → runs_once cells (flat_map commands_in ds) ≡ true
+once_in inputs cells [] h one = refl
+once_in inputs cells (Control place commands ∷ ds) h one =
+    ap (runs_once cells) (ap (λ ys. commands ++ ys) (none_of ds (after_one (Control place commands) ds one refl)) ∙ append-nil commands) ∙ (and_true h).0
+once_in inputs cells (other ∷ ds) h one = once_in inputs cells ds (and_true h).1 (after_none other ds one refl)
 
 parts : (a b c d e f g : Bool) → (a && (b && (c && (d && (e && (f && g)))))) ≡ true → (a ≡ true) × (f ≡ true)
 parts true true true true true true g h = (refl, refl)
 parts a b c d e f g h = cc
 
-plain_parts : (m : Module) → is_plain m ≡ true → (list_all (is_plain_decl (with_inputs [] m.decls)) m.decls ≡ true) × (at_most_one is_control m.decls ≡ true)
+plain_parts : (m : Module) → is_plain m ≡ true → (list_all (is_plain_decl (with_inputs [] m.decls) (with_variables [] m.decls)) m.decls ≡ true) × (at_most_one is_control m.decls ≡ true)
 plain_parts m h =
-    parts (list_all (is_plain_decl (with_inputs [] m.decls)) m.decls) (types_known [] m.decls) (are_new [] (declared m)) (at_most_one is_init m.decls) (at_most_one is_next m.decls) (at_most_one is_control m.decls)
-    (nat_le (length (variable_names m.decls)) most_variables) h
+    parts (list_all (is_plain_decl (with_inputs [] m.decls) (with_variables [] m.decls)) m.decls) (types_known [] m.decls) (are_new [] (declared m)) (at_most_one is_init m.decls) (at_most_one is_next m.decls)
+    (at_most_one is_control m.decls) (nat_le (length (variable_names m.decls)) most_variables) h
 
 pub one_control : (system : System) → IsRunnable system → (ds : List Decl) → ds ≡ main_declarations system → at_most_one is_control ds ≡ true
 one_control system r ds e =
     let is : ds ≡ r.over.code.decls = e ∙ only_declarations system r.over.code r.over.is_flat.only r.over.is_flat.first in
     ap (at_most_one is_control) is ∙ (plain_parts r.over.code r.over.plain).1
 
-pub controls_unroll : (system : System) → IsRunnable system → (ds : List Decl) → ds ≡ main_declarations system → list_all control_unrolls ds ≡ true
-controls_unroll system r ds e =
+pub runs_once_there : (system : System) → IsRunnable system → (ds : List Decl) (commands : List Command) → ds ≡ main_declarations system → commands ≡ flat_map commands_in ds → RunsOnce commands
+runs_once_there system r ds commands e are =
     let is : ds ≡ r.over.code.decls = e ∙ only_declarations system r.over.code r.over.is_flat.only r.over.is_flat.first in
-    ap (list_all control_unrolls) is ∙ all_unroll (with_inputs [] r.over.code.decls) r.over.code.decls (plain_parts r.over.code r.over.plain).0
+    let plain = plain_parts r.over.code r.over.plain in
+    record {
+      cells = with_variables [] r.over.code.decls;
+      once = ap (runs_once (with_variables [] r.over.code.decls)) (are ∙ ap (flat_map commands_in) is)
+          ∙ once_in (with_inputs [] r.over.code.decls) (with_variables [] r.over.code.decls) r.over.code.decls plain.0 plain.1;
+    }
 
--- the commands of a block that a walk meets
-pub turn_unrolls : (ds : List Decl) (k : ℕ) (d : Decl) (place : Place) (commands : List Command) → list_all control_unrolls ds ≡ true → k < length ds → d ≡ get_or ds k d → d ≡ Control place commands → unrolls commands ≡ true
-turn_unrolls ds k d place commands h within is form =
-    let turn : drop k ds ≡ Control place commands ∷ drop (k + 1) ds = drop_turn ds k d within is ∙ ap (λ x. x ∷ drop (k + 1) ds) form in
-    (and_true (ap (list_all control_unrolls) (sym turn) ∙ all_drop ds k h)).0
-  where
-    all_drop : (xs : List Decl) (n : ℕ) → list_all control_unrolls xs ≡ true → list_all control_unrolls (drop n xs) ≡ true
-    all_drop xs zero h = h
-    all_drop [] (suc n) h = h
-    all_drop (x ∷ xs) (suc n) h = all_drop xs n (and_true h).1
+-- ---- what commands that run once ask for
+
+le_of : (n : ℕ) → nat_le n most_steps ≡ true → n ≤ most_steps
+le_of n h = grind (arith, nat_tests)
+
+pub unrolls_there : (commands prints : List Command) (run_at check_at : Place) (name : Option Identifier) (depth n : ℕ) → RunsOnce commands → commands ≡ Run run_at name (Unroll n) ∷ (Check check_at ∷ prints) → depth ≡ n → Unrolls commands depth prints
+unrolls_there commands prints run_at check_at name depth n once are d =
+    let h = and_true (ap (runs_once once.cells) (sym are) ∙ once.once) in
+    record {
+      run_at = run_at;
+      name = name;
+      check_at = check_at;
+      are = are ∙ ap (λ k. Run run_at name (Unroll k) ∷ (Check check_at ∷ prints)) (sym d);
+      few = subst (λ k. k ≤ most_steps) (sym d) (le_of n h.0);
+      cells = once.cells;
+      print = h.1;
+    }

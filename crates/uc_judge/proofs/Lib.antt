@@ -1,4 +1,5 @@
 pub mod Controls
 pub mod Lined
 pub mod Honest
+pub mod Printed
 pub mod Reported

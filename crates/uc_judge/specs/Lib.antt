@@ -1,4 +1,4 @@
 pub mod Reports
 pub mod Unrolling
-pub mod Results
 pub mod Lines
+pub mod Prints

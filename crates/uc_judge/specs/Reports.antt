@@ -11,7 +11,7 @@ use Rattle.uc_flat_lines.specs.Lines.{free_bits}
 use Rattle.uc_flat_design.specs.Design.{IsFlatOf}
 use Rattle.uc_control.specs.declared.report.LineResult.{LineResult}
 use Rattle.uc_control.specs.declared.report.Report.{Report}
-use Rattle.uc_control.specs.Reports.{prints_of}
+use Rattle.uc_control.specs.Prints.{prints_of}
 use Rattle.uc_control.specs.Verdicts.{IsRightVerdict, IsHonest}
 
 -- the free bits of a line: those of the cells, of what the init code draws, and of what each step draws with its inputs
@@ -23,10 +23,10 @@ line_bits f other = 0
 abbrev pub IsHonestLine : Flat → ℕ → LineResult → Type 0
 IsHonestLine f budget l = IsHonest budget (line_bits f l.line.at) l.verdict
 
--- The lines are all lines of the design that a `check` follows, in order, each with its command and a right verdict. A line is undecided by its budget only where the budget is below 2 to the line's free bits. The prints are those of the control block.
+-- The lines are all lines of the design that a `check` follows, in order, each with its command and a right verdict. A line is undecided by its budget only where the budget is below 2 to the line's free bits. The prints are those that the control block asks for.
 pub record IsReport (system : System) (budget : ℕ) (report : Report) : Type 0 where
   pub lines : map (λ l. l.line) report.lines ≡ all_lines system
   pub commands : All (λ l. l.command ≡ l.line.command) report.lines
   pub verdicts : All (λ l. IsRightVerdict system l.line l.verdict) report.lines
   pub honest : (code : Module) (f : Flat) → IsFlatOf system code f → All (IsHonestLine f budget) report.lines
-  pub prints : report.prints ≡ prints_of system
+  pub prints : report.prints ≡ prints_of system report.lines

@@ -1,21 +1,25 @@
 -- The control blocks of designs that run today.
-use Rattle.std.specs.Prelude.{◌≡◌, ℕ, ◌≤◌, Bool, true, List, [], ◌∷◌, None}
+use Rattle.std.specs.Prelude.{◌≡◌, ℕ, ◌≤◌, true, List, ◌∷◌, Option}
+use Rattle.std.specs.List.{list_all}
 use Rattle.uc_lexer.specs.declared.place.Place.{Place}
+use Rattle.uc_syntax.specs.declared.place.Identifier.{Identifier}
 use Rattle.uc_syntax.specs.declared.declaration.Command.{Command}
-use Rattle.uc_syntax.specs.declared.declaration.Command.TheVariants.{Run, Check, PrintResults}
+use Rattle.uc_syntax.specs.declared.declaration.Command.TheVariants.{Run, Check}
 use Rattle.uc_syntax.specs.declared.declaration.WrittenRun.TheVariants.{Unroll}
-use Rattle.uc_syntax.specs.declared.declaration.Decl.{Decl}
-use Rattle.uc_syntax.specs.declared.declaration.Decl.TheVariants.{Control}
-use Rattle.uc_meaning.specs.Fragment.{unrolls, most_steps}
+use Rattle.uc_meaning.specs.Fragment.{most_steps}
+use Rattle.uc_fragment.specs.Plain.{is_print, runs_once}
 
--- `unroll(N); check; print_results;`
-pub record Unrolls (commands : List Command) (depth : ℕ) : Type 0 where
+-- no commands, or those of one run, which a `check` and prints follow
+pub record RunsOnce (commands : List Command) : Type 0 where
+  pub cells : List ℕ
+  pub once : runs_once cells commands ≡ true
+
+-- `unroll(N); check;`, with a name or without one, and then these prints
+pub record Unrolls (commands : List Command) (depth : ℕ) (prints : List Command) : Type 0 where
   pub run_at : Place
+  pub name : Option Identifier
   pub check_at : Place
-  pub print_at : Place
-  pub are : commands ≡ Run run_at None (Unroll depth) ∷ (Check check_at ∷ (PrintResults print_at ∷ []))
+  pub are : commands ≡ Run run_at name (Unroll depth) ∷ (Check check_at ∷ prints)
   pub few : depth ≤ most_steps
-
-abbrev pub control_unrolls : Decl → Bool
-control_unrolls (Control place commands) = unrolls commands
-control_unrolls other = true
+  pub cells : List ℕ
+  pub print : list_all (is_print cells name) prints ≡ true

@@ -1,15 +1,15 @@
 //! The commands of a control block.
 
 ghost use Rattle.std.specs.Prelude.{◌≡◌, ◌+◌, ◌*◌, ◌≤◌, ◌<◌, ◌^◌, [], true, IfOk, MatchOption};
-ghost use Rattle.std.specs.List.{list_all, flat_map};
-ghost use Rattle.uc_meaning.specs.Fragment.{at_most_one, is_control, unrolls};
+ghost use Rattle.std.specs.List.{flat_map};
+ghost use Rattle.uc_meaning.specs.Fragment.{at_most_one, is_control};
 ghost use Rattle.uc_meaning.specs.Lines.{commands_in, commands_of};
 ghost use Rattle.uc_control.specs.Verdicts.{out_of_budget};
 ghost use Rattle.uc_judge.specs.Reports.{IsReport};
-ghost use Rattle.uc_judge.specs.Unrolling.{Unrolls, control_unrolls};
+ghost use Rattle.uc_judge.specs.Unrolling.{RunsOnce, Unrolls};
 
 use crate::lines::lines_as;
-use crate::results::report_of;
+use crate::prints::prints_as;
 use std::alloc::{AllocError, Global};
 use uc_control::Report;
 use uc_flat_lines::judge_flat;
@@ -17,6 +17,13 @@ use uc_items::Items;
 use uc_log::Meter;
 use uc_runnable::Runnable;
 use uc_syntax::{Command, Decl, WrittenRun};
+
+/// How many steps a control block unrolls, and the commands behind its `check`.
+#[derive(Clone, Copy)]
+struct Plan<'a> {
+    depth: u32,
+    prints: &'a [Command],
+}
 
 /// The report of the design's control block, with this budget of log entries for each line. Want of memory is answered too where a
 /// report would have 2^32 lines, and where the run has 2^32 free values.
@@ -32,12 +39,13 @@ pub fn run_control<M: Meter>(
     ensures spent { IfOk result (λ r. M.total meter.old + budget * out_of_budget r.lines ≤ M.total meter.new) }
     ensures later { M.total meter.old ≤ M.total meter.new }
 {
-    match unrolled(d) {
-        Some(depth) => {
+    match plan_of(commands_of(d)) {
+        Some(plan) => {
             let f = d.flat();
-            let judged = judge_flat(alloc, f, depth, budget, meter)?;
+            let judged = judge_flat(alloc, f, plan.depth, budget, meter)?;
             let lines = lines_as(alloc, f, budget, judged)?;
-            report_of(alloc, lines)
+            let prints = prints_as(alloc, d.declarations(), plan.prints, lines.as_slice())?;
+            Ok(Report { lines, prints })
         }
         None => Ok(Report {
             lines: Items::new(alloc),
@@ -46,37 +54,41 @@ pub fn run_control<M: Meter>(
     }
 }
 
-/// How many steps the control block unrolls, or none where there is no block.
-fn unrolled(d: &Runnable) -> Option<u32>
-    ensures { MatchOption result (commands_of d.now ≡ []) (λ n. Unrolls (commands_of d.now) n) }
+/// The commands of main.
+fn commands_of(d: &Runnable) -> &[Command]
+    ensures are { result.now ≡ commands_of d.now }
+    ensures once { RunsOnce result.now }
 {
     d.keeps();
-    unrolled_in(d.declarations())
+    commands_in(d.declarations())
 }
 
-fn unrolled_in(decls: &[Decl]) -> Option<u32>
-    requires one { at_most_one is_control decls.now ≡ true }
-    requires simple { list_all control_unrolls decls.now ≡ true }
-    ensures { MatchOption result (flat_map commands_in decls.now ≡ []) (λ n. Unrolls (flat_map commands_in decls.now) n) }
+fn commands_in(decls: &[Decl]) -> &[Command]
+    requires { at_most_one is_control decls.now ≡ true }
+    ensures { result.now ≡ flat_map commands_in decls.now }
 {
     for decl in decls {
         if let Decl::Control(_, commands) = decl {
-            return Some(depth_of(commands.as_slice()));
+            return commands.as_slice();
         }
     }
-    None
+    &[]
 }
 
-fn depth_of(commands: &[Command]) -> u32
-    requires { unrolls commands.now ≡ true }
-    ensures { Unrolls commands.now result }
+/// What commands ask for, or nothing where there are none.
+fn plan_of(commands: &[Command]) -> Option<Plan<'_>>
+    requires { RunsOnce commands.now }
+    ensures { MatchOption result (commands.now ≡ []) (λ p. Unrolls commands.now p.depth p.prints.now) }
 {
     match commands {
         [
-            Command::Run(_, None, WrittenRun::Unroll(depth)),
+            Command::Run(_, _, WrittenRun::Unroll(depth)),
             Command::Check(_),
-            Command::PrintResults(_),
-        ] => *depth as u32,
-        _ => unreachable!(),
+            prints @ ..,
+        ] => Some(Plan {
+            depth: *depth as u32,
+            prints,
+        }),
+        _ => None,
     }
 }

@@ -2,7 +2,6 @@
 #![tactic(auto)]
 
 #[cfg(test)]
-mod control;
 #[cfg(test)]
 mod io;
 #[cfg(test)]

@@ -2,6 +2,7 @@
 
 ghost use Rattle.std.specs.Prelude.{◌≡◌, IfOk, IfErr};
 ghost use Rattle.std.specs.Bool.{Decides};
+ghost use Rattle.uc_syntax.specs.WrittenTypes.{labels_of};
 ghost use Rattle.uc_meaning.specs.Lookup.{system_of};
 ghost use Rattle.uc_meaning.specs.Lines.{main_declarations};
 ghost use Rattle.uc_lookup.specs.Parts.{system_in};
@@ -14,6 +15,7 @@ use uc_flat::Flat;
 use uc_flat_expressions::FlatError;
 use uc_flat_making::flat_design;
 use uc_fragment::is_plain;
+use uc_items::Items;
 use uc_lookup::SystemRef;
 use uc_syntax::{Decl, Design, Module, Place};
 use uc_type_reader::Tables;
@@ -91,6 +93,13 @@ impl Runnable {
         ensures { system_in result ≡ self.now }
     {
         self.tables.system()
+    }
+
+    /// The numbers of the labels of each enum.
+    pub fn labels(&self) -> &[Items<u32>]
+        ensures { result.now ≡ labels_of self.now.modules }
+    {
+        self.tables.labels()
     }
 
     /// The design over numbered cells.

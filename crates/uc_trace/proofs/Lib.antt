@@ -1,3 +1,5 @@
 pub mod Forms
 pub mod Steps
 pub mod Opaques
+pub mod Entered
+pub mod Held

@@ -10,8 +10,8 @@ use Rattle.uc_values.specs.declared.ty.Ty.{Ty}
 use Rattle.uc_values.specs.declared.value.Value.{Value}
 use Rattle.uc_meaning.specs.declared.scope.State.{State}
 use Rattle.uc_meaning.specs.Lookup.{System}
-use Rattle.uc_control.specs.Described.{name_of}
-use Rattle.uc_trace.specs.declared.shown.ShownCell.{ShownCell}
+use Rattle.uc_heads.specs.Described.{name_of}
+use Rattle.uc_trace.specs.declared.cell.CellRef.{CellRef}
 use Rattle.uc_trace.specs.Values.{Printer, field_text, field_texts, printers, value_text, separator}
 use Rattle.uc_trace.specs.Text.{state_text, states_text}
 
@@ -83,7 +83,7 @@ field_end d fs vs k now whole past h =
     sym (append-nil now) ∙ ap (λ x. now ++ x) (sym (ap (joined_from k) (texts_end d fs vs k past) ∙ no_texts k)) ∙ h
 
 -- a state more
-pub state_more : (d : System) (cells : List ShownCell) (ss : List (State × List Value)) (k : ℕ) (s : State × List Value) (now next whole : List ℕ) →
+pub state_more : (d : System) (cells : List CellRef) (ss : List (State × List Value)) (k : ℕ) (s : State × List Value) (now next whole : List ℕ) →
     k < length ss → s ≡ get_or ss k s →
     now ++ states_text d cells k (drop k ss) ≡ whole → next ≡ now ++ state_text d cells k s.0 →
     next ++ states_text d cells (k + 1) (drop (k + 1) ss) ≡ whole
@@ -95,7 +95,7 @@ state_more d cells ss k s now next whole within is h n =
     ∙ h
 
 -- all states are written
-pub state_end : (d : System) (cells : List ShownCell) (ss : List (State × List Value)) (k : ℕ) (now whole : List ℕ) → length ss ≤ k →
+pub state_end : (d : System) (cells : List CellRef) (ss : List (State × List Value)) (k : ℕ) (now whole : List ℕ) → length ss ≤ k →
     now ++ states_text d cells k (drop k ss) ≡ whole → now ≡ whole
 state_end d cells ss k now whole past h =
     sym (append-nil now) ∙ ap (λ ts. now ++ states_text d cells k ts) (sym (drop_all k ss past)) ∙ h

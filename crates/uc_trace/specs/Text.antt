@@ -1,36 +1,48 @@
 -- The text of a counterexample, as bytes.
-use Rattle.std.specs.Prelude.{ℕ, ◌+◌, if◌then◌else◌, List, [], ◌∷◌, ◌++◌, codes, decimal, slice_get, unwrap_or, Option, Some, None}
+use Rattle.std.specs.Prelude.{ℕ, ◌+◌, if◌then◌else◌, List, [], ◌∷◌, ◌++◌, map, codes, decimal, slice_get, unwrap_or, Option, Some, None}
 use Rattle.std.specs.List.{flat_map}
 use Rattle.uc_values.specs.declared.ty.Ty.{Ty}
 use Rattle.uc_values.specs.declared.value.Value.{Value}
 use Rattle.uc_values.specs.Values.{fits}
 use Rattle.uc_meaning.specs.declared.scope.State.{State}
+use Rattle.uc_meaning.specs.declared.line.Line.{Line}
 use Rattle.uc_meaning.specs.declared.line.Trace.{Trace}
 use Rattle.uc_meaning.specs.Lookup.{System}
-use Rattle.uc_control.specs.Described.{name_of}
-use Rattle.uc_control.specs.Text.{path_text}
-use Rattle.uc_trace.specs.declared.shown.ShownCell.{ShownCell}
+use Rattle.uc_meaning.specs.Cells.{cells_of, cell_of}
+use Rattle.uc_heads.specs.Described.{name_of}
+use Rattle.uc_heads.specs.Text.{path_text, head_text}
+use Rattle.uc_trace.specs.declared.cell.CellRef.{CellRef}
 use Rattle.uc_trace.specs.Values.{value_text}
 
 -- a value that fits a type; nothing for one that does not
 abbrev pub fitting_text : System → Ty → Value → List ℕ
 fitting_text d ty v = if fits ty v then value_text d ty v else []
 
--- the value of a cell; nothing where the state has none at its place
-abbrev pub shown_text : System → Ty → Option Value → List ℕ
-shown_text d ty None = []
-shown_text d ty (Some v) = fitting_text d ty v
+-- the value of a cell of a type; nothing where either is missing
+abbrev pub shown_text : System → Option Ty → Option Value → List ℕ
+shown_text d None v = []
+shown_text d (Some ty) None = []
+shown_text d (Some ty) (Some v) = fitting_text d ty v
 
--- a cell in a line of its own: each instance with a dot, the name, and the value
-unfoldable pub cell_text : System → State → ShownCell → List ℕ
-cell_text d s c = codes "    " ++ path_text d c.path ++ name_of d c.name ++ codes " = " ++ shown_text d c.ty (slice_get s.cells c.place) ++ codes "\n"
+-- the types of the cells of a state
+abbrev pub cell_types : System → List Ty
+cell_types d = map (λ c. c.type) (cells_of d)
+
+-- the value that a state has at a place
+abbrev pub held_text : System → State → Option ℕ → List ℕ
+held_text d s None = []
+held_text d s (Some place) = shown_text d (slice_get (cell_types d) place) (slice_get s.cells place)
+
+-- the value of a cell in a line of its own: each instance with a dot, the name, and the value
+unfoldable pub cell_text : System → State → CellRef → List ℕ
+cell_text d s c = codes "    " ++ path_text d c.path ++ name_of d c.name ++ codes " = " ++ held_text d s (cell_of d c.path c.name) ++ codes "\n"
 
 -- the number of a state in a line of its own, and then its cells that are shown
-unfoldable pub state_text : System → List ShownCell → ℕ → State → List ℕ
+unfoldable pub state_text : System → List CellRef → ℕ → State → List ℕ
 state_text d cells place s = codes "  state " ++ decimal place ++ codes "\n" ++ flat_map (cell_text d s) cells
 
 -- the states from the place on
-abbrev pub states_text : System → List ShownCell → ℕ → List (State × List Value) → List ℕ
+abbrev pub states_text : System → List CellRef → ℕ → List (State × List Value) → List ℕ
 states_text d cells place [] = []
 states_text d cells place (s ∷ ss) = state_text d cells place s.0 ++ states_text d cells (place + 1) ss
 
@@ -38,6 +50,6 @@ states_text d cells place (s ∷ ss) = state_text d cells place s.0 ++ states_te
 abbrev pub first_copy : Trace → List (State × List Value)
 first_copy trace = unwrap_or (slice_get trace.copies 0) []
 
--- A counterexample of a line whose head is given: the head in a line of its own, and then each state, numbered from 0.
-unfoldable pub cex_text : System → List ShownCell → List ℕ → Trace → List ℕ
-cex_text d cells head trace = codes "CEX for " ++ head ++ codes "\n" ++ states_text d cells 0 (first_copy trace)
+-- A counterexample of a line: its head in a line of its own, and then each state of the one copy, numbered from 0.
+unfoldable pub cex_text : System → Line → Trace → List CellRef → List ℕ
+cex_text d line trace cells = codes "CEX for " ++ head_text d line ++ codes "\n" ++ states_text d cells 0 (first_copy trace)

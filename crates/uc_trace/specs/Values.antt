@@ -16,7 +16,7 @@ use Rattle.uc_values.specs.declared.value.Value.TheOpen.Value-F.{Arr as array}
 use Rattle.uc_values.specs.Values.{Form, Exception, truth_of, number_of, bits_of, label_of, member_of, parts_of}
 use Rattle.uc_meaning.specs.Lookup.{System}
 use Rattle.uc_meaning.specs.Types.{opaque_types_of}
-use Rattle.uc_control.specs.Described.{name_of}
+use Rattle.uc_heads.specs.Described.{name_of}
 
 -- what is written for each value, which stands for the type that they have
 abbrev pub Printer : Type 0

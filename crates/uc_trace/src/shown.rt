@@ -1,13 +1,13 @@
-//! What is shown of a state.
+//! A design as its counterexamples show it.
 
-use uc_meaning::Path;
-use uc_values::Ty;
+use uc_flat::Cell;
+use uc_heads::DesignView;
+use uc_items::Items;
 
-/// A cell that is shown: its place in a state, the instances from main down to it, the number of its name, and its type.
-#[derive(Drop)]
-pub struct ShownCell {
-    pub place: u32,
-    pub path: Path,
-    pub name: u32,
-    pub ty: Ty,
+/// A design, the labels of each enum by its number, and the cells of its states in their order.
+#[derive(Clone, Copy)]
+pub struct ShownDesign<'a> {
+    pub view: DesignView<'a>,
+    pub labels: &'a [Items<u32>],
+    pub cells: &'a [Cell],
 }

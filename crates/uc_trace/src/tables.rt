@@ -1,50 +1,58 @@
-//! What numbers of labels and of types stand for.
+//! What a counterexample looks up beside the design.
 
 ghost use Rattle.std.specs.Prelude.{◌≡◌, ◌++◌, OnOk, IfOk, slice_get};
 ghost use Rattle.std.specs.Option.{option_map};
 ghost use Rattle.std.specs.List.{filter_map};
-ghost use Rattle.uc_syntax.specs.WrittenTypes.{labels_of};
 ghost use Rattle.uc_meaning.specs.Types.{opaque_in, opaque_types_of};
-ghost use Rattle.uc_control.specs.Described.{described};
+ghost use Rattle.uc_meaning.specs.Cells.{cell_of};
+ghost use Rattle.uc_heads.specs.Described.{described};
 ghost use Rattle.uc_trace.specs.Values.{label_at, opaque_at};
-ghost use Rattle.uc_trace.specs.Tables.{AreTables};
+ghost use Rattle.uc_trace.specs.Tables.{AreCexTables, IsShown};
 
+use crate::places::{place_among, places_in_main};
+use crate::shown::ShownDesign;
 use std::alloc::{AllocError, Global};
-use uc_control::DesignView;
+use uc_flat::Cell;
+use uc_heads::{DesignView, HeadTables};
 use uc_items::{Items, at};
 use uc_syntax::Decl;
 
 /// The names of a module and of a type without a definition that it declares.
 pub(crate) type OpaqueType = (u32, u32);
 
-/// The labels of each enum by its number, and the types without a definition by theirs.
+/// What the heads of lines look up, the labels of each enum by its number, the types without a definition by theirs, the cells, and
+/// the place of the first cell of main for each name.
 #[derive(Drop)]
-pub(crate) struct Tables<'a> {
-    pub labels: &'a [Items<u32>],
-    pub opaque_types: Vec<OpaqueType>,
+pub struct CexTables<'a> {
+    pub heads: HeadTables<'a>,
+    pub(crate) labels: &'a [Items<u32>],
+    pub(crate) opaque_types: Vec<OpaqueType>,
+    pub(crate) cells: &'a [Cell],
+    pub(crate) places: Vec<Option<usize>>,
 }
 
-impl<'a> Tables<'a> {
-    /// The tables of a design whose labels are given.
-    pub fn of(
-        alloc: Global,
-        d: &DesignView<'_>,
-        labels: &'a [Items<u32>],
-    ) -> Result<Tables<'a>, AllocError>
-        requires { labels.now ≡ labels_of d.now.modules.now }
-        ensures { IfOk result (λ tables. AreTables (described d.now) tables) }
+impl<'a> CexTables<'a> {
+    /// The tables of a design.
+    pub fn of(alloc: Global, d: &ShownDesign<'a>) -> Result<CexTables<'a>, AllocError>
+        requires { IsShown d.now }
+        ensures { IfOk result (λ tables. AreCexTables (described d.now.view) tables) }
     {
-        let opaque_types = opaque_types_of(alloc, d)?;
-        Ok(Tables {
-            labels,
+        let heads = HeadTables::of(alloc, &d.view)?;
+        let opaque_types = opaque_types_of(alloc, &d.view)?;
+        let places = places_in_main(alloc, d.cells, d.view.names.len())?;
+        Ok(CexTables {
+            heads,
+            labels: d.labels,
             opaque_types,
+            cells: d.cells,
+            places,
         })
     }
 
     /// The name of the label at a place of the enum of a number.
     #[tactic(auto, unfolding(crate::specs::Values::label_at))]
-    pub fn label_at(&self, d: &DesignView<'_>, number: u32, place: u32) -> Option<u32>
-        requires { AreTables (described d.now) self.now }
+    pub(crate) fn label_at(&self, d: &DesignView<'_>, number: u32, place: u32) -> Option<u32>
+        requires { AreCexTables (described d.now) self.now }
         ensures { result ≡ label_at (described d.now) number place }
     {
         let _ = d;
@@ -54,14 +62,27 @@ impl<'a> Tables<'a> {
 
     /// The name of the type without a definition of a number.
     #[tactic(auto, unfolding(crate::specs::Values::opaque_at))]
-    pub fn opaque_at(&self, d: &DesignView<'_>, number: u32) -> Option<u32>
-        requires { AreTables (described d.now) self.now }
+    pub(crate) fn opaque_at(&self, d: &DesignView<'_>, number: u32) -> Option<u32>
+        requires { AreCexTables (described d.now) self.now }
         ensures { result ≡ opaque_at (described d.now) number }
     {
         let _ = d;
         match at(self.opaque_types.as_slice(), number as usize) {
             Some((_, name)) => Some(*name),
             None => None,
+        }
+    }
+
+    /// The place of a cell in a state.
+    pub(crate) fn place_of(&self, d: &DesignView<'_>, path: &[u32], name: u32) -> Option<usize>
+        requires { AreCexTables (described d.now) self.now }
+        ensures { result ≡ cell_of (described d.now) path.now name }
+    {
+        let _ = d;
+        if path.is_empty() && (name as usize) < self.places.len() {
+            self.places[name as usize]
+        } else {
+            place_among(self.cells, path, name)
         }
     }
 }

@@ -1,45 +1,58 @@
 //! The text of a counterexample.
 
 ghost use Rattle.std.specs.Prelude.{◌≡◌, ◌++◌, OnOk, IfOk};
-ghost use Rattle.std.specs.Option.{option_copied};
+ghost use Rattle.std.specs.Option.{option_copied, option_map};
 ghost use Rattle.std.specs.List.{flat_map};
-ghost use Rattle.uc_syntax.specs.WrittenTypes.{labels_of};
-ghost use Rattle.uc_control.specs.Described.{described};
-ghost use Rattle.uc_control.specs.Text.{path_text};
-ghost use Rattle.uc_trace.specs.Text.{shown_text, fitting_text, cell_text, state_text, states_text, first_copy, cex_text};
-ghost use Rattle.uc_trace.specs.Tables.{AreTables};
+ghost use Rattle.uc_heads.specs.Described.{described};
+ghost use Rattle.uc_trace.specs.Text.{held_text, shown_text, fitting_text, cell_text, state_text, states_text, first_copy, cex_text};
+ghost use Rattle.uc_trace.specs.Tables.{AreCexTables, IsShown};
 
-use crate::put::{put, put_number};
-use crate::shown::ShownCell;
-use crate::tables::Tables;
+use crate::cell::CellRef;
+use crate::shown::ShownDesign;
+use crate::tables::CexTables;
 use crate::values::put_value;
 use std::alloc::{AllocError, Global};
-use uc_control::DesignView;
-use uc_items::{Items, at};
-use uc_meaning::{Choices, State, Trace};
+use uc_flat::Cell;
+use uc_heads::{DesignView, put, put_head, put_number, put_path};
+use uc_items::at;
+use uc_meaning::{Choices, Line, State, Trace};
 use uc_values::{Ty, Value, fits};
 
-/// The text of a counterexample: `CEX for ` and the head of its line, and then the cells that are shown in each state of the first copy.
-/// `labels` has the numbers of the labels of each enum of the design.
-#[tactic(auto, unfolding(crate::specs::Text::cex_text))]
+/// The text of a counterexample of a line: `CEX for ` and the head of the line, and then the cells in each state of the first copy.
 pub fn cex_text(
     alloc: Global,
-    d: &DesignView<'_>,
-    labels: &[Items<u32>],
-    cells: &[ShownCell],
-    head: &[u8],
+    d: &ShownDesign<'_>,
+    line: &Line,
     trace: &Trace,
+    cells: &[CellRef],
 ) -> Result<Vec<u8>, AllocError>
-    requires { labels.now ≡ labels_of d.now.modules.now }
-    ensures { IfOk result (λ text. text.items ≡ cex_text (described d.now) cells.now head.now trace.now) }
+    requires { IsShown d.now }
+    ensures { IfOk result (λ text. text.items ≡ cex_text (described d.now.view) line.now trace.now cells.now) }
 {
-    let tables = Tables::of(alloc, d, labels)?;
+    let tables = CexTables::of(alloc, d)?;
     let mut text = Vec::new(alloc);
-    put(&mut text, b"CEX for ")?;
-    put(&mut text, head)?;
-    put(&mut text, b"\n")?;
-    put_states(&mut text, d, &tables, cells, first_copy(trace))?;
+    put_cex(&mut text, &d.view, &tables, line, trace, cells)?;
     Ok(text)
+}
+
+/// Puts a counterexample of a line.
+#[tactic(auto, unfolding(crate::specs::Text::cex_text))]
+pub fn put_cex(
+    out: &mut Vec<u8>,
+    d: &DesignView<'_>,
+    tables: &CexTables<'_>,
+    line: &Line,
+    trace: &Trace,
+    cells: &[CellRef],
+) -> Result<(), AllocError>
+    requires { AreCexTables (described d.now) tables.now }
+    ensures { OnOk result (out.new.items ≡ out.old.items ++ cex_text (described d.now) line.now trace.now cells.now) }
+{
+    put(out, b"CEX for ")?;
+    put_head(out, d, &tables.heads, line)?;
+    put(out, b"\n")?;
+    put_states(out, d, tables, cells, first_copy(trace))?;
+    Ok(())
 }
 
 /// The states of the first copy, none where there is no copy.
@@ -56,11 +69,11 @@ fn first_copy(trace: &Trace) -> &[(State, Choices)]
 fn put_states(
     out: &mut Vec<u8>,
     d: &DesignView<'_>,
-    tables: &Tables<'_>,
-    cells: &[ShownCell],
+    tables: &CexTables<'_>,
+    cells: &[CellRef],
     states: &[(State, Choices)],
 ) -> Result<(), AllocError>
-    requires { AreTables (described d.now) tables.now }
+    requires { AreCexTables (described d.now) tables.now }
     ensures { OnOk result (out.new.items ≡ out.old.items ++ states_text (described d.now) cells.now 0 states.now) }
 {
     for place in 0..states.len() {
@@ -74,12 +87,12 @@ fn put_states(
 fn put_state(
     out: &mut Vec<u8>,
     d: &DesignView<'_>,
-    tables: &Tables<'_>,
-    cells: &[ShownCell],
+    tables: &CexTables<'_>,
+    cells: &[CellRef],
     place: usize,
     state: &State,
 ) -> Result<(), AllocError>
-    requires { AreTables (described d.now) tables.now }
+    requires { AreCexTables (described d.now) tables.now }
     ensures { OnOk result (out.new.items ≡ out.old.items ++ state_text (described d.now) cells.now place state.now) }
 {
     put(out, b"  state ")?;
@@ -93,11 +106,11 @@ fn put_state(
 fn put_cells(
     out: &mut Vec<u8>,
     d: &DesignView<'_>,
-    tables: &Tables<'_>,
-    cells: &[ShownCell],
+    tables: &CexTables<'_>,
+    cells: &[CellRef],
     state: &State,
 ) -> Result<(), AllocError>
-    requires { AreTables (described d.now) tables.now }
+    requires { AreCexTables (described d.now) tables.now }
     ensures { OnOk result (out.new.items ≡ out.old.items ++ flat_map (cell_text (described d.now) state.now) cells.now) }
 {
     for cell in cells {
@@ -111,48 +124,60 @@ fn put_cells(
 fn put_cell(
     out: &mut Vec<u8>,
     d: &DesignView<'_>,
-    tables: &Tables<'_>,
-    cell: &ShownCell,
+    tables: &CexTables<'_>,
+    cell: &CellRef,
     state: &State,
 ) -> Result<(), AllocError>
-    requires { AreTables (described d.now) tables.now }
+    requires { AreCexTables (described d.now) tables.now }
     ensures { OnOk result (out.new.items ≡ out.old.items ++ cell_text (described d.now) state.now cell.now) }
 {
+    let path = cell.path.as_slice();
     put(out, b"    ")?;
-    put_path(out, d, cell.path.as_slice())?;
+    put_path(out, d, path)?;
     put(out, d.name(cell.name))?;
     put(out, b" = ")?;
-    let value = at(state.cells.as_slice(), cell.place as usize);
-    put_shown(out, d, tables, &cell.ty, value)?;
+    let place = tables.place_of(d, path, cell.name);
+    put_held(out, d, tables, place, state)?;
     put(out, b"\n")?;
     Ok(())
 }
 
-/// Puts each instance of a path with a dot.
-fn put_path(out: &mut Vec<u8>, d: &DesignView<'_>, path: &[u32]) -> Result<(), AllocError>
-    ensures { OnOk result (out.new.items ≡ out.old.items ++ path_text (described d.now) path.now) }
+/// Puts the value that a state has at a place, nothing where there is none.
+#[tactic(auto, using(crate::proofs::Held::held_there))]
+fn put_held(
+    out: &mut Vec<u8>,
+    d: &DesignView<'_>,
+    tables: &CexTables<'_>,
+    place: Option<usize>,
+    state: &State,
+) -> Result<(), AllocError>
+    requires { AreCexTables (described d.now) tables.now }
+    ensures { OnOk result (out.new.items ≡ out.old.items ++ held_text (described d.now) state.now place) }
 {
-    for name in path {
-        put(out, d.name(*name))?;
-        put(out, b".")?;
+    match place {
+        Some(place) => {
+            let cell = at(tables.cells, place);
+            let value = at(state.cells.as_slice(), place);
+            put_shown(out, d, tables, cell, value)
+        }
+        None => Ok(()),
     }
-    Ok(())
 }
 
-/// Puts the value of a cell, nothing where it is not there.
+/// Puts the value of a cell, nothing where either is missing.
 fn put_shown(
     out: &mut Vec<u8>,
     d: &DesignView<'_>,
-    tables: &Tables<'_>,
-    ty: &Ty,
+    tables: &CexTables<'_>,
+    cell: Option<&Cell>,
     value: Option<&Value>,
 ) -> Result<(), AllocError>
-    requires { AreTables (described d.now) tables.now }
-    ensures { OnOk result (out.new.items ≡ out.old.items ++ shown_text (described d.now) ty.now (option_copied value.entry)) }
+    requires { AreCexTables (described d.now) tables.now }
+    ensures { OnOk result (out.new.items ≡ out.old.items ++ shown_text (described d.now) (option_map (λ c. c.ty) (option_copied cell.entry)) (option_copied value.entry)) }
 {
-    match value {
-        Some(value) => put_fitting(out, d, tables, ty, value),
-        None => Ok(()),
+    match (cell, value) {
+        (Some(cell), Some(value)) => put_fitting(out, d, tables, &cell.ty, value),
+        _ => Ok(()),
     }
 }
 
@@ -160,11 +185,11 @@ fn put_shown(
 fn put_fitting(
     out: &mut Vec<u8>,
     d: &DesignView<'_>,
-    tables: &Tables<'_>,
+    tables: &CexTables<'_>,
     ty: &Ty,
     value: &Value,
 ) -> Result<(), AllocError>
-    requires { AreTables (described d.now) tables.now }
+    requires { AreCexTables (described d.now) tables.now }
     ensures { OnOk result (out.new.items ≡ out.old.items ++ fitting_text (described d.now) ty.now value.now) }
 {
     if fits(ty, value) {

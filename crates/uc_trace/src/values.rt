@@ -2,17 +2,17 @@
 
 ghost use Rattle.std.specs.Prelude.{◌≡◌, ◌++◌, [], OnOk, codes};
 ghost use Rattle.std.specs.List.{join_by};
-ghost use Rattle.uc_control.specs.Described.{described, name_of};
+ghost use Rattle.uc_heads.specs.Described.{described, name_of};
 ghost use Rattle.uc_trace.specs.Values.{truth_text, bits_text, member_text, field_texts, printers, value_text, separator, IsArray};
-ghost use Rattle.uc_trace.specs.Tables.{AreTables};
+ghost use Rattle.uc_trace.specs.Tables.{AreCexTables};
 
 use crate::parts::{
     bits_of, default_of, label_of, member_of, number_of, parts_of, rows_of, truth_of,
 };
-use crate::put::{put, put_integer, put_number};
-use crate::tables::Tables;
+use crate::put::put_integer;
+use crate::tables::CexTables;
 use std::alloc::AllocError;
-use uc_control::DesignView;
+use uc_heads::{DesignView, put, put_number};
 use uc_values::{Field, Ty, Value};
 
 /// Puts a value as one of a type.
@@ -21,11 +21,11 @@ use uc_values::{Field, Ty, Value};
 pub(crate) fn put_value(
     out: &mut Vec<u8>,
     d: &DesignView<'_>,
-    tables: &Tables<'_>,
+    tables: &CexTables<'_>,
     ty: &Ty,
     value: &Value,
 ) -> Result<(), AllocError>
-    requires { AreTables (described d.now) tables.now }
+    requires { AreCexTables (described d.now) tables.now }
     ensures { OnOk result (out.new.items ≡ out.old.items ++ value_text (described d.now) ty.now value.now) }
 {
     match ty {
@@ -65,11 +65,11 @@ pub(crate) fn put_value(
 fn put_fields(
     out: &mut Vec<u8>,
     d: &DesignView<'_>,
-    tables: &Tables<'_>,
+    tables: &CexTables<'_>,
     fields: &[Field<Ty>],
     parts: &[Value],
 ) -> Result<(), AllocError>
-    requires { AreTables (described d.now) tables.now }
+    requires { AreCexTables (described d.now) tables.now }
     ensures { OnOk result (out.new.items ≡ out.old.items ++ join_by (λ text. text) (codes ", ") (field_texts (described d.now) (printers (described d.now) fields.now) parts.now)) }
 {
     let count = fields.len().min(parts.len());
@@ -86,11 +86,11 @@ fn put_fields(
 fn put_array(
     out: &mut Vec<u8>,
     d: &DesignView<'_>,
-    tables: &Tables<'_>,
+    tables: &CexTables<'_>,
     ty: &Ty,
     value: &Value,
 ) -> Result<(), AllocError>
-    requires tables { AreTables (described d.now) tables.now }
+    requires tables { AreCexTables (described d.now) tables.now }
     requires array { IsArray ty.now }
     ensures { OnOk result (out.new.items ≡ out.old.items ++ value_text (described d.now) ty.now value.now) }
 {
@@ -152,11 +152,11 @@ fn put_bits(out: &mut Vec<u8>, bits: u64, width: u8) -> Result<(), AllocError>
 fn put_member(
     out: &mut Vec<u8>,
     d: &DesignView<'_>,
-    tables: &Tables<'_>,
+    tables: &CexTables<'_>,
     number: u32,
     member: u64,
 ) -> Result<(), AllocError>
-    requires { AreTables (described d.now) tables.now }
+    requires { AreCexTables (described d.now) tables.now }
     ensures { OnOk result (out.new.items ≡ out.old.items ++ member_text (described d.now) number member) }
 {
     put(out, d.name_or_none(tables.opaque_at(d, number)))?;

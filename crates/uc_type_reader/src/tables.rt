@@ -3,6 +3,7 @@
 ghost use Rattle.std.specs.Prelude.{◌≡◌, ◌&&◌, nat_eq, unwrap_or, [], map, length, slice_index_or, IfOk};
 ghost use Rattle.uc_meaning.specs.Expressions.{label_count};
 ghost use Rattle.std.specs.List.{position_from};
+ghost use Rattle.uc_syntax.specs.WrittenTypes.{labels_of};
 ghost use Rattle.uc_meaning.specs.Lookup.{system_of, same_place};
 ghost use Rattle.uc_meaning.specs.Types.{enum_number, opaque_number};
 ghost use Rattle.uc_lookup.specs.Parts.{system_in};
@@ -66,6 +67,13 @@ impl Tables {
         ensures { system_in result ≡ self.now }
     {
         SystemRef::of(&self.design, self.main)
+    }
+
+    /// The numbers of the labels of each enum.
+    pub fn labels(&self) -> &[Items<u32>]
+        ensures { result.now ≡ labels_of self.now.modules }
+    {
+        self.design.enums().as_slice()
     }
 
     /// How many declarations the modules have together.

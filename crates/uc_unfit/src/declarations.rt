@@ -10,6 +10,7 @@ ghost use Rattle.uc_flat_names.specs.Names.{StandsAlone, names_over_cells};
 ghost use Rattle.uc_flat_design.specs.Design.{is_built, condition_of};
 ghost use Rattle.uc_unfit.specs.Unfit.{unfit_condition, unfit, unfit_in, unfit_only, unfit_of};
 
+use crate::control::unfit_commands;
 use crate::statements::{unfit_block, unfit_next};
 use crate::types::unfit_type;
 use std::alloc::{AllocError, Global};
@@ -17,8 +18,9 @@ use uc_flat_code::Writing;
 use uc_flat_expressions::{FlatError, Meant, flat_expression, is_boolean};
 use uc_flat_parts::are_built;
 use uc_flat_table::{names_table, own_cells};
-use uc_fragment::unknown_type;
+use uc_fragment::{unknown_type, variables};
 use uc_syntax::{Decl, Expr, Module, Place};
+use uc_type_names::NameSet;
 use uc_type_reader::Tables;
 
 /// The place, where a formula is no truth value over cells.
@@ -50,10 +52,11 @@ fn unfit(
     tables: &Tables,
     code: &Module,
     names: &[Meant],
+    cells: &NameSet,
     count: u32,
     decl: &Decl,
 ) -> Result<Option<Place>, AllocError>
-    ensures { IfOk result (λ p. p ≡ unfit tables.now code.now names.now count decl.now) }
+    ensures { IfOk result (λ p. p ≡ unfit tables.now code.now names.now cells.now count decl.now) }
 {
     match decl {
         Decl::OpaqueType(place, _) => Ok(Some(*place)),
@@ -75,6 +78,7 @@ fn unfit(
             unfit_next(alloc, names, writing, *place, block.as_slice())
         }
         Decl::Invariant(place, _, e) => unfit_condition(alloc, names, *place, e),
+        Decl::Control(place, commands) => Ok(unfit_commands(cells, *place, commands.as_slice())),
         _ => Ok(None),
     }
 }
@@ -86,13 +90,14 @@ fn first_unfit(
     tables: &Tables,
     code: &Module,
     names: &[Meant],
+    cells: &NameSet,
     count: u32,
 ) -> Result<Option<Place>, AllocError>
-    ensures { IfOk result (λ p. p ≡ first_some (unfit tables.now code.now names.now count) code.now.decls) }
+    ensures { IfOk result (λ p. p ≡ first_some (unfit tables.now code.now names.now cells.now count) code.now.decls) }
 {
     let decls = code.decls.as_slice();
     for decl in decls {
-        if let Some(place) = unfit(alloc, tables, code, names, count, decl)? {
+        if let Some(place) = unfit(alloc, tables, code, names, cells, count, decl)? {
             return Ok(Some(place));
         }
     }
@@ -120,8 +125,9 @@ fn unfit_in(alloc: Global, tables: &Tables, code: &Module) -> Result<Option<Plac
         return Ok(Some(place));
     }
     let names = names_table(alloc, tables, code)?;
+    let cells = variables(alloc, code.decls.as_slice())?;
     let count = count_cells(alloc, tables, code)?;
-    first_unfit(alloc, tables, code, names.as_slice(), count)
+    first_unfit(alloc, tables, code, names.as_slice(), &cells, count)
 }
 
 fn unfit_only(

@@ -8,8 +8,9 @@ ghost use Rattle.uc_control.specs.Text.{report_text};
 use crate::answer::{Answer, Session};
 use itoa::Buffer;
 use std::alloc::{AllocError, Global};
-use uc_control::{DesignView, report_text};
+use uc_control::report_text;
 use uc_front::Refusal;
+use uc_judge::shown_design;
 
 const USAGE: &[u8] =
     b"usage: uclid [--main NAME] [--budget N] FILE... or uclid --ring N [--budget N]\n";
@@ -41,14 +42,7 @@ fn word_at<'a>(words: &[&'a str], number: usize) -> &'a [u8]
 fn session_text(alloc: Global, session: &Session) -> Result<Vec<u8>, AllocError>
     ensures { IfOk result (λ text. text.items ≡ report_text session.now.design session.now.report) }
 {
-    let system = session.design.system();
-    let view = DesignView {
-        names: system.names,
-        files: system.files,
-        modules: system.modules,
-        main: system.main,
-    };
-    report_text(alloc, &view, &session.report)
+    report_text(alloc, &shown_design(&session.design), &session.report)
 }
 
 /// The line of a refusal.

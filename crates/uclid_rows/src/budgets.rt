@@ -3,10 +3,10 @@
 use std::alloc::{AllocError, Global};
 use std::process::Abort;
 use std::test::Fail;
-use uc_control::{DesignView, report_text, status_of};
+use uc_control::{report_text, status_of};
 use uc_front::read_design;
 use uc_io::MemTexts;
-use uc_judge::run_control;
+use uc_judge::{run_control, shown_design};
 use uc_log::CountMeter;
 use uc_runnable::Runnable;
 
@@ -45,14 +45,7 @@ fn check_budget(rt: &impl Abort, alloc: Global, d: &Runnable, row: &Row) -> Resu
     let (budget, status, written) = row;
     let mut meter = CountMeter::new();
     let report = run_control(alloc, d, (*budget).max(1), &mut meter)?;
-    let system = d.system();
-    let view = DesignView {
-        names: system.names,
-        files: system.files,
-        modules: system.modules,
-        main: system.main,
-    };
-    let text = report_text(alloc, &view, &report)?;
+    let text = report_text(alloc, &shown_design(d), &report)?;
     assert_eq!(rt; status_of(&report), *status);
     assert_eq!(rt; text.as_slice(), *written);
     Ok(())

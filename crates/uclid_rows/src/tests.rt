@@ -163,8 +163,40 @@ const TYPED: [Row; 6] = [
     ),
 ];
 
+/// Control blocks that print counterexamples, or nothing.
+const PRINTED: [Row; 5] = [
+    (
+        b"module main { var x : boolean; init { x = true; } next { x' = !x; } invariant up : x; control { f = unroll(2); check; print_results; f.print_cex(x); } }",
+        1,
+        b"2 assertions passed.\n1 assertions failed.\n0 assertions indeterminate.\n  PASSED -> f [step 0] invariant up\n  FAILED -> f [step 1] invariant up\n  PASSED -> f [step 2] invariant up\nCEX for f [step 1] invariant up\n  state 0\n    x = true\n  state 1\n    x = false\n",
+    ),
+    // The one state in which the formula is false: all cells in their order, and then two of them.
+    (
+        b"module main { type c = enum { red, green }; type r = record { k : c, n : bv2 }; input go : boolean; output o : bv3; var s : r; invariant z : !(go && s.k == green && s.n == 2bv2 && o == 5bv3); control { unroll(0); check; print_cex; print_cex(o, s); } }",
+        1,
+        b"CEX for unroll [step 0] invariant z\n  state 0\n    go = true\n    o = 5bv3\n    s = {k = green, n = 2bv2}\nCEX for unroll [step 0] invariant z\n  state 0\n    o = 5bv3\n    s = {k = green, n = 2bv2}\n",
+    ),
+    // A counterexample for each line that failed; empty parentheses name no cell, so all are printed.
+    (
+        b"module main { var x : boolean; init { x = true; } next { x' = !x; } invariant up : x; invariant down : !x; control { g = unroll(1); check; g.print_cex(); print_results; } }",
+        1,
+        b"CEX for g [step 0] invariant down\n  state 0\n    x = true\nCEX for g [step 1] invariant up\n  state 0\n    x = true\n  state 1\n    x = false\n2 assertions passed.\n2 assertions failed.\n0 assertions indeterminate.\n  PASSED -> g [step 0] invariant up\n  FAILED -> g [step 0] invariant down\n  FAILED -> g [step 1] invariant up\n  PASSED -> g [step 1] invariant down\n",
+    ),
+    // No line failed; nothing is asked for.
+    (
+        b"module main { var x : boolean; invariant any : x || !x; control { unroll(0); check; print_cex(x); } }",
+        0,
+        b"",
+    ),
+    (
+        b"module main { var x : boolean; invariant up : x; control { } }",
+        0,
+        b"",
+    ),
+];
+
 /// Designs that do not run yet, each at the form, the declaration or the statement at fault.
-const NOT_BUILT: [Row; 12] = [
+const NOT_BUILT: [Row; 17] = [
     (
         b"module main { var x : boolean; invariant a : x; invariant b : x + 1bv2 == x; }",
         3,
@@ -200,7 +232,7 @@ const NOT_BUILT: [Row; 12] = [
         3,
         b"error 33 in m.ucl at line 1, column 15\n",
     ),
-    // Only the front is told of a name that is declared twice, of a second block, and of an input that is written.
+    // Only the front is told of a name that is declared twice, of a second block, and of an input that is written; a command is told at its front.
     (
         b"module main { var x : boolean; var x : bv2; }",
         3,
@@ -224,7 +256,32 @@ const NOT_BUILT: [Row; 12] = [
     (
         b"module main { control { unroll(1001); check; print_results; } }",
         3,
-        b"error 33 in m.ucl at line 1, column 1\n",
+        b"error 33 in m.ucl at line 1, column 25\n",
+    ),
+    (
+        b"module main { control { f = induction; check; print_results; } }",
+        3,
+        b"error 33 in m.ucl at line 1, column 25\n",
+    ),
+    (
+        b"module main { control { unroll(1); print_results; } }",
+        3,
+        b"error 33 in m.ucl at line 1, column 36\n",
+    ),
+    (
+        b"module main { control { unroll(1); } }",
+        3,
+        b"error 33 in m.ucl at line 1, column 15\n",
+    ),
+    (
+        b"module main { control { f = unroll(1); check; g.print_cex; } }",
+        3,
+        b"error 33 in m.ucl at line 1, column 47\n",
+    ),
+    (
+        b"module main { var x : boolean; control { unroll(1); check; print_cex(x, y); } }",
+        3,
+        b"error 33 in m.ucl at line 1, column 60\n",
     ),
 ];
 
@@ -246,6 +303,12 @@ fn designs_are_judged(rt: HostRuntime) -> Result<(), Fail> {
 #[test]
 fn designs_of_finite_types_are_judged(rt: HostRuntime) -> Result<(), Fail> {
     check_rows(&rt, rt.alloc(), &TYPED)?;
+    Ok(())
+}
+
+#[test]
+fn counterexamples_are_printed(rt: HostRuntime) -> Result<(), Fail> {
+    check_rows(&rt, rt.alloc(), &PRINTED)?;
     Ok(())
 }
 

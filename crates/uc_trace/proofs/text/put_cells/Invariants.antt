@@ -1,6 +1,6 @@
 use Rattle.std.proofs.Common.{◌≡◌, ◌++◌, take}
 use Rattle.std.specs.List.{flat_map}
-use Rattle.uc_control.specs.Described.{described}
+use Rattle.uc_heads.specs.Described.{described}
 use Rattle.uc_trace.specs.Text.{cell_text}
 use Rattle.uc_trace.proofs.text.put_cells.Given as goal
 

@@ -1,7 +1,7 @@
 use Rattle.std.proofs.Common.{◌++◌, List, ap, sym, ◌∙◌}
 use Rattle.uc_values.specs.declared.value.Value.{Value}
 use Rattle.uc_meaning.specs.declared.scope.State.{State}
-use Rattle.uc_control.specs.Described.{described}
+use Rattle.uc_heads.specs.Described.{described}
 use Rattle.uc_trace.specs.Text.{state_text}
 use Rattle.uc_trace.proofs.Steps.{state_more, state_end}
 use Rattle.uc_trace.proofs.text.put_states.Goals as goal

@@ -1,5 +1,5 @@
 use Rattle.std.proofs.Common.{◌≡◌, ◌++◌, drop}
-use Rattle.uc_control.specs.Described.{described}
+use Rattle.uc_heads.specs.Described.{described}
 use Rattle.uc_trace.specs.Text.{states_text}
 use Rattle.uc_trace.proofs.text.put_states.Given as goal
 

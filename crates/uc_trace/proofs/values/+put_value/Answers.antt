@@ -1,5 +1,5 @@
 use Rattle.std.proofs.Common.{arith}
-use Rattle.uc_control.specs.Described.{described}
+use Rattle.uc_heads.specs.Described.{described}
 use Rattle.uc_syntax.proofs.Added.{added_end}
 use Rattle.uc_trace.proofs.Forms.{record_written, array_written}
 use Rattle.uc_trace.proofs.Steps.{field_more, field_end}

@@ -2,7 +2,7 @@ use Rattle.std.proofs.Common.{◌≡◌, ◌++◌}
 use Rattle.std.specs.Prelude.{codes}
 use Rattle.std.specs.List.{join_by}
 use Rattle.uc_syntax.proofs.Added.{AddedUpTo}
-use Rattle.uc_control.specs.Described.{described}
+use Rattle.uc_heads.specs.Described.{described}
 use Rattle.uc_trace.specs.Values.{field_texts, printers, row_text, value_text}
 use Rattle.uc_trace.proofs.Steps.{fields_from}
 use Rattle.uc_trace.proofs.values.+put_value.Given as goal

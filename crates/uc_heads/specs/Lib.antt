@@ -1,0 +1,4 @@
+pub mod Described
+pub mod Text
+pub mod Tables
+pub mod Named

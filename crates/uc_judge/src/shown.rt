@@ -1,0 +1,28 @@
+//! A design as its report shows it.
+
+ghost use Rattle.std.specs.Prelude.{◌≡◌};
+ghost use Rattle.uc_heads.specs.Described.{described};
+ghost use Rattle.uc_trace.specs.Tables.{IsShown};
+
+use uc_heads::DesignView;
+use uc_runnable::Runnable;
+use uc_trace::ShownDesign;
+
+/// The design with its labels and its cells, by reference.
+pub fn shown_design(d: &Runnable) -> ShownDesign<'_>
+    ensures shown { IsShown result }
+    ensures design { described result.view ≡ d.now }
+{
+    let system = d.system();
+    let view = DesignView {
+        names: system.names,
+        files: system.files,
+        modules: system.modules,
+        main: system.main,
+    };
+    ShownDesign {
+        view,
+        labels: d.labels(),
+        cells: d.flat().cells.as_slice(),
+    }
+}
