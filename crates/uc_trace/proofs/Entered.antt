@@ -14,7 +14,7 @@ abbrev pub ArePlacesFrom : List FlatCell → ℕ → List (Option ℕ) → Type 
 ArePlacesFrom cells k places = (x : ℕ) → x < length places → get_or places x None ≡ position_from (is_mains x) k (drop k cells)
 
 pub none_yet : (cells : List FlatCell) (places : List (Option ℕ)) → AreNone places → ArePlacesFrom cells (length cells) places
-none_yet cells places none x within = none x within ∙ sym (ap (position_from (is_mains x) (length cells)) (drop_all cells (length cells) (omega arith)))
+none_yet cells places none x within = none x within ∙ sym (ap (position_from (is_mains x) (length cells)) (drop_all (length cells) cells (omega arith)))
 
 pub one_more : (cells : List FlatCell) (k : ℕ) (c : FlatCell) (before after : List (Option ℕ)) → k < length cells → c ≡ get_or cells k c → IsEntered k c before after → ArePlacesFrom cells (k + 1) before → ArePlacesFrom cells k after
 one_more cells k c before after within is entered so_far x there =
@@ -72,3 +72,6 @@ entered_past place name c before after n main past is = (ap length is, λ x ther
       where
         impossible : ⊥ → ⊥
         impossible e = e
+
+pub never : false ≡ true → ⊥
+never e = cc

@@ -3,3 +3,4 @@ pub mod Steps
 pub mod Opaques
 pub mod Entered
 pub mod Held
+pub mod Listed

@@ -1,6 +1,6 @@
 //! What a counterexample looks up beside the design.
 
-ghost use Rattle.std.specs.Prelude.{◌≡◌, ◌++◌, OnOk, IfOk, slice_get};
+ghost use Rattle.std.specs.Prelude.{◌≡◌, ◌++◌, [], OnOk, IfOk, slice_get};
 ghost use Rattle.std.specs.Option.{option_map};
 ghost use Rattle.std.specs.List.{filter_map};
 ghost use Rattle.uc_meaning.specs.Types.{opaque_in, opaque_types_of};
@@ -74,15 +74,29 @@ impl<'a> CexTables<'a> {
     }
 
     /// The place of a cell in a state.
+    #[tactic(auto, using(crate::proofs::Listed::place_there))]
     pub(crate) fn place_of(&self, d: &DesignView<'_>, path: &[u32], name: u32) -> Option<usize>
         requires { AreCexTables (described d.now) self.now }
         ensures { result ≡ cell_of (described d.now) path.now name }
     {
+        match path {
+            [] => self.place_in_main(d, name),
+            _ => place_among(self.cells, path, name),
+        }
+    }
+
+    /// The place of a cell of main.
+    #[tactic(auto, using(crate::proofs::Listed::place_there))]
+    fn place_in_main(&self, d: &DesignView<'_>, name: u32) -> Option<usize>
+        requires { AreCexTables (described d.now) self.now }
+        ensures { result ≡ cell_of (described d.now) [] name }
+    {
         let _ = d;
-        if path.is_empty() && (name as usize) < self.places.len() {
-            self.places[name as usize]
+        let number = name as usize;
+        if number < self.places.len() {
+            self.places[number]
         } else {
-            place_among(self.cells, path, name)
+            place_among(self.cells, &[], name)
         }
     }
 }
