@@ -1,15 +1,4 @@
 pub mod Features
 pub mod Standing
-pub mod Steps
-pub mod Folds
-pub mod Booleans
-pub mod Twos
-pub mod Joins
-pub mod Identities
-pub mod Members
-pub mod Applied
-pub mod Made
-pub mod Integers
-pub mod Cutting
-pub mod Singles
-pub mod Combined
+pub mod Rebuilding
+pub mod Compared
