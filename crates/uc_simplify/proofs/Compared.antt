@@ -34,13 +34,13 @@ use Rattle.uc_simplify.specs.Simplified.{Grows, Rebuilds}
 use Rattle.uc_simplify.specs.Records.{IsRecord, AreRecords, AllEqual, none, one, Comparing}
 use Rattle.uc_simplify.proofs.Standing.{Grows-none, Grows-trans, Grows-length, value-same, type-same, brings-back}
 
-types_same : (a b : List Node) (ts : List ℕ) → Grows a b → All (λ t. t < length a) ts → types_at b ts ≡ types_at a ts
+pub types_same : (a b : List Node) (ts : List ℕ) → Grows a b → All (λ t. t < length a) ts → types_at b ts ≡ types_at a ts
 types_same a b ts g h = same_map (type_at b) (type_at a) (λ t. t < length a) ts (λ t l. type-same a b t g l) h
 
-values_same : (a b : List Node) (m : Model) (ts : List ℕ) → Grows a b → All (λ t. t < length a) ts → values_at m b ts ≡ values_at m a ts
+pub values_same : (a b : List Node) (m : Model) (ts : List ℕ) → Grows a b → All (λ t. t < length a) ts → values_at m b ts ≡ values_at m a ts
 values_same a b m ts g h = same_map (value m b) (value m a) (λ t. t < length a) ts (λ t l. value-same a b m t g l) h
 
-one_back : (a b : List Node) (ts : List ℕ) (f : Feature) → WellTyped a → Grows a b → All (λ t. t < length a) ts → OneBrings b ts f → OneBrings a ts f
+pub one_back : (a b : List Node) (ts : List ℕ) (f : Feature) → WellTyped a → Grows a b → All (λ t. t < length a) ts → OneBrings b ts f → OneBrings a ts f
 one_back a b ts f w g h o =
     record { one = o.one; listed = o.listed; brings = brings-back a b o.one f w g (All-contains (λ t. t < length a) ts o.one h o.listed) o.brings }
 
@@ -66,6 +66,11 @@ Rebuilds-earlier a b new r op parts w g h s =
         | inr o ↦ inr (one_back a b parts f w g h o)
       ];
     }
+
+-- the same, for the answer of a call
+pub call_earlier : {E : Type 0} (a b new : List Node) (op : Op) (parts : List ℕ) (o : Result ℕ E) → WellTyped a → Grows a b → All (λ p. p < length a) parts → IfOk o (λ r. Rebuilds new r b op parts) → IfOk o (λ r. Rebuilds new r a op parts)
+call_earlier a b new op parts (Err e) w g h s = tt
+call_earlier a b new op parts (Ok r) w g h s = Rebuilds-earlier a b new r op parts w g h s
 
 pub pair_there : (nodes : List Node) (a b : ℕ) → a < length nodes → b < length nodes → All (λ p. p < length nodes) (a ∷ b ∷ [])
 pair_there nodes a b h g = All-cons (λ p. p < length nodes) a (b ∷ []) h (All-cons (λ p. p < length nodes) b [] g (All-nil (λ p. p < length nodes)))

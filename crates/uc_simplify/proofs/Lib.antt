@@ -2,3 +2,5 @@ pub mod Features
 pub mod Standing
 pub mod Rebuilding
 pub mod Compared
+pub mod Gathered
+pub mod Sides

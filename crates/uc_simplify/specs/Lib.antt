@@ -1,4 +1,5 @@
 pub mod Features
 pub mod Simplified
 pub mod Records
+pub mod Integers
 pub mod Walking

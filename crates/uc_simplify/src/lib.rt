@@ -42,6 +42,7 @@
 #![tactic(auto)]
 
 mod building;
+mod linear;
 mod rebuild;
 mod records;
 mod simplifier;

@@ -7,6 +7,7 @@ ghost use Rattle.uc_simplify.specs.Simplified.{Rebuilds, Grows};
 ghost use Rattle.uc_simplify.specs.Records.{AllEqual};
 
 use crate::building::{build, put};
+use crate::linear::normal;
 use crate::records::two_records;
 use std::alloc::{AllocError, Global};
 use uc_items::Items;
@@ -70,14 +71,34 @@ fn made(
     ensures well { WellTyped terms.new }
 {
     if depth == 0 {
-        return build(alloc, terms, op, parts);
+        return on_integers(alloc, terms, op, parts);
     }
     let _count = terms.len();
     let Some((left, right)) = two_records(alloc, terms, &op, parts)? else {
-        return build(alloc, terms, op, parts);
+        return on_integers(alloc, terms, op, parts);
     };
     let equal = equalities(alloc, terms, &left, &right, depth - 1)?;
     put(alloc, terms, Op::And, Items::from_vec(equal))
+}
+
+/// The operation on the parts, in its normal form where it is one on integers.
+fn on_integers(
+    alloc: Global,
+    terms: &mut Terms,
+    op: Op,
+    parts: &[TermId],
+) -> Result<TermId, AllocError>
+    requires there { All (λ p. p < length terms.old) parts.now }
+    requires suits { Suits op (types_at terms.old parts.now) }
+    ensures rebuilt { IfOk result (λ r. Rebuilds terms.new r terms.old op parts.now) }
+    ensures grown { Grows terms.old terms.new }
+    ensures well { WellTyped terms.new }
+{
+    let _count = terms.len();
+    match normal(alloc, terms, &op, parts)? {
+        Some(t) => Ok(t),
+        None => build(alloc, terms, op, parts),
+    }
 }
 
 /// The equalities of terms with those beside them.

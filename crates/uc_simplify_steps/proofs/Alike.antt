@@ -146,7 +146,7 @@ by_choice element true x y z e f = e
 by_choice element false x y z e f = f
 
 -- two truths of which each gives the other
-equal_truths : (a b : Bool) → (a ≡ true → b ≡ true) → (b ≡ true → a ≡ true) → a ≡ b
+pub equal_truths : (a b : Bool) → (a ≡ true → b ≡ true) → (b ≡ true → a ≡ true) → a ≡ b
 equal_truths true b f g = sym (f refl)
 equal_truths false true f g = g refl
 equal_truths false false f g = refl
