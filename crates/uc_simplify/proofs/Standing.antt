@@ -18,10 +18,10 @@ use Rattle.uc_terms.specs.Subterms.{itself, deeper, Marked, AreSubterms}
 use Rattle.uc_terms.proofs.Grown.{type-keeps, type-node, parts-node}
 use Rattle.uc_terms.proofs.Values.{value-keeps, value-node}
 use Rattle.uc_terms.proofs.Walk.{marked_within}
-use Rattle.uc_simplify.specs.Features.{Feature, Shows, Brings, OneBrings}
+use Rattle.uc_simplify_steps.specs.Features.{Feature, Shows, Brings, OneBrings}
 use Rattle.uc_simplify.specs.Simplified.{Grows, StandsFor, Rebuilds}
 use Rattle.uc_simplify.specs.Walking.{PartsAnswered, Answered}
-use Rattle.uc_simplify.proofs.Features.{part_before, parts-keep, brings-keeps, brings-grows, brings-below}
+use Rattle.uc_simplify_steps.proofs.Features.{part_before, parts-keep, brings-keeps, brings-grows, brings-below}
 
 pub Grows-none : (nodes : List Node) → Grows nodes nodes
 Grows-none nodes = record { more = []; is = sym (append-nil nodes) }

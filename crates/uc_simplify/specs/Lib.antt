@@ -1,7 +1,5 @@
 pub mod Features
 pub mod Simplified
+pub mod Records
+pub mod Integers
 pub mod Walking
-pub mod Steps
-pub mod Junctions
-pub mod Sums
-pub mod Combining

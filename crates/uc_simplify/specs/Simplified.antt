@@ -7,7 +7,7 @@ use Rattle.uc_ops.specs.Typing.{type_of, type_at, types_at}
 use Rattle.uc_ops.specs.Meaning.{apply}
 use Rattle.uc_terms.specs.Values.{value, values_at}
 use Rattle.uc_terms.specs.Laws.{SameUnderEveryModel}
-use Rattle.uc_simplify.specs.Features.{Feature, Shows, Brings, OneBrings, BringsNoMore}
+use Rattle.uc_simplify_steps.specs.Features.{Feature, Shows, Brings, OneBrings, BringsNoMore}
 
 -- the new table goes on from the old one
 pub record Grows (old new : List Node) : Type 0 where

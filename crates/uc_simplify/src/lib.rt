@@ -2,8 +2,9 @@
 //!
 //! [`simplify`] meets each term below the given one once, in the order of their numbers, and rebuilds it over what stands for its
 //! parts. At each operation the rules are tried in turn, and again on what a rule gives, up to sixteen times. A rule names a term
-//! below the parts, or another operation on such terms; its contract says that this has the type and under every model the value
-//! of the operation, and brings no symbol, function, integer, array or `Diff` that is new.
+//! below the parts, or another operation on such terms (`uc_simplify_steps`), or it makes terms; its contract says that what it
+//! gives has the type and under every model the value of the operation, and brings no symbol, function, integer, array or `Diff`
+//! that is new.
 //!
 //! | Rule | Before | After |
 //! |---|---|---|
@@ -19,7 +20,9 @@
 //! | | `if c then true else false`, `if c then false else true` | `c`, `!c` |
 //! | equality | of two constants | `true` or `false` |
 //! | | `a == true`, `a == false` | `a`, `!a` |
-//! | comparison with itself | `a == a` of a type with constants, `a <= a` (integers, signed, unsigned) | `true` |
+//! | | of two records that are made | the conjunction of the equalities of their fields, down to eight records within one another |
+//! | | of `a` with `x` stored at `i` and `a` with `y` stored at `i` | `x == y` |
+//! | comparison with itself | `a == a` of any type, `a <= a` (integers, signed, unsigned) | `true` |
 //! | | `a < a` (signed, unsigned) | `false` |
 //! | order | `a == b` of a type with constants, `a + b`, `a * b`, `a & b`, `a \| b`, `a ^ b` of bits | a constant last, else the earlier term first |
 //! | neutral bits | `a + 0`, `a - 0`, `a \| 0`, `a ^ 0`, `a << 0`, `a >> 0` (both kinds), `a * 1`, `a & ones` | `a` |
@@ -34,24 +37,14 @@
 //! | sums | `a + 0`, `a + -1 * a`, of one integer `a`, of two constants | `a`, `0`, `a`, the constant where it has 128 bits |
 //! | multiples | `1 * a`; `0 * a`; `m * (n * a)` | `a`; `0`; `mn * a` where `mn` has 128 bits |
 //! | records | field `i` of a record that is made | its part `i` |
-//! | arrays | what `a` with `x` stored at `i` holds at `i` (`i` of a scalar type) | `x` |
+//! | arrays | what `a` with `x` stored at `i` holds at `i` | `x` |
 //! | | at a constant that is not the constant `i` | what `a` holds there |
 #![tactic(auto)]
 
 mod building;
-mod copying;
-mod extracts;
-mod folding;
-mod gathering;
-mod junctions;
-mod opened;
-mod pairs;
-mod places;
+mod linear;
 mod rebuild;
+mod records;
 mod simplifier;
-mod step;
-mod sums;
-mod truths;
-mod words;
 
 pub use simplifier::simplify;

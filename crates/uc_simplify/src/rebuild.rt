@@ -1,29 +1,21 @@
 //! An operation on parts that are simplified.
 
-ghost use Rattle.std.specs.Prelude.{◌≡◌, ℕ, ◌<◌, [], ◌∷◌, length, IfOk, IfSome, All};
-ghost use Rattle.uc_ops.specs.declared.op.Op.TheVariants.{Ite, Eq as Equal, Extract};
-ghost use Rattle.uc_ops.specs.Typing.{Suits, types_at, type_at};
+ghost use Rattle.std.specs.Prelude.{◌≡◌, ◌<◌, length, IfOk, All};
+ghost use Rattle.uc_ops.specs.Typing.{Suits, types_at};
 ghost use Rattle.uc_terms.specs.Tables.{WellTyped};
 ghost use Rattle.uc_simplify.specs.Simplified.{Rebuilds, Grows};
-ghost use Rattle.uc_simplify.specs.Steps.{IsRight};
+ghost use Rattle.uc_simplify.specs.Records.{AllEqual};
 
-use crate::building::build;
-use crate::extracts::{combined, from_concatenation, from_zeros, kept_whole, undone};
-use crate::folding::{folded_one, folded_two};
-use crate::gathering::gathered;
-use crate::junctions::{conjunct_alone, disjunct_alone, granted, refuted};
-use crate::pairs::{compared_constants, compared_to_false, compared_to_itself, compared_to_true};
-use crate::places::{field_made, selected};
-use crate::step::Step;
-use crate::sums::{scaled, sum_of_one, sum_of_two};
-use crate::truths::{chosen, condition_itself, condition_negated, turned, twice_negated, unchosen};
-use crate::words::{one_of_two, reordered, shifted_out, with_itself};
+use crate::building::{build, put};
+use crate::linear::normal;
+use crate::records::two_records;
 use std::alloc::{AllocError, Global};
 use uc_items::Items;
+use uc_simplify_steps::{Step, settle};
 use uc_terms::{Op, TermId, Terms};
 
-/// How many steps are taken at one operation, at most.
-const STEPS: u32 = 16;
+/// How deep records within records are compared, at most.
+const DEPTH: u32 = 8;
 
 /// What stands for the operation on the parts.
 pub(crate) fn rebuild(
@@ -38,268 +30,98 @@ pub(crate) fn rebuild(
     ensures grown { Grows terms.old terms.new }
     ensures well { WellTyped terms.new }
 {
-    let _count = terms.len();
-    match settled(alloc, terms, op, Items::from_vec(parts), STEPS)? {
-        Step::Known(t) => Ok(t),
-        Step::Other(op, parts) => build(alloc, terms, op, parts.as_slice()),
-    }
+    rebuilt(alloc, terms, op, Items::from_vec(parts), DEPTH)
 }
 
-/// What is left after as many steps as there are rules that fit, up to a bound.
-fn settled(
+/// The same, where records within records are compared so deep.
+#[cycle(rebuilt)]
+fn rebuilt(
     alloc: Global,
-    terms: &Terms,
+    terms: &mut Terms,
     op: Op,
     parts: Items<TermId>,
-    steps: u32,
-) -> Result<Step, AllocError>
-    requires there { All (λ p. p < length terms.now) parts }
-    requires suits { Suits op (types_at terms.now parts) }
-    ensures { IfOk result (IsRight terms.now op parts) }
+    depth: u32,
+) -> Result<TermId, AllocError>
+    requires there { All (λ p. p < length terms.old) parts }
+    requires suits { Suits op (types_at terms.old parts) }
+    ensures rebuilt { IfOk result (λ r. Rebuilds terms.new r terms.old op parts) }
+    ensures grown { Grows terms.old terms.new }
+    ensures well { WellTyped terms.new }
 {
-    if steps == 0 {
-        return Ok(Step::Other(op, parts));
-    }
-    match step(alloc, terms, &op, parts.as_slice())? {
-        Some(Step::Other(next, own)) => settled(alloc, terms, next, own, steps - 1),
-        Some(known) => Ok(known),
-        None => Ok(Step::Other(op, parts)),
+    let _count = terms.len();
+    match settle(alloc, terms, op, parts)? {
+        Step::Known(t) => Ok(t),
+        Step::Other(op, parts) => made(alloc, terms, op, parts.as_slice(), depth),
     }
 }
 
-/// The first rule that fits.
-fn step(alloc: Global, terms: &Terms, op: &Op, parts: &[TermId]) -> Result<Option<Step>, AllocError>
-    requires there { All (λ p. p < length terms.now) parts.now }
-    requires suits { Suits op.now (types_at terms.now parts.now) }
-    ensures { IfOk result (λ o. IfSome o (IsRight terms.now op.now parts.now)) }
-{
-    if let Some(step) = absorbed(alloc, terms, op, parts) {
-        return Ok(Some(step));
-    }
-    if let Some(step) = regathered(alloc, terms, op, parts)? {
-        return Ok(Some(step));
-    }
-    match parts {
-        [a] => step_one(alloc, terms, op, *a),
-        [a, b] => step_two(alloc, terms, op, *a, *b),
-        [a, b, c] => step_three(alloc, terms, op, *a, *b, *c),
-        _ => Ok(None),
-    }
-}
-
-/// A rule for a conjunction or a disjunction.
-fn absorbed(alloc: Global, terms: &Terms, op: &Op, parts: &[TermId]) -> Option<Step>
-    requires { All (λ p. p < length terms.now) parts.now }
-    ensures { IfSome result (IsRight terms.now op.now parts.now) }
-{
-    match op {
-        Op::And => refuted(alloc, terms, parts),
-        Op::Or => granted(alloc, terms, parts),
-        _ => None,
-    }
-}
-
-/// A rule for the parts of a conjunction or a disjunction.
-fn regathered(
+/// The operation on the parts, or where it compares two records that are made, the conjunction of the equalities of their fields.
+#[cycle(rebuilt)]
+fn made(
     alloc: Global,
-    terms: &Terms,
-    op: &Op,
+    terms: &mut Terms,
+    op: Op,
     parts: &[TermId],
-) -> Result<Option<Step>, AllocError>
-    requires there { All (λ p. p < length terms.now) parts.now }
-    requires suits { Suits op.now (types_at terms.now parts.now) }
-    ensures { IfOk result (λ o. IfSome o (IsRight terms.now op.now parts.now)) }
+    depth: u32,
+) -> Result<TermId, AllocError>
+    requires there { All (λ p. p < length terms.old) parts.now }
+    requires suits { Suits op (types_at terms.old parts.now) }
+    ensures rebuilt { IfOk result (λ r. Rebuilds terms.new r terms.old op parts.now) }
+    ensures grown { Grows terms.old terms.new }
+    ensures well { WellTyped terms.new }
 {
-    match op {
-        Op::And => gathered(alloc, terms, true, parts),
-        Op::Or => gathered(alloc, terms, false, parts),
-        _ => Ok(None),
+    if depth == 0 {
+        return on_integers(alloc, terms, op, parts);
     }
+    let _count = terms.len();
+    let Some((left, right)) = two_records(alloc, terms, &op, parts)? else {
+        return on_integers(alloc, terms, op, parts);
+    };
+    let equal = equalities(alloc, terms, &left, &right, depth - 1)?;
+    put(alloc, terms, Op::And, Items::from_vec(equal))
 }
 
-/// A rule for one part.
-fn step_one(alloc: Global, terms: &Terms, op: &Op, a: TermId) -> Result<Option<Step>, AllocError>
-    requires there { a < length terms.now }
-    requires suits { Suits op.now (type_at terms.now a ∷ []) }
-    ensures { IfOk result (λ o. IfSome o (IsRight terms.now op.now (a ∷ []))) }
-{
-    match op {
-        Op::Not => {
-            if let Some(step) = twice_negated(terms, a) {
-                return Ok(Some(step));
-            }
-            folded_one(alloc, terms, op, a)
-        }
-        Op::And => Ok(Some(conjunct_alone(terms, a))),
-        Op::Or => Ok(Some(disjunct_alone(terms, a))),
-        Op::Add => Ok(Some(sum_of_one(terms, a))),
-        Op::Scale(factor) => {
-            if let Some(step) = folded_one(alloc, terms, op, a)? {
-                return Ok(Some(step));
-            }
-            scaled(alloc, terms, *factor, a)
-        }
-        Op::GetField(place) => Ok(field_made(terms, *place, a)),
-        _ => on_word(alloc, terms, op, a),
-    }
-}
-
-/// A rule for one bit-vector.
-fn on_word(alloc: Global, terms: &Terms, op: &Op, a: TermId) -> Result<Option<Step>, AllocError>
-    requires there { a < length terms.now }
-    requires suits { Suits op.now (type_at terms.now a ∷ []) }
-    ensures { IfOk result (λ o. IfSome o (IsRight terms.now op.now (a ∷ []))) }
-{
-    if let Some(step) = folded_one(alloc, terms, op, a)? {
-        return Ok(Some(step));
-    }
-    if let Some(step) = undone(terms, op, a) {
-        return Ok(Some(step));
-    }
-    if let Some(step) = kept_whole(terms, op, a) {
-        return Ok(Some(step));
-    }
-    if let Some(step) = combined(alloc, terms, op, a)? {
-        return Ok(Some(step));
-    }
-    match op {
-        Op::Extract(high, low) => extraction(alloc, terms, *high, *low, a),
-        _ => Ok(None),
-    }
-}
-
-/// A rule for an extraction.
-fn extraction(
+/// The operation on the parts, in its normal form where it is one on integers.
+fn on_integers(
     alloc: Global,
-    terms: &Terms,
-    high: u8,
-    low: u8,
-    a: TermId,
-) -> Result<Option<Step>, AllocError>
-    requires there { a < length terms.now }
-    requires suits { Suits (Extract high low) (type_at terms.now a ∷ []) }
-    ensures { IfOk result (λ o. IfSome o (IsRight terms.now (Extract high low) (a ∷ []))) }
+    terms: &mut Terms,
+    op: Op,
+    parts: &[TermId],
+) -> Result<TermId, AllocError>
+    requires there { All (λ p. p < length terms.old) parts.now }
+    requires suits { Suits op (types_at terms.old parts.now) }
+    ensures rebuilt { IfOk result (λ r. Rebuilds terms.new r terms.old op parts.now) }
+    ensures grown { Grows terms.old terms.new }
+    ensures well { WellTyped terms.new }
 {
-    if let Some(step) = from_zeros(alloc, terms, high, low, a) {
-        return Ok(Some(step));
+    let _count = terms.len();
+    match normal(alloc, terms, &op, parts)? {
+        Some(t) => Ok(t),
+        None => build(alloc, terms, op, parts),
     }
-    from_concatenation(alloc, terms, high, low, a)
 }
 
-/// A rule for two parts.
-fn step_two(
+/// The equalities of terms with those beside them.
+#[cycle(rebuilt)]
+fn equalities(
     alloc: Global,
-    terms: &Terms,
-    op: &Op,
-    a: TermId,
-    b: TermId,
-) -> Result<Option<Step>, AllocError>
-    requires left { a < length terms.now }
-    requires right { b < length terms.now }
-    requires suits { Suits op.now (type_at terms.now a ∷ type_at terms.now b ∷ []) }
-    ensures { IfOk result (λ o. IfSome o (IsRight terms.now op.now (a ∷ b ∷ []))) }
+    terms: &mut Terms,
+    left: &[TermId],
+    right: &[TermId],
+    depth: u32,
+) -> Result<Vec<TermId>, AllocError>
+    requires left { All (λ p. p < length terms.old) left.now }
+    requires right { All (λ p. p < length terms.old) right.now }
+    requires alike { types_at terms.old left.now ≡ types_at terms.old right.now }
+    ensures equal { IfOk result (λ rs. AllEqual terms.new terms.old rs.items left.now right.now) }
+    ensures grown { Grows terms.old terms.new }
+    ensures well { WellTyped terms.new }
 {
-    if let Some(step) = folded_two(alloc, terms, op, a, b)? {
-        return Ok(Some(step));
+    let _count = terms.len();
+    let mut equal: Vec<TermId> = Vec::new(alloc);
+    for place in 0..left.len() {
+        let pair = Items::from_slice(alloc, &[left[place], right[place]])?;
+        equal.push(rebuilt(alloc, terms, Op::Eq, pair, depth)?)?;
     }
-    if let Some(step) = compared_to_itself(alloc, terms, op, a, b) {
-        return Ok(Some(step));
-    }
-    if let Some(step) = reordered(alloc, terms, op, a, b)? {
-        return Ok(Some(step));
-    }
-    match op {
-        Op::Eq => equality(alloc, terms, a, b),
-        Op::Select => selected(alloc, terms, a, b),
-        Op::Add => Ok(sum_of_two(alloc, terms, a, b)),
-        _ => on_words(alloc, terms, op, a, b),
-    }
-}
-
-/// A rule for two bit-vectors.
-fn on_words(
-    alloc: Global,
-    terms: &Terms,
-    op: &Op,
-    a: TermId,
-    b: TermId,
-) -> Result<Option<Step>, AllocError>
-    requires left { a < length terms.now }
-    requires right { b < length terms.now }
-    requires suits { Suits op.now (type_at terms.now a ∷ type_at terms.now b ∷ []) }
-    ensures { IfOk result (λ o. IfSome o (IsRight terms.now op.now (a ∷ b ∷ []))) }
-{
-    if let Some(step) = one_of_two(terms, op, a, b) {
-        return Ok(Some(step));
-    }
-    if let Some(step) = shifted_out(alloc, terms, op, a, b) {
-        return Ok(Some(step));
-    }
-    Ok(with_itself(alloc, terms, op, a, b))
-}
-
-/// A rule for an equality.
-fn equality(alloc: Global, terms: &Terms, a: TermId, b: TermId) -> Result<Option<Step>, AllocError>
-    requires left { a < length terms.now }
-    requires right { b < length terms.now }
-    requires suits { Suits Equal (type_at terms.now a ∷ type_at terms.now b ∷ []) }
-    ensures { IfOk result (λ o. IfSome o (IsRight terms.now Equal (a ∷ b ∷ []))) }
-{
-    if let Some(step) = compared_constants(alloc, terms, a, b) {
-        return Ok(Some(step));
-    }
-    if let Some(step) = compared_to_true(terms, a, b) {
-        return Ok(Some(step));
-    }
-    compared_to_false(alloc, terms, a, b)
-}
-
-/// A rule for three parts.
-fn step_three(
-    alloc: Global,
-    terms: &Terms,
-    op: &Op,
-    a: TermId,
-    b: TermId,
-    c: TermId,
-) -> Result<Option<Step>, AllocError>
-    requires first { a < length terms.now }
-    requires second { b < length terms.now }
-    requires third { c < length terms.now }
-    requires suits { Suits op.now (type_at terms.now a ∷ type_at terms.now b ∷ type_at terms.now c ∷ []) }
-    ensures { IfOk result (λ o. IfSome o (IsRight terms.now op.now (a ∷ b ∷ c ∷ []))) }
-{
-    match op {
-        Op::Ite => conditional(alloc, terms, a, b, c),
-        _ => Ok(None),
-    }
-}
-
-/// A rule for a conditional.
-fn conditional(
-    alloc: Global,
-    terms: &Terms,
-    a: TermId,
-    b: TermId,
-    c: TermId,
-) -> Result<Option<Step>, AllocError>
-    requires first { a < length terms.now }
-    requires second { b < length terms.now }
-    requires third { c < length terms.now }
-    requires suits { Suits Ite (type_at terms.now a ∷ type_at terms.now b ∷ type_at terms.now c ∷ []) }
-    ensures { IfOk result (λ o. IfSome o (IsRight terms.now Ite (a ∷ b ∷ c ∷ []))) }
-{
-    if let Some(step) = chosen(terms, a, b, c) {
-        return Ok(Some(step));
-    }
-    if let Some(step) = unchosen(terms, a, b, c) {
-        return Ok(Some(step));
-    }
-    if let Some(step) = turned(alloc, terms, a, b, c)? {
-        return Ok(Some(step));
-    }
-    if let Some(step) = condition_itself(terms, a, b, c) {
-        return Ok(Some(step));
-    }
-    condition_negated(alloc, terms, a, b, c)
+    Ok(equal)
 }

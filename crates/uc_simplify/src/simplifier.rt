@@ -5,13 +5,13 @@ ghost use Rattle.uc_ops.specs.Typing.{type_at};
 ghost use Rattle.uc_terms.specs.Tables.{WellTyped};
 ghost use Rattle.uc_terms.specs.Subterms.{EvenlyTyped};
 ghost use Rattle.uc_terms.specs.Laws.{KeepsValues, SameUnderEveryModel};
-ghost use Rattle.uc_simplify.specs.Features.{BringsNoMore};
+ghost use Rattle.uc_simplify_steps.specs.Features.{BringsNoMore};
 ghost use Rattle.uc_simplify.specs.Simplified.{Grows, StandsFor};
 ghost use Rattle.uc_simplify.specs.Walking.{PartsAnswered};
 
-use crate::copying::copy_op;
 use crate::rebuild::rebuild;
 use std::alloc::{AllocError, Global};
+use uc_simplify_steps::copy_op;
 use uc_terms::{TermId, Terms, subterms};
 
 /// A term that is equal under every model. Each term below `t` is met once, in the order of their numbers.

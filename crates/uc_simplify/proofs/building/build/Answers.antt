@@ -1,7 +1,7 @@
 use Rattle.std.proofs.Common.{sym, subst}
 use Rattle.uc_terms.specs.Tables.{WellTyped}
 use Rattle.uc_terms.proofs.Sharing.{made-within, made-type}
-use Rattle.uc_simplify.proofs.Features.{brings-made}
+use Rattle.uc_simplify_steps.proofs.Features.{brings-made}
 use Rattle.uc_simplify.proofs.building.build.Goals as goal
 
 pub returns-in_err-made-clause-well : goal.returns-in_err-made-clause-well

@@ -1,5 +1,5 @@
 use Rattle.uc_simplify.proofs.Standing.{values_kept}
-use Rattle.uc_simplify.proofs.Features.{evenly_kept}
+use Rattle.uc_simplify_steps.proofs.Features.{evenly_kept}
 use Rattle.uc_simplify.proofs.simplifier.simplify.Goals as goal
 
 pub returns-in_err-answer-clause-kept : goal.returns-in_err-answer-clause-kept

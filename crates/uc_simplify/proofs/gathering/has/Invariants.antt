@@ -1,5 +1,0 @@
-use Rattle.std.proofs.Common.{◌≤◌, length}
-use Rattle.uc_simplify.proofs.gathering.has.Given as goal
-
-abbrev pub invariant-loop : goal.invariant-loop
-invariant-loop l = l.high ≤ length l.sorted

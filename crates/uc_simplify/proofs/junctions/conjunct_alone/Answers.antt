@@ -1,5 +1,0 @@
-use Rattle.uc_simplify.proofs.Joins.{alone_all}
-use Rattle.uc_simplify.proofs.junctions.conjunct_alone.Goals as goal
-
-pub returns : goal.returns
-returns c = alone_all c.args.terms.now c.args.a c.len-count.ensures.well c.requires.there c.requires.suits

@@ -1,0 +1,15 @@
+pub mod Features
+pub mod Steps
+pub mod Folds
+pub mod Booleans
+pub mod Alike
+pub mod Twos
+pub mod Joins
+pub mod Identities
+pub mod Members
+pub mod Applied
+pub mod Made
+pub mod Integers
+pub mod Cutting
+pub mod Singles
+pub mod Combined

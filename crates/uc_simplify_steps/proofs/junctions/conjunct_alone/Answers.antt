@@ -1,0 +1,5 @@
+use Rattle.uc_simplify_steps.proofs.Joins.{alone_all}
+use Rattle.uc_simplify_steps.proofs.junctions.conjunct_alone.Goals as goal
+
+pub returns : goal.returns
+returns c = alone_all c.args.terms.now c.args.a c.len-count.ensures.well c.requires.there c.requires.suits

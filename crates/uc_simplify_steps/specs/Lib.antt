@@ -1,0 +1,5 @@
+pub mod Features
+pub mod Steps
+pub mod Junctions
+pub mod Sums
+pub mod Combining
