@@ -84,11 +84,19 @@ fn are_cell_paths(cells: &NameSet, paths: &Option<Items<Items<Identifier>>>) -> 
 {
     match paths {
         None => true,
-        Some(paths) => paths
-            .as_slice()
-            .iter()
-            .all(|path| is_cell_path(cells, path.as_slice())),
+        Some(paths) => all_cell_paths(cells, paths.as_slice()),
     }
+}
+
+fn all_cell_paths(cells: &NameSet, paths: &[Items<Identifier>]) -> bool
+    ensures { result ≡ list_all (is_cell_path cells.now) paths.now }
+{
+    for path in paths {
+        if !is_cell_path(cells, path.as_slice()) {
+            return false;
+        }
+    }
+    true
 }
 
 /// Whether a path is the name of a cell.

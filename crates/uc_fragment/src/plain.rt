@@ -1,9 +1,9 @@
 //! The declarations of a module.
 
-ghost use Rattle.std.specs.Prelude.{◌≡◌, ◌&&◌, nat_le, IfOk, length};
+ghost use Rattle.std.specs.Prelude.{◌≡◌, ◌&&◌, nat_le, [], IfOk, length};
 ghost use Rattle.std.specs.List.{list_all};
 ghost use Rattle.uc_meaning.specs.Fragment.{names_in, variable_names, most_variables};
-ghost use Rattle.uc_fragment.specs.Plain.{is_plain_decl, is_plain};
+ghost use Rattle.uc_fragment.specs.Plain.{with_inputs, with_variables, is_plain_decl, is_plain};
 
 use crate::blocks::{at_most_one_control, at_most_one_init, at_most_one_next};
 use crate::control::{runs_once, variables};
@@ -71,14 +71,20 @@ fn are_few(decls: &[Decl]) -> bool
     true
 }
 
+fn declarations_are_plain(alloc: Global, decls: &[Decl]) -> Result<bool, AllocError>
+    ensures { IfOk result (λ b. b ≡ list_all (is_plain_decl (with_inputs [] decls.now) (with_variables [] decls.now)) decls.now) }
+{
+    let inputs = inputs(alloc, decls)?;
+    let cells = variables(alloc, decls)?;
+    Ok(are_plain(&inputs, &cells, decls))
+}
+
 /// Whether the declarations of a module are of the fragment that runs.
 pub fn is_plain(alloc: Global, code: &Module) -> Result<bool, AllocError>
     ensures { IfOk result (λ b. b ≡ is_plain code.now) }
 {
     let decls = code.decls.as_slice();
-    let inputs = inputs(alloc, decls)?;
-    let cells = variables(alloc, decls)?;
-    if !are_plain(&inputs, &cells, decls) {
+    if !declarations_are_plain(alloc, decls)? {
         return Ok(false);
     }
     if !types_known(alloc, decls)? {

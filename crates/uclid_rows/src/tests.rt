@@ -124,7 +124,7 @@ const DEEP: &[u8] =
     b"module main { invariant p : ((((((((((((((((((((((((((((((((((((((((((((((((((((((((((((((((((((((((((((((((((((((((((((((((((((((((((((((((((((((((((((((((((((((((((((((((((((((((((((((((((((((((((((((((((((((((((((((((((((((((true)))))))))))))))))))))))))))))))))))))))))))))))))))))))))))))))))))))))))))))))))))))))))))))))))))))))))))))))))))))))))))))))))))))))))))))))))))))))))))))))))))))))))))))))))))))))))))))))))))))))); }";
 
 /// Designs of bit-vectors, enums, records and inputs.
-const TYPED: [Row; 6] = [
+const TYPED: [Row; 7] = [
     // A number of four bits reaches the bound at step 3.
     (
         b"module main { var n : bv4; init { n = 0bv4; } next { n' = n + 1bv4; } invariant small : n <_u 3bv4; control { unroll(3); check; print_results; } }",
@@ -154,6 +154,12 @@ const TYPED: [Row; 6] = [
         b"module main { type pair = record { flag : boolean, n : bv3 }; var s, t : pair; init { s = t; } next { s' = t; t' = s; } invariant same : s == t; invariant field : s.n == t.n; invariant flag : s.flag; control { unroll(1); check; print_results; } }",
         1,
         b"4 assertions passed.\n2 assertions failed.\n0 assertions indeterminate.\n  PASSED -> unroll [step 0] invariant same\n  PASSED -> unroll [step 0] invariant field\n  FAILED -> unroll [step 0] invariant flag\n  PASSED -> unroll [step 1] invariant same\n  PASSED -> unroll [step 1] invariant field\n  FAILED -> unroll [step 1] invariant flag\n",
+    ),
+    // A product is the same the other way round.
+    (
+        b"module main { var x, y : bv5; invariant c : x * y == y * x; control { unroll(0); check; print_results; } }",
+        0,
+        b"1 assertions passed.\n0 assertions failed.\n0 assertions indeterminate.\n  PASSED -> unroll [step 0] invariant c\n",
     ),
     // Only values that are assumed begin a run.
     (
