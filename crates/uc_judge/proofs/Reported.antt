@@ -28,12 +28,12 @@ use Rattle.uc_runnable.specs.Runnable.{RunsOver}
 use Rattle.uc_flat_sound.proofs.Sound.{sound_holds}
 use Rattle.uc_judge.specs.Lines.{line_as}
 use Rattle.uc_judge.specs.Reports.{IsHonestLine, IsReport}
-use Rattle.uc_judge.specs.Prints.{print_as}
-use Rattle.uc_judge.specs.Unrolling.{Unrolls}
+use Rattle.uc_prints.specs.Prints.{print_as}
+use Rattle.uc_prints.specs.Unrolling.{Unrolls}
 use Rattle.uc_judge.proofs.Lined.{lines_are, commands_are, verdicts_are, out_are}
 use Rattle.uc_judge.proofs.Honest.{honest_are}
-use Rattle.uc_judge.proofs.Controls.{only_declarations}
-use Rattle.uc_judge.proofs.Printed.{AreFirst, prints_there}
+use Rattle.uc_prints.proofs.Controls.{only_declarations}
+use Rattle.uc_prints.proofs.Printed.{AreFirst, prints_there}
 
 abbrev RightLine : System → LineResult → Type 0
 RightLine system l = IsRightVerdict system l.line l.verdict

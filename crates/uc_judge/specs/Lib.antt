@@ -1,4 +1,2 @@
 pub mod Reports
-pub mod Unrolling
 pub mod Lines
-pub mod Prints

@@ -1,10 +1,8 @@
 //! Runs the control block of a design: each line is judged, and each print is told its lines and its cells.
 #![tactic(auto)]
 
-mod cells;
 mod control;
 mod lines;
-mod prints;
 mod shown;
 
 pub use control::run_control;

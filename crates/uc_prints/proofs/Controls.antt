@@ -21,7 +21,7 @@ use Rattle.uc_meaning.proofs.Fragments.{NoneBefore}
 use Rattle.uc_fragment.specs.Plain.{with_inputs, with_variables, types_known, are_new, declared, runs_once, is_plain_decl, is_plain}
 use Rattle.uc_runnable.specs.Runnable.{IsRunnable}
 use Rattle.uc_meaning.proofs.Lists.{drop_turn}
-use Rattle.uc_judge.specs.Unrolling.{RunsOnce, Unrolls}
+use Rattle.uc_prints.specs.Unrolling.{RunsOnce, Unrolls}
 
 or_parts : (a b : Bool) → (a || b) ≡ false → (a ≡ false) × (b ≡ false)
 or_parts true b h = cc

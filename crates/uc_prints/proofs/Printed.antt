@@ -30,7 +30,7 @@ use Rattle.uc_control.specs.declared.report.Print.{Print}
 use Rattle.uc_control.specs.declared.report.Print.TheVariants.{Results, Cex}
 use Rattle.uc_control.specs.Reports.{is_failed}
 use Rattle.uc_control.specs.Prints.{failed_where, is_run_named, is_of_command, is_of_named, failed_lines, refs_in, all_cells, declares, declaration_of, cell_behind, cells_shown, prints_from}
-use Rattle.uc_judge.specs.Prints.{failed_from, own_ref, refs_of, declared_refs, own_refs, place_or_first, named_refs, shown_refs, print_as}
+use Rattle.uc_prints.specs.Prints.{failed_from, own_ref, refs_of, declared_refs, own_refs, place_or_first, named_refs, shown_refs, print_as}
 
 -- ---- failed lines
 

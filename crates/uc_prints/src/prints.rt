@@ -1,7 +1,7 @@
 //! What the commands behind the `check` print.
 
 ghost use Rattle.std.specs.Prelude.{◌≡◌, map, length, IfOk};
-ghost use Rattle.uc_judge.specs.Prints.{failed_from, print_as};
+ghost use Rattle.uc_prints.specs.Prints.{failed_from, print_as};
 
 use crate::cells::{shown_refs, word};
 use std::alloc::{AllocError, Global};
@@ -10,7 +10,7 @@ use uc_items::Items;
 use uc_syntax::{Command, Decl};
 
 /// The prints of these lines. Numbers of lines are below 2^32: more count as want of memory.
-pub(crate) fn prints_as(
+pub fn prints_as(
     alloc: Global,
     decls: &[Decl],
     commands: &[Command],

@@ -1,5 +1,5 @@
-use Rattle.uc_judge.proofs.Controls.{one_control, runs_once_there}
-use Rattle.uc_judge.proofs.control.commands_of.Goals as goal
+use Rattle.uc_prints.proofs.Controls.{one_control, runs_once_there}
+use Rattle.uc_prints.proofs.commands.commands_of.Goals as goal
 
 pub commands_in-requires : goal.commands_in-requires
 commands_in-requires c = one_control c.args.d.now c.keeps.ensures c.declarations.result.now c.declarations.ensures

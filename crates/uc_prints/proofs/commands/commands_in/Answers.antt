@@ -1,6 +1,6 @@
 use Rattle.std.proofs.Common.{◌∙◌}
-use Rattle.uc_judge.proofs.Controls.{control_found, control_more}
-use Rattle.uc_judge.proofs.control.commands_in.Goals as goal
+use Rattle.uc_prints.proofs.Controls.{control_found, control_more}
+use Rattle.uc_prints.proofs.commands.commands_in.Goals as goal
 
 pub returns-in-Control : goal.returns-in-Control
 returns-in-Control c =
