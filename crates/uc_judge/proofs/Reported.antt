@@ -104,7 +104,7 @@ empty_report system budget none report no_lines no_prints = record {
   commands = subst (All OwnCommand) (sym no_lines) (All-nil OwnCommand);
   verdicts = subst (All (RightLine system)) (sym no_lines) (All-nil (RightLine system));
   honest = λ code f d. subst (All (IsHonestLine f budget)) (sym no_lines) (All-nil (IsHonestLine f budget));
-  prints = no_prints ∙ sym (ap (λ cs. prints_from system 0 0 0 0 cs) none);
+  prints = no_prints ∙ sym (ap (λ cs. prints_from system report.lines 0 0 0 0 cs) none);
 }
 
 -- what the lines of the report spent

@@ -10,7 +10,7 @@ use uc_control::Report;
 use uc_flat_lines::judge_flat;
 use uc_items::Items;
 use uc_log::Meter;
-use uc_prints::{plan, prints_as};
+use uc_prints::{planned, prints_as};
 use uc_runnable::Runnable;
 
 /// The report of the design's control block, with this budget of log entries for each line. Want of memory is answered too where a
@@ -27,7 +27,7 @@ pub fn run_control<M: Meter>(
     ensures spent { IfOk result (λ r. M.total meter.old + budget * out_of_budget r.lines ≤ M.total meter.new) }
     ensures later { M.total meter.old ≤ M.total meter.new }
 {
-    match plan(d) {
+    match planned(d) {
         Some(plan) => {
             let f = d.flat();
             let judged = judge_flat(alloc, f, plan.depth, budget, meter)?;

@@ -84,12 +84,17 @@ only_declarations system code only first =
     ∙ ap (λ k. flat_map (λ m. m.decls) (as_list (slice_get (code ∷ []) k))) first
     ∙ append-nil code.decls
 
+rest_true : (a b : Bool) → (a && b) ≡ true → b ≡ true
+rest_true true b h = h
+rest_true false b h = cc
+
 -- the commands of the one control block run once
 once_in : (inputs cells : List ℕ) (ds : List Decl) → list_all (is_plain_decl inputs cells) ds ≡ true → at_most_one is_control ds ≡ true → runs_once cells (flat_map commands_in ds) ≡ true
 once_in inputs cells [] h one = refl
 once_in inputs cells (Control place commands ∷ ds) h one =
     ap (runs_once cells) (ap (λ ys. commands ++ ys) (none_of ds (after_one (Control place commands) ds one refl)) ∙ append-nil commands) ∙ (and_true h).0
-once_in inputs cells (other ∷ ds) h one = once_in inputs cells ds (and_true h).1 (after_none other ds one refl)
+once_in inputs cells (other ∷ ds) h one =
+    once_in inputs cells ds (rest_true (is_plain_decl inputs cells other) (list_all (is_plain_decl inputs cells) ds) h) (after_none other ds one refl)
 
 parts : (a b c d e f g : Bool) → (a && (b && (c && (d && (e && (f && g)))))) ≡ true → (a ≡ true) × (f ≡ true)
 parts true true true true true true g h = (refl, refl)

@@ -30,7 +30,7 @@ use Rattle.uc_control.specs.declared.report.Print.{Print}
 use Rattle.uc_control.specs.declared.report.Print.TheVariants.{Results, Cex}
 use Rattle.uc_control.specs.Reports.{is_failed}
 use Rattle.uc_control.specs.Prints.{failed_where, is_run_named, is_of_command, is_of_named, failed_lines, refs_in, all_cells, declares, declaration_of, cell_behind, cells_shown, prints_from}
-use Rattle.uc_prints.specs.Prints.{failed_from, own_ref, refs_of, declared_refs, own_refs, place_or_first, named_refs, shown_refs, print_as}
+use Rattle.uc_prints.specs.Prints.{failed_at, failed_in, own_ref, refs_of, declared_refs, own_refs, place_or_first, named_refs, shown_refs, print_as}
 
 -- ---- failed lines
 
@@ -38,20 +38,18 @@ use Rattle.uc_prints.specs.Prints.{failed_from, own_ref, refs_of, declared_refs,
 abbrev HoldsFrom : (ℕ × LineResult → Bool) → ℕ → List LineResult → Type 0
 HoldsFrom test n ls = All (λ l. test l ≡ true) (numbered n ls)
 
-failed_are : (test : ℕ × LineResult → Bool) (n : ℕ) (ls : List LineResult) → HoldsFrom test n ls → map (λ l. l.0) (filter (λ l. is_failed l.1.verdict && test l) (numbered n ls)) ≡ failed_from n ls
-unfolding failed_from numbered
-failed_are test n [] h = refl
-failed_are test n (l ∷ ls) h = by_verdict (is_failed l.verdict) (test (n, l)) (All-head (λ l. test l ≡ true) (n, l) (numbered (n + 1) ls) h)
-  where
-    rest : map (λ m. m.0) (filter (λ m. is_failed m.1.verdict && test m) (numbered (n + 1) ls)) ≡ failed_from (n + 1) ls
-    rest = failed_are test (n + 1) ls (All-tail (λ l. test l ≡ true) (n, l) (numbered (n + 1) ls) h)
+by_verdict : (l : ℕ × LineResult) (b c : Bool) (kept : List (ℕ × LineResult)) (rest : List ℕ) → c ≡ true → map (λ (m : ℕ × LineResult). m.0) kept ≡ rest
+    → map (λ (m : ℕ × LineResult). m.0) (cond (b && c) (l ∷ kept) kept) ≡ cond b (l.0 ∷ []) [] ++ rest
+by_verdict l true true kept rest t e = ap (λ ns. l.0 ∷ ns) e
+by_verdict l true false kept rest t e = cc
+by_verdict l false c kept rest t e = e
 
-    by_verdict : (b c : Bool) → c ≡ true
-        → map (λ m. m.0) (cond (b && c) ((n, l) ∷ filter (λ m. is_failed m.1.verdict && test m) (numbered (n + 1) ls)) (filter (λ m. is_failed m.1.verdict && test m) (numbered (n + 1) ls)))
-        ≡ cond b (n ∷ failed_from (n + 1) ls) (failed_from (n + 1) ls)
-    by_verdict true true t = ap (λ ns. n ∷ ns) rest
-    by_verdict false c t = rest
-    by_verdict true false t = cc
+failed_are : (test : ℕ × LineResult → Bool) (ls : List (ℕ × LineResult)) → All (λ (l : ℕ × LineResult). test l ≡ true) ls
+    → map (λ (l : ℕ × LineResult). l.0) (filter (λ (l : ℕ × LineResult). is_failed l.1.verdict && test l) ls) ≡ flat_map failed_at ls
+failed_are test [] h = refl
+failed_are test (l ∷ ls) h =
+    by_verdict l (is_failed l.1.verdict) (test l) (filter (λ (m : ℕ × LineResult). is_failed m.1.verdict && test m) ls) (flat_map failed_at ls)
+    (All-head (λ (m : ℕ × LineResult). test m ≡ true) l ls h) (failed_are test ls (All-tail (λ (m : ℕ × LineResult). test m ≡ true) l ls h))
 
 -- every line stands between the first and the end
 all_between : (n : ℕ) (ls : List LineResult) (end : ℕ) → n + length ls ≤ end → HoldsFrom (λ l. nat_le 0 l.0 && nat_lt l.0 end) n ls
@@ -76,15 +74,15 @@ all_first n (l ∷ ls) h =
     (all_first (n + 1) ls (All-tail (λ (l : LineResult). l.command ≡ 0) l ls h))
 
 -- the failed lines of the last `check`, and of the command by its own name
-last_failed : (lines : List LineResult) → failed_where (λ l. nat_le 0 l.0 && nat_lt l.0 (length lines)) lines ≡ failed_from 0 lines
-last_failed lines = failed_are (λ l. nat_le 0 l.0 && nat_lt l.0 (length lines)) 0 lines (all_between 0 lines (length lines) (omega arith))
+last_failed : (lines : List LineResult) → failed_where (λ l. nat_le 0 l.0 && nat_lt l.0 (length lines)) lines ≡ failed_in lines
+last_failed lines = failed_are (λ l. nat_le 0 l.0 && nat_lt l.0 (length lines)) (numbered 0 lines) (all_between 0 lines (length lines) (omega arith))
 
-named_failed : (system : System) (lines : List LineResult) (x : ℕ) → AreFirst lines → position_from (is_run_named x) 0 (commands_of system) ≡ Some 0 → failed_where (is_of_named system x) lines ≡ failed_from 0 lines
+named_failed : (system : System) (lines : List LineResult) (x : ℕ) → AreFirst lines → position_from (is_run_named x) 0 (commands_of system) ≡ Some 0 → failed_where (is_of_named system x) lines ≡ failed_in lines
 named_failed system lines x first e =
-    ap (λ o. failed_where (λ l. is_of_command l.1.command o) lines) e ∙ failed_are (λ l. is_of_command l.1.command (Some 0)) 0 lines (all_first 0 lines first)
+    ap (λ o. failed_where (λ l. is_of_command l.1.command o) lines) e ∙ failed_are (λ l. is_of_command l.1.command (Some 0)) (numbered 0 lines) (all_first 0 lines first)
 
 failed_shown : (system : System) (lines : List LineResult) (run_at check_at : Place) (name f : Option Identifier) (depth : ℕ) (prints : List Command)
-    → commands_of system ≡ Run run_at name (Unroll depth) ∷ (Check check_at ∷ prints) → AreFirst lines → is_own_name name f ≡ true → failed_lines system lines 0 (length lines) f ≡ failed_from 0 lines
+    → commands_of system ≡ Run run_at name (Unroll depth) ∷ (Check check_at ∷ prints) → AreFirst lines → is_own_name name f ≡ true → failed_lines system lines 0 (length lines) f ≡ failed_in lines
 failed_shown system lines run_at check_at name None depth prints are first own = last_failed lines
 failed_shown system lines run_at check_at None (Some f) depth prints are first own = cc
 failed_shown system lines run_at check_at (Some i) (Some f) depth prints are first own =

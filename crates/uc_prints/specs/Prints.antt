@@ -1,5 +1,5 @@
 -- What the commands behind the `check` print, of a design of one module with one run.
-use Rattle.std.specs.Prelude.{ℕ, ◌+◌, if◌then◌else◌, List, [], ◌∷◌, length, Option, Some, None, unwrap_or}
+use Rattle.std.specs.Prelude.{ℕ, if◌then◌else◌, List, [], ◌∷◌, length, Option, Some, None, unwrap_or}
 use Rattle.std.specs.List.{flat_map, position_from}
 use Rattle.uc_syntax.specs.declared.place.Identifier.{Identifier}
 use Rattle.uc_syntax.specs.declared.declaration.VariableKind.{VariableKind}
@@ -16,10 +16,13 @@ use Rattle.uc_control.specs.declared.report.Print.TheVariants.{Results, Cex}
 use Rattle.uc_control.specs.Reports.{is_failed}
 use Rattle.uc_control.specs.Prints.{declares}
 
--- the numbers of the lines that failed, where the first one has number n
-unfoldable pub failed_from : ℕ → List LineResult → List ℕ
-failed_from n [] = []
-failed_from n (l ∷ ls) = if is_failed l.verdict then n ∷ failed_from (n + 1) ls else failed_from (n + 1) ls
+-- the number of a line that failed
+abbrev pub failed_at : ℕ × LineResult → List ℕ
+failed_at l = if is_failed l.1.verdict then l.0 ∷ [] else []
+
+-- the numbers of the lines that failed
+abbrev pub failed_in : List LineResult → List ℕ
+failed_in lines = flat_map failed_at (numbered 0 lines)
 
 abbrev pub own_ref : ℕ → Identifier → List CellRef
 own_ref n i = record { path = []; decl = n; name = i.name } ∷ []
@@ -54,5 +57,5 @@ shown_refs decls (Some (p ∷ ps)) = flat_map (named_refs decls) (p ∷ ps)
 
 -- all lines; or the counterexamples of those that failed
 abbrev pub print_as : List Decl → List LineResult → Command → Print
-print_as decls lines (PrintCounterexamples place f paths) = Cex (failed_from 0 lines) (shown_refs decls paths)
+print_as decls lines (PrintCounterexamples place f paths) = Cex (failed_in lines) (shown_refs decls paths)
 print_as decls lines other = Results 0 (length lines)

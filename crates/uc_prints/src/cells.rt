@@ -139,9 +139,16 @@ fn declares(decl: &Decl, name: u32) -> bool
     ensures { result ≡ declares name decl.now }
 {
     match decl {
-        Decl::Variables(_, _, names, _) => names.as_slice().iter().any(|i| i.name == name),
+        Decl::Variables(_, _, names, _) => names_one(names.as_slice(), name),
         _ => false,
     }
+}
+
+/// Whether a name is among some.
+fn names_one(names: &[Identifier], name: u32) -> bool
+    ensures { result ≡ list_any (λ i. nat_eq i.name name) names.now }
+{
+    names.iter().any(|identifier| identifier.name == name)
 }
 
 /// A number that fits 32 bits.

@@ -17,7 +17,7 @@ pub struct Plan<'a> {
 }
 
 /// What the control block of a design asks for, or nothing where there is none or an empty one.
-pub fn plan(d: &Runnable) -> Option<Plan<'_>>
+pub fn planned(d: &Runnable) -> Option<Plan<'_>>
     ensures { MatchOption result (commands_of d.now ≡ []) (λ p. Unrolls (commands_of d.now) p.depth p.prints.now) }
 {
     plan_of(commands_of(d))

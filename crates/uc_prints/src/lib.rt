@@ -5,5 +5,5 @@ mod cells;
 mod commands;
 mod prints;
 
-pub use commands::{Plan, plan};
+pub use commands::{Plan, planned};
 pub use prints::prints_as;

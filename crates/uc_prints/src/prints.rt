@@ -1,7 +1,7 @@
 //! What the commands behind the `check` print.
 
-ghost use Rattle.std.specs.Prelude.{◌≡◌, map, length, IfOk};
-ghost use Rattle.uc_prints.specs.Prints.{failed_from, print_as};
+ghost use Rattle.std.specs.Prelude.{◌≡◌, ◌++◌, map, length, OnOk, IfOk};
+ghost use Rattle.uc_prints.specs.Prints.{failed_at, failed_in, print_as};
 
 use crate::cells::{shown_refs, word};
 use std::alloc::{AllocError, Global};
@@ -56,13 +56,22 @@ fn print_as(
 /// The numbers of the lines that failed.
 fn failed_numbers(alloc: Global, lines: &[LineResult], count: u32) -> Result<Items<u32>, AllocError>
     requires { count ≡ length lines.now }
-    ensures { IfOk result (λ numbers. numbers ≡ failed_from 0 lines.now) }
+    ensures { IfOk result (λ numbers. numbers ≡ failed_in lines.now) }
 {
     let mut numbers = Items::new(alloc);
     for number in 0..count {
-        if lines[number as usize].verdict.is_failed() {
-            numbers.push(number)?;
-        }
+        add_failed(&mut numbers, number, &lines[number as usize])?;
     }
     Ok(numbers)
+}
+
+/// Adds the number of a line, where it failed.
+fn add_failed(numbers: &mut Items<u32>, number: u32, line: &LineResult) -> Result<(), AllocError>
+    ensures { OnOk result (numbers.new ≡ numbers.old ++ failed_at (number, line.now)) }
+{
+    if line.verdict.is_failed() {
+        numbers.push(number)
+    } else {
+        Ok(())
+    }
 }

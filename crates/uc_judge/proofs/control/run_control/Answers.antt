@@ -1,3 +1,18 @@
 use Rattle.uc_flat_sound.proofs.Sound.{sound_holds}
 use Rattle.uc_judge.proofs.Reported.{unrolled_report, spent_report, empty_report}
 use Rattle.uc_judge.proofs.control.run_control.Goals as goal
+
+pub judge_flat-requires-clause-sound : goal.judge_flat-requires-clause-sound
+judge_flat-requires-clause-sound g c = sound_holds c.args.d.now c.flat-f.ensures.code c.flat-f.result.now c.flat-f.ensures.is_flat
+
+pub returns-in_ok-prints-in-Some-clause-report : goal.returns-in_ok-prints-in-Some-clause-report
+returns-in_ok-prints-in-Some-clause-report g c =
+    unrolled_report c.args.d.now c.flat-f.result.now c.in-Some.plan.depth c.args.budget _ _ c.in_ok-judged-in-Some.judged c.in-Some.plan.prints.now c.flat-f.ensures c.in-Some.ensures
+    c.in_ok-judged-in-Some.ensures.judged c.in_ok-lines-in-Some.lines c.in_ok-prints-in-Some.prints c.declarations.result.now c.in_ok-lines-in-Some.ensures c.declarations.ensures c.in_ok-prints-in-Some.ensures
+
+pub returns-in_ok-prints-in-Some-clause-spent : goal.returns-in_ok-prints-in-Some-clause-spent
+returns-in_ok-prints-in-Some-clause-spent g c =
+    spent_report c.flat-f.result.now c.args.budget _ _ _ c.in_ok-judged-in-Some.judged c.in_ok-lines-in-Some.lines c.in_ok-lines-in-Some.ensures c.in_ok-judged-in-Some.ensures.judged
+
+pub returns-in-None-clause-report : goal.returns-in-None-clause-report
+returns-in-None-clause-report g c = empty_report c.args.d.now c.args.budget c.in-None.ensures _ c.new.ensures c.new-in-None.ensures
