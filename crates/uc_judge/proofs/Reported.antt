@@ -58,7 +58,7 @@ all_lines_are system depth prints u =
   where
     prints_alone : (n : ℕ) (cs : List Command) → list_all (is_print u.cells u.name) cs ≡ true → lines_checked system n cs ≡ []
     prints_alone n [] h = refl
-    prints_alone n (PrintResults p ∷ cs) h = nothing (list_any is_check cs) (lines_checked system (n + 1) cs) ∙ prints_alone (n + 1) cs (and_true h).1
+    prints_alone n (PrintResults p ∷ cs) h = nothing (list_any is_check cs) (lines_checked system (n + 1) cs) ∙ prints_alone (n + 1) cs h
     prints_alone n (PrintCounterexamples p f ps ∷ cs) h = nothing (list_any is_check cs) (lines_checked system (n + 1) cs) ∙ prints_alone (n + 1) cs (and_true h).1
     prints_alone n (Run p i run ∷ cs) h = cc
     prints_alone n (Check p ∷ cs) h = cc

@@ -89,6 +89,11 @@ failed_shown system lines run_at check_at (Some i) (Some f) depth prints are fir
     named_failed system lines f.name first
     (ap (position_from (is_run_named f.name) 0) are ∙ ap (λ b. cond b (Some 0) (position_from (is_run_named f.name) 1 (Check check_at ∷ prints))) own)
 
+three_parts : (a b c : Bool) → ((a && b) && c) ≡ true → (a ≡ true) × (b ≡ true) × (c ≡ true)
+three_parts true true c h = (refl, refl, h)
+three_parts true false c h = cc
+three_parts false b c h = cc
+
 -- ---- cells
 
 module _ (system : System) (code : Module) (alone : StandsAlone system code) where
@@ -149,10 +154,10 @@ module _ (system : System) (code : Module) (alone : StandsAlone system code) whe
   unfolding prints_from
   prints_there cells lines run_at check_at name depth prints [] n are first h = refl
   prints_there cells lines run_at check_at name depth prints (PrintResults place ∷ behind) n are first h =
-      ap (λ ps. Results 0 (length lines) ∷ ps) (prints_there cells lines run_at check_at name depth prints behind (n + 1) are first (and_true h).1)
+      ap (λ ps. Results 0 (length lines) ∷ ps) (prints_there cells lines run_at check_at name depth prints behind (n + 1) are first h)
   prints_there cells lines run_at check_at name depth prints (PrintCounterexamples place f paths ∷ behind) n are first h =
-      let own = and_true (and_true h).0 in
-      (λ i. Cex (failed_shown system lines run_at check_at name f depth prints are first own.0 i) (cells_there cells paths own.1 i)
-      ∷ prints_there cells lines run_at check_at name depth prints behind (n + 1) are first (and_true h).1 i)
+      let parts = three_parts (is_own_name name f) (are_cell_paths cells paths) (list_all (is_print cells name) behind) h in
+      (λ i. Cex (failed_shown system lines run_at check_at name f depth prints are first parts.0.0 i) (cells_there cells paths parts.0.1 i)
+      ∷ prints_there cells lines run_at check_at name depth prints behind (n + 1) are first parts.1 i)
   prints_there cells lines run_at check_at name depth prints (Run place i run ∷ behind) n are first h = cc
   prints_there cells lines run_at check_at name depth prints (Check place ∷ behind) n are first h = cc
