@@ -157,7 +157,7 @@ module _ (system : System) (code : Module) (alone : StandsAlone system code) whe
       ap (λ ps. Results 0 (length lines) ∷ ps) (prints_there cells lines run_at check_at name depth prints behind (n + 1) are first h)
   prints_there cells lines run_at check_at name depth prints (PrintCounterexamples place f paths ∷ behind) n are first h =
       let parts = three_parts (is_own_name name f) (are_cell_paths cells paths) (list_all (is_print cells name) behind) h in
-      (λ i. Cex (failed_shown system lines run_at check_at name f depth prints are first parts.0.0 i) (cells_there cells paths parts.0.1 i)
-      ∷ prints_there cells lines run_at check_at name depth prints behind (n + 1) are first parts.1 i)
+      (λ i. Cex (failed_shown system lines run_at check_at name f depth prints are first parts.0 i) (cells_there cells paths parts.1 i)
+      ∷ prints_there cells lines run_at check_at name depth prints behind (n + 1) are first parts.2 i)
   prints_there cells lines run_at check_at name depth prints (Run place i run ∷ behind) n are first h = cc
   prints_there cells lines run_at check_at name depth prints (Check place ∷ behind) n are first h = cc

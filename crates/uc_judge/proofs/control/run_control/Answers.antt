@@ -1,4 +1,6 @@
+use Rattle.std.proofs.Common.{map, ap, ◌∙◌}
 use Rattle.uc_flat_sound.proofs.Sound.{sound_holds}
+use Rattle.uc_prints.specs.Prints.{print_as}
 use Rattle.uc_judge.proofs.Reported.{unrolled_report, spent_report, empty_report}
 use Rattle.uc_judge.proofs.control.run_control.Goals as goal
 
@@ -8,7 +10,8 @@ judge_flat-requires-clause-sound g c = sound_holds c.args.d.now c.flat-f.ensures
 pub returns-in_ok-prints-in-Some-clause-report : goal.returns-in_ok-prints-in-Some-clause-report
 returns-in_ok-prints-in-Some-clause-report g c =
     unrolled_report c.args.d.now c.flat-f.result.now c.in-Some.plan.depth c.args.budget _ _ c.in_ok-judged-in-Some.judged c.in-Some.plan.prints.now c.flat-f.ensures c.in-Some.ensures
-    c.in_ok-judged-in-Some.ensures.judged c.in_ok-lines-in-Some.lines c.in_ok-prints-in-Some.prints c.declarations.result.now c.in_ok-lines-in-Some.ensures c.declarations.ensures c.in_ok-prints-in-Some.ensures
+    c.in_ok-judged-in-Some.ensures.judged c.in_ok-lines-in-Some.lines c.in_ok-prints-in-Some.prints c.declarations.result.now c.in_ok-lines-in-Some.ensures c.declarations.ensures
+    (c.in_ok-prints-in-Some.ensures ∙ ap (λ ls. map (print_as c.declarations.result.now ls) c.in-Some.plan.prints.now) c.as_slice.ensures)
 
 pub returns-in_ok-prints-in-Some-clause-spent : goal.returns-in_ok-prints-in-Some-clause-spent
 returns-in_ok-prints-in-Some-clause-spent g c =
