@@ -1,13 +1,14 @@
 -- Tables that are made one after another, and what stands at a place among them.
-use Rattle.std.proofs.Common.{◌≡◌, ℕ, zero, suc, ◌+◌, ◌<◌, ◌≤◌, ⊎_elim, List, [], ◌∷◌, ◌++◌, length, Option, Some, None, refl, ap, ◌∙◌, sym, subst, arith}
+use Rattle.std.proofs.Common.{◌≡◌, ℕ, false, zero, suc, ◌+◌, ◌<◌, ◌≤◌, ⊎_elim, List, [], ◌∷◌, ◌++◌, length, Option, Some, None, refl, ap, ◌∙◌, sym, subst, arith}
 use Rattle.std.specs.Prelude.{nat_eq, slice_get, unwrap_or}
 use Rattle.std.specs.Option.{option_map}
+use Rattle.std.specs.List.{list_any}
 use Rattle.indexmap.specs.IndexMap.{get}
 use Rattle.std.proofs.lemmas.List.{length-append}
 use Rattle.std.proofs.lemmas.Option.{slice_get_cases, slice_get_past}
 use Rattle.uc_syntax.specs.declared.declaration.Module.{Module}
 use Rattle.uc_meaning.specs.Lookup.{System, first_some}
-use Rattle.uc_rules.specs.Names.{Entry as Meant, as_type, first_fitting, names_in, type_named, type_of_module}
+use Rattle.uc_rules.specs.Names.{Entry as Meant, Sense, as_type, first_fitting, is_entry, names_in, type_named, type_of_module}
 use Rattle.uc_name_table.specs.declared.firsts.Firsts.{Firsts}
 use Rattle.uc_name_table.specs.declared.senses.DeclaredType.{DeclaredType}
 use Rattle.uc_name_table.specs.declared.table.NameTable.{NameTable}
@@ -70,6 +71,26 @@ no_name s x = refl
 no_own : (x : ℕ) → None ≡ type_of_module no_module x
 unfolding first_some
 no_own x = refl
+
+no_fit : {B : Type 0} (fit : Sense → Option B) (s : System) (x : ℕ) → None ≡ first_fitting fit x (names_in s no_module)
+unfolding names_in first_fitting first_some
+no_fit fit s x = refl
+
+-- no name of a module that isn't there fits
+pub missing_fit : {B : Type 0} (fit : Sense → Option B) (s : System) (names : List NameTable) (i x : ℕ) → AllOf (HoldsNames s) names (length s.modules) → None ≡ slice_get names i →
+    None ≡ first_fitting fit x (names_in s (module_in s.modules i))
+missing_fit fit s names i x held none = no_fit fit s x ∙ ap (λ m. first_fitting fit x (names_in s m)) (sym (past_modules (HoldsNames s) names s.modules i held none))
+
+none_there : (s : System) (x : ℕ) → false ≡ list_any (is_entry x) (names_in s no_module)
+unfolding names_in
+none_there s x = refl
+
+pub missing_any : (s : System) (names : List NameTable) (i x : ℕ) → AllOf (HoldsNames s) names (length s.modules) → None ≡ slice_get names i → false ≡ list_any (is_entry x) (names_in s (module_in s.modules i))
+missing_any s names i x held none = none_there s x ∙ ap (λ m. list_any (is_entry x) (names_in s m)) (sym (past_modules (HoldsNames s) names s.modules i held none))
+
+-- the table of a module that is there holds its names
+pub found_names : (s : System) (names : List NameTable) (i : ℕ) (t : NameTable) → AllOf (HoldsNames s) names (length s.modules) → Some t ≡ slice_get names i → Holds s.modules t (names_in s (module_in s.modules i))
+found_names s names i t held there = all_at (HoldsNames s) names (length s.modules) i t held (sym there)
 
 pub missing_name : (s : System) (names : List NameTable) (i x : ℕ) → AllOf (HoldsNames s) names (length s.modules) → None ≡ slice_get names i → None ≡ type_named s (module_in s.modules i) x
 missing_name s names i x held none = no_name s x ∙ ap (λ m. type_named s m x) (sym (past_modules (HoldsNames s) names s.modules i held none))

@@ -1,20 +1,22 @@
 //! A design by reference, with what names of types stand for in each of its modules.
 
 ghost use Rattle.std.specs.Prelude.{◌≡◌, IfOk};
-ghost use Rattle.std.specs.Option.{option_map};
+ghost use Rattle.std.specs.Option.{option_copied, option_map};
 ghost use Rattle.uc_meaning.specs.Types.{opaque_number};
-ghost use Rattle.uc_rules.specs.Names.{type_named, type_of_module};
-ghost use Rattle.uc_lookup.specs.Parts.{system_in};
-ghost use Rattle.uc_name_table.specs.Senses.{declared_meant, module_in};
+ghost use Rattle.std.specs.List.{list_any};
+ghost use Rattle.uc_rules.specs.Names.{called_named, instance_named, is_entry, names_in, procedure_named, type_named, type_of_module, value_named};
+ghost use Rattle.uc_lookup.specs.Parts.{instance_parts, system_in};
+ghost use Rattle.uc_name_table.specs.Senses.{called_meant, declared_meant, module_in, value_meant};
 
 use crate::lists::{all_names, all_own};
 use std::alloc::{AllocError, Global};
 use std::marker::Model;
 use uc_items::Items;
-use uc_lookup::SystemRef;
+use uc_lookup::{InstanceParts, SystemRef};
 use uc_module_names::DesignNames;
-use uc_name_table::{DeclaredType, Firsts, NameTable};
+use uc_name_table::{Called, DeclaredType, Firsts, NameTable, Value};
 use uc_opaque_numbers::OpaqueNumbers;
+use uc_syntax::Procedure;
 
 /// A design with the tables of its modules.
 #[derive(Drop)]
@@ -65,6 +67,56 @@ impl<'a> TypeHomes<'a> {
         ensures { result.now ≡ self.now }
     {
         &self.design
+    }
+
+    /// What a name is as a value in the module at a place.
+    pub fn value(&self, home: usize, name: u32) -> Option<Value<'a>>
+        ensures { option_map value_meant result ≡ value_named self.now (module_in self.now.modules home) name }
+    {
+        match self.names.get(home) {
+            None => None,
+            Some(table) => table.value(name),
+        }
+    }
+
+    /// What a name is where arguments follow, in the module at a place.
+    pub fn called(&self, home: usize, name: u32) -> Option<Called<'a>>
+        ensures { option_map called_meant result ≡ called_named self.now (module_in self.now.modules home) name }
+    {
+        match self.names.get(home) {
+            None => None,
+            Some(table) => table.called(name),
+        }
+    }
+
+    /// The procedure of a name in the module at a place.
+    pub fn procedure(&self, home: usize, name: u32) -> Option<&'a Procedure>
+        ensures { option_copied result ≡ procedure_named self.now (module_in self.now.modules home) name }
+    {
+        match self.names.get(home) {
+            None => None,
+            Some(table) => table.procedure(name),
+        }
+    }
+
+    /// The instance of a name in the module at a place.
+    pub fn instance(&self, home: usize, name: u32) -> Option<InstanceParts<'a>>
+        ensures { option_map instance_parts result ≡ instance_named self.now (module_in self.now.modules home) name }
+    {
+        match self.names.get(home) {
+            None => None,
+            Some(table) => table.instance(name),
+        }
+    }
+
+    /// Whether the module at a place declares or brings in a name.
+    pub fn has_name(&self, home: usize, name: u32) -> bool
+        ensures { result ≡ list_any (is_entry name) (names_in self.now (module_in self.now.modules home)) }
+    {
+        match self.names.get(home) {
+            None => false,
+            Some(table) => table.has(name),
+        }
     }
 
     /// The type that a name stands for in the module at a place.

@@ -1,0 +1,9 @@
+mod Sides
+mod Forms
+mod Entries
+mod Fixed
+mod Turns
+mod Listing
+mod Arms
+mod Labelled
+mod Flat

@@ -1,0 +1,5 @@
+//! Worked rows of the static rules, which only tests run.
+#![tactic(auto)]
+
+#[cfg(test)]
+mod types;
