@@ -1,5 +1,5 @@
 -- Comparisons of integers over their difference.
-use Rattle.std.specs.Prelude.{◌≡◌, ◌⊎◌, ℕ, ℤ, pos, ◌+ℤ◌, ◌-ℤ◌, ◌*ℤ◌, ◌+◌, ◌<◌, ◌≤◌, Bool as Truth, true, false, int_le, IsTrue, List, [], ◌∷◌, ◌++◌, length, All, Contains}
+use Rattle.std.specs.Prelude.{◌≡◌, ◌⊎◌, ℕ, ℤ, pos, ◌+ℤ◌, ◌-ℤ◌, ◌*ℤ◌, ◌+◌, ◌<◌, ◌≤◌, Bool as Truth, true, false, int_le, IsTrue, List, [], ◌∷◌, ◌++◌, length, All, Contains, Option, Some, None, Result, Ok, Err, IfOk, IfSome}
 use Rattle.std.specs.Ordering.{int_eq}
 use Rattle.std.proofs.Common.{refl, sym, ap, ◌∙◌, arith, subst, inl, inr, take, get_or, zero, suc}
 use Rattle.std.proofs.lemmas.Int.{ints}
@@ -23,7 +23,7 @@ use Rattle.uc_ops.specs.declared.node.Node.{Node}
 use Rattle.uc_ops.specs.Typing.{Suits, type_of, type_at, types_at}
 use Rattle.uc_ops.specs.Meaning.{apply}
 use Rattle.uc_terms.specs.Tables.{WellTyped}
-use Rattle.uc_terms.specs.Values.{value}
+use Rattle.uc_terms.specs.Values.{value, values_at}
 use Rattle.uc_terms.proofs.Fitting.{value-fits}
 use Rattle.uc_simplify_sums.specs.Forms.{IsFormOf, number_at}
 use Rattle.uc_simplify_steps.specs.Features.{Feature, Brings, OneBrings}
@@ -76,6 +76,48 @@ integer_value : (m : Model) (nodes : List Node) (t : ℕ) → WellTyped nodes �
 integer_value m nodes t w h e =
     let r = IsInteger-fits (value m nodes t) (subst (λ ty. IsTrue (fits ty (value m nodes t))) e (value-fits m nodes t w h)) in
     r.is ∙ ap (λ v. Int (number_of v)) (sym r.is)
+
+equal_turned : (x y : ℤ) → int_eq x y ≡ true → int_eq y x ≡ true
+equal_turned x y h = (Decides-int_eq y x).1 (sym ((Decides-int_eq x y).0 h))
+
+turned_value : (nodes : List Node) (m : Model) (a b : ℕ) → WellTyped nodes → a < length nodes → b < length nodes → type_at nodes a ≡ Integer → type_at nodes b ≡ Integer
+    → apply m Equal (types_at nodes (b ∷ a ∷ [])) (values_at m nodes (b ∷ a ∷ [])) ≡ apply m Equal (types_at nodes (a ∷ b ∷ [])) (values_at m nodes (a ∷ b ∷ []))
+turned_value nodes m a b w h g e f =
+    let x = number_at m nodes a in
+    let y = number_at m nodes b in
+    let va = integer_value m nodes a w h e in
+    let vb = integer_value m nodes b w g f in
+    (λ i. apply m Equal (f i ∷ e i ∷ []) (vb i ∷ va i ∷ []))
+    ∙ compared_value Equal m y x refl
+    ∙ ap Holds (equal_truths (int_eq y x) (int_eq x y) (equal_turned y x) (equal_turned x y))
+    ∙ sym (compared_value Equal m x y refl)
+    ∙ (λ i. apply m Equal (sym e i ∷ sym f i ∷ []) (sym va i ∷ sym vb i ∷ []))
+
+turned_brings : (nodes : List Node) (a b : ℕ) (f : Feature) → OneBrings nodes (b ∷ a ∷ []) f → OneBrings nodes (a ∷ b ∷ []) f
+turned_brings nodes a b f o = record { one = o.one; listed = other o.one o.listed; brings = o.brings }
+  where
+    other : (k : ℕ) → Contains (b ∷ a ∷ []) k → Contains (a ∷ b ∷ []) k
+    other k (zero, h, e) = (1, omega arith, e)
+    other k (suc zero, h, e) = (0, omega arith, e)
+    other k (suc (suc j), h, e) = absurd (omega (arith, h))
+
+turned_rebuilds : (new nodes : List Node) (r a b : ℕ) → WellTyped nodes → a < length nodes → b < length nodes → type_at nodes a ≡ Integer → type_at nodes b ≡ Integer → Rebuilds new r nodes Equal (b ∷ a ∷ []) → Rebuilds new r nodes Equal (a ∷ b ∷ [])
+turned_rebuilds new nodes r a b w h g e f s = record {
+  there = s.there;
+  same = λ m. s.same m ∙ turned_value nodes m a b w h g e f;
+  ty = s.ty;
+  features = λ x z. elim (s.features x z) [
+    | inl i ↦ inl (plain-shows Equal Equal (types_at nodes (b ∷ a ∷ [])) (types_at nodes (a ∷ b ∷ [])) Boolean Boolean x tt refl i)
+    | inr o ↦ inr (turned_brings nodes a b x o)
+  ];
+}
+
+-- an equality is that of its parts in the other order, where they are integers
+pub turned_called : {E : Type 0} (new nodes : List Node) (a b : ℕ) (o : Result (Option ℕ) E) → WellTyped nodes → a < length nodes → b < length nodes → type_at nodes a ≡ Integer → type_at nodes b ≡ Integer → IfOk o (λ p. IfSome p (λ r. Rebuilds new r nodes Equal (b ∷ a ∷ [])))
+    → IfOk o (λ p. IfSome p (λ r. Rebuilds new r nodes Equal (a ∷ b ∷ [])))
+turned_called new nodes a b (Err x) w h g e f s = tt
+turned_called new nodes a b (Ok None) w h g e f s = tt
+turned_called new nodes a b (Ok (Some r)) w h g e f s = turned_rebuilds new nodes r a b w h g e f s
 
 -- the pairs of a table are those of it when it has grown, and have the same sum
 pub integers_on : (old now : List Node) (pairs : List Pair) → Grows old now → AreIntegers old pairs → AreIntegers now pairs

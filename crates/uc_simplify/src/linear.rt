@@ -3,7 +3,7 @@
 ghost use Rattle.std.specs.Prelude.{◌≡◌, ◌<◌, ◌+ℤ◌, ◌-ℤ◌, true, [], ◌∷◌, length, IfOk, IfSome, All};
 ghost use Rattle.uc_values.specs.declared.ty.Ty.TheVariants.{Int as Integer};
 ghost use Rattle.uc_linear.specs.Linear.{sum_at};
-ghost use Rattle.uc_ops.specs.declared.op.Op.TheVariants.{Add, Scale};
+ghost use Rattle.uc_ops.specs.declared.op.Op.TheVariants.{Eq as Equal, Add, Scale};
 ghost use Rattle.uc_ops.specs.Typing.{Suits, types_at, type_at};
 ghost use Rattle.uc_terms.specs.Tables.{WellTyped};
 ghost use Rattle.uc_simplify_sums.specs.Forms.{number_at};
@@ -42,7 +42,7 @@ pub(crate) fn normal(
             let Ty::Int = terms.ty(*a) else {
                 return Ok(None);
             };
-            compared(alloc, terms, op, *a, *b)
+            equation(alloc, terms, *a, *b)
         }
         _ => Ok(None),
     }
@@ -83,6 +83,59 @@ fn multiple(
     };
     let sum = sum_of(alloc, terms, form.constant(), form.pairs())?;
     Ok(Some(sum))
+}
+
+/// An equality, of which the earliest term has a positive coefficient on the left.
+fn equation(
+    alloc: Global,
+    terms: &mut Terms,
+    a: TermId,
+    b: TermId,
+) -> Result<Option<TermId>, AllocError>
+    requires left { a < length terms.old }
+    requires right { b < length terms.old }
+    requires left_integer { type_at terms.old a ≡ Integer }
+    requires right_integer { type_at terms.old b ≡ Integer }
+    ensures rebuilt { IfOk result (λ o. IfSome o (λ r. Rebuilds terms.new r terms.old Equal (a ∷ b ∷ []))) }
+    ensures grown { Grows terms.old terms.new }
+    ensures well { WellTyped terms.new }
+{
+    let _count = terms.len();
+    let Some(form) = difference_form(alloc, terms, a, b)? else {
+        return Ok(None);
+    };
+    if begins_negative(form.pairs()) {
+        turned(alloc, terms, a, b)
+    } else {
+        compared(alloc, terms, &Op::Eq, a, b)
+    }
+}
+
+/// Whether the first coefficient is negative.
+fn begins_negative(pairs: &[(u32, i128)]) -> bool {
+    match pairs {
+        [(_, factor), ..] => *factor < 0,
+        [] => false,
+    }
+}
+
+/// An equality of two terms, over the second less the first.
+fn turned(
+    alloc: Global,
+    terms: &mut Terms,
+    a: TermId,
+    b: TermId,
+) -> Result<Option<TermId>, AllocError>
+    requires left { a < length terms.old }
+    requires right { b < length terms.old }
+    requires left_integer { type_at terms.old a ≡ Integer }
+    requires right_integer { type_at terms.old b ≡ Integer }
+    ensures rebuilt { IfOk result (λ o. IfSome o (λ r. Rebuilds terms.new r terms.old Equal (a ∷ b ∷ []))) }
+    ensures grown { Grows terms.old terms.new }
+    ensures well { WellTyped terms.new }
+{
+    let _count = terms.len();
+    compared(alloc, terms, &Op::Eq, b, a)
 }
 
 /// A comparison of two sums that have no term in common: what the one is less the other, with what is negative on the other side.

@@ -1,0 +1,260 @@
+//! Operations on terms that are taken from the end of a list, where their types suit.
+
+ghost use Rattle.std.specs.Prelude.{◌≡◌, ℕ, ◌<◌, true, [], ◌∷◌, length, All, IfOk, IfSome, OnOk};
+ghost use Rattle.uc_values.specs.declared.ty.Ty.TheVariants.{Bool, Int, Bv};
+ghost use Rattle.uc_ops.specs.Typing.{Suits, type_of, type_at, types_at};
+ghost use Rattle.uc_terms.specs.Built.{Keeps};
+
+use std::alloc::{AllocError, Global};
+use uc_terms::{Op, TermId, Terms};
+use uc_values::Ty;
+
+/// The number of an operation on parts, with its type.
+pub(crate) fn made(
+    terms: &mut Terms,
+    alloc: Global,
+    op: Op,
+    parts: &[TermId],
+) -> Result<TermId, AllocError>
+    requires there { All (λ p. p < length terms.old) parts.now }
+    requires suits { Suits op (types_at terms.old parts.now) }
+    ensures there { IfOk result (λ t. t < length terms.new) }
+    ensures ty { IfOk result (λ t. type_at terms.new t ≡ type_of op (types_at terms.old parts.now)) }
+    ensures keeps { OnOk result (Keeps terms.old terms.new) }
+{
+    let t = terms.mk(alloc, op, parts)?;
+    Ok(t)
+}
+
+/// Takes the last term.
+pub(crate) fn last(terms: &Terms, stack: &mut Vec<TermId>) -> Option<TermId>
+    ensures { IfSome result (λ t. t < length terms.now) }
+{
+    let t = stack.pop()?;
+    if t.number() < terms.len() {
+        Some(t)
+    } else {
+        None
+    }
+}
+
+/// Takes the last two terms, in their order.
+fn two(terms: &Terms, stack: &mut Vec<TermId>) -> Option<(TermId, TermId)>
+    ensures first { IfSome result (λ r. r.0 < length terms.now) }
+    ensures second { IfSome result (λ r. r.1 < length terms.now) }
+{
+    let b = last(terms, stack)?;
+    let a = last(terms, stack)?;
+    Some((a, b))
+}
+
+/// Whether both are truths, integers, or bit-vectors of one width.
+fn are_alike(terms: &Terms, a: TermId, b: TermId) -> bool
+    requires first { a < length terms.now }
+    requires second { b < length terms.now }
+    ensures { result ≡ true → type_at terms.now a ≡ type_at terms.now b }
+{
+    match (terms.ty(a), terms.ty(b)) {
+        (Ty::Bool, Ty::Bool) => true,
+        (Ty::Int, Ty::Int) => true,
+        (Ty::Bv(v), Ty::Bv(w)) => v == w,
+        _ => false,
+    }
+}
+
+/// An operation on no parts.
+pub(crate) fn leaf(terms: &mut Terms, alloc: Global, op: Op) -> Result<Option<TermId>, AllocError>
+    requires { Suits op [] }
+{
+    let t = made(terms, alloc, op, &[])?;
+    Ok(Some(t))
+}
+
+/// Whether the last two are equal.
+#[tactic(auto, using(crate::proofs::Suiting::alike_suit))]
+pub(crate) fn equal(
+    terms: &mut Terms,
+    alloc: Global,
+    stack: &mut Vec<TermId>,
+) -> Result<Option<TermId>, AllocError> {
+    let Some((a, b)) = two(terms, stack) else {
+        return Ok(None);
+    };
+    if !are_alike(terms, a, b) {
+        return Ok(None);
+    }
+    let t = made(terms, alloc, Op::Eq, &[a, b])?;
+    Ok(Some(t))
+}
+
+/// The one or the other of the last two, by the truth before them.
+#[tactic(auto, using(crate::proofs::Suiting::choice_suits))]
+pub(crate) fn chosen(
+    terms: &mut Terms,
+    alloc: Global,
+    stack: &mut Vec<TermId>,
+) -> Result<Option<TermId>, AllocError> {
+    let Some((a, b)) = two(terms, stack) else {
+        return Ok(None);
+    };
+    let Some(c) = last(terms, stack) else {
+        return Ok(None);
+    };
+    if !are_alike(terms, a, b) {
+        return Ok(None);
+    }
+    let Ty::Bool = terms.ty(c) else {
+        return Ok(None);
+    };
+    let t = made(terms, alloc, Op::Ite, &[c, a, b])?;
+    Ok(Some(t))
+}
+
+/// An operation on a truth.
+#[tactic(auto, using(crate::proofs::Suiting::one_suits))]
+pub(crate) fn on_truth(
+    terms: &mut Terms,
+    alloc: Global,
+    stack: &mut Vec<TermId>,
+    op: Op,
+) -> Result<Option<TermId>, AllocError>
+    requires { Suits op (Bool ∷ []) }
+{
+    let Some(a) = last(terms, stack) else {
+        return Ok(None);
+    };
+    let Ty::Bool = terms.ty(a) else {
+        return Ok(None);
+    };
+    let t = made(terms, alloc, op, &[a])?;
+    Ok(Some(t))
+}
+
+/// An operation on two truths.
+#[tactic(auto, using(crate::proofs::Suiting::two_suit))]
+pub(crate) fn on_truths(
+    terms: &mut Terms,
+    alloc: Global,
+    stack: &mut Vec<TermId>,
+    op: Op,
+) -> Result<Option<TermId>, AllocError>
+    requires { Suits op (Bool ∷ Bool ∷ []) }
+{
+    let Some((a, b)) = two(terms, stack) else {
+        return Ok(None);
+    };
+    let (Ty::Bool, Ty::Bool) = (terms.ty(a), terms.ty(b)) else {
+        return Ok(None);
+    };
+    let t = made(terms, alloc, op, &[a, b])?;
+    Ok(Some(t))
+}
+
+/// An operation on an integer.
+#[tactic(auto, using(crate::proofs::Suiting::one_suits))]
+pub(crate) fn on_integer(
+    terms: &mut Terms,
+    alloc: Global,
+    stack: &mut Vec<TermId>,
+    op: Op,
+) -> Result<Option<TermId>, AllocError>
+    requires { Suits op (Int ∷ []) }
+{
+    let Some(a) = last(terms, stack) else {
+        return Ok(None);
+    };
+    let Ty::Int = terms.ty(a) else {
+        return Ok(None);
+    };
+    let t = made(terms, alloc, op, &[a])?;
+    Ok(Some(t))
+}
+
+/// An operation on two integers.
+#[tactic(auto, using(crate::proofs::Suiting::two_suit))]
+pub(crate) fn on_integers(
+    terms: &mut Terms,
+    alloc: Global,
+    stack: &mut Vec<TermId>,
+    op: Op,
+) -> Result<Option<TermId>, AllocError>
+    requires { Suits op (Int ∷ Int ∷ []) }
+{
+    let Some((a, b)) = two(terms, stack) else {
+        return Ok(None);
+    };
+    let (Ty::Int, Ty::Int) = (terms.ty(a), terms.ty(b)) else {
+        return Ok(None);
+    };
+    let t = made(terms, alloc, op, &[a, b])?;
+    Ok(Some(t))
+}
+
+/// An operation on a bit-vector of 8 bits.
+#[tactic(auto, using(crate::proofs::Suiting::one_suits))]
+pub(crate) fn on_byte(
+    terms: &mut Terms,
+    alloc: Global,
+    stack: &mut Vec<TermId>,
+    op: Op,
+) -> Result<Option<TermId>, AllocError>
+    requires { Suits op (Bv 8 ∷ []) }
+{
+    let Some(a) = byte(terms, stack) else {
+        return Ok(None);
+    };
+    let t = made(terms, alloc, op, &[a])?;
+    Ok(Some(t))
+}
+
+/// An operation on two bit-vectors of 8 bits.
+#[tactic(auto, using(crate::proofs::Suiting::two_suit))]
+pub(crate) fn on_bytes(
+    terms: &mut Terms,
+    alloc: Global,
+    stack: &mut Vec<TermId>,
+    op: Op,
+) -> Result<Option<TermId>, AllocError>
+    requires { Suits op (Bv 8 ∷ Bv 8 ∷ []) }
+{
+    let Some(b) = byte(terms, stack) else {
+        return Ok(None);
+    };
+    let Some(a) = byte(terms, stack) else {
+        return Ok(None);
+    };
+    let t = made(terms, alloc, op, &[a, b])?;
+    Ok(Some(t))
+}
+
+/// An operation on a bit-vector of 16 bits.
+#[tactic(auto, using(crate::proofs::Suiting::one_suits))]
+pub(crate) fn on_word(
+    terms: &mut Terms,
+    alloc: Global,
+    stack: &mut Vec<TermId>,
+    op: Op,
+) -> Result<Option<TermId>, AllocError>
+    requires { Suits op (Bv 16 ∷ []) }
+{
+    let Some(a) = last(terms, stack) else {
+        return Ok(None);
+    };
+    let Ty::Bv(16) = terms.ty(a) else {
+        return Ok(None);
+    };
+    let t = made(terms, alloc, op, &[a])?;
+    Ok(Some(t))
+}
+
+/// Takes the last term, a bit-vector of 8 bits.
+pub(crate) fn byte(terms: &Terms, stack: &mut Vec<TermId>) -> Option<TermId>
+    ensures there { IfSome result (λ t. t < length terms.now) }
+    ensures ty { IfSome result (λ t. type_at terms.now t ≡ Bv 8) }
+{
+    let t = last(terms, stack)?;
+    match terms.ty(t) {
+        Ty::Bv(8) => Some(t),
+        _ => None,
+    }
+}
