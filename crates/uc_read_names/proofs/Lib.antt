@@ -1,0 +1,2 @@
+mod KnownReads
+mod Turns

@@ -1,0 +1,16 @@
+use Rattle.std.proofs.Common.{◌≡◌, Some, None, ap, sym, subst, ◌∙◌}
+use Rattle.std.specs.Prelude.{IfOk}
+use Rattle.std.specs.Option.{option_map}
+use Rattle.uc_lookup.specs.Parts.{instance_parts}
+use Rattle.uc_meaning.specs.Lookup.{System, module_named}
+use Rattle.uc_name_table.specs.Senses.{called_meant, module_in, value_meant}
+use Rattle.uc_rules.specs.Expressions.{Context, enum_of}
+use Rattle.uc_rules.specs.Names.{called_named, instance_named, value_named}
+use Rattle.uc_rules.specs.Reads.{define_reads}
+use Rattle.uc_rules.specs.Types.{type_of}
+use Rattle.uc_read_names.proofs.scope.Scope.module_named.Goals as goal
+
+pub returns : goal.returns
+returns c =
+    subst (λ (q : Context). option_map (module_in q.system.modules) c.module_named.result ≡ module_named q.system c.args.name) c.self.view_is
+    (subst (λ (s : System). option_map (module_in s.modules) c.module_named.result ≡ module_named s c.args.name) (c.design.ensures ∙ c.homes.ensures) c.module_named.ensures)

@@ -1,0 +1,15 @@
+use Rattle.std.proofs.Common.{◌≡◌, Some, None, ap, sym, subst, ◌∙◌}
+use Rattle.std.specs.Prelude.{IfOk}
+use Rattle.std.specs.Option.{option_map}
+use Rattle.uc_lookup.specs.Parts.{instance_parts}
+use Rattle.uc_meaning.specs.Lookup.{System, module_named}
+use Rattle.uc_name_table.specs.Senses.{called_meant, module_in, value_meant}
+use Rattle.uc_rules.specs.Expressions.{Context, enum_of}
+use Rattle.uc_rules.specs.Names.{called_named, instance_named, value_named}
+use Rattle.uc_rules.specs.Reads.{define_reads}
+use Rattle.uc_rules.specs.Types.{type_of}
+use Rattle.uc_read_names.proofs.KnownReads.{reads_known}
+use Rattle.uc_read_names.proofs.scope.Scope.reads_state.Goals as goal
+
+pub returns : goal.returns
+returns c = c.contains.ensures ∙ reads_known c.self.inside.types.now (module_in c.self.inside.types.now.modules c.self.inside.home) c.self.inside.reading.now c.self.invariant c.args.name ∙ ap (λ (q : Context). define_reads q.system q.home c.args.name) c.self.view_is
