@@ -1,0 +1,4 @@
+mod Forms
+mod Selected
+mod Joined
+mod Turns
