@@ -12,13 +12,17 @@ use Rattle.uc_syntax.specs.declared.expression.Expr.TheViews.{roll-Expr, If, Iff
 use Rattle.uc_syntax.specs.declared.expression.Expr.TheFolds.{fold-roll-Expr, map-Expr}
 use Rattle.uc_rules.specs.declared.rows.Chain.TheVariants.{Boolean, Number, Bits, Concat as Widths}
 use Rattle.uc_rules.specs.Rows.{comparison}
-use Rattle.uc_rules.specs.Expressions.{Context, Judged, Part, chain_from_right, chain_judged, if_judged, judged, judged_all, judged_form, judges, own, product_judged, unary_judged}
+use Rattle.uc_rules.specs.Expressions.{Context, Judged, Part, chain_from_right, chain_judged, chained, faults_of, if_judged, judged, judged_all, judged_form, judges, own, product_judged, product_own, types_of, unary_judged}
 use Rattle.uc_expression_rules.specs.Parts.{branch_parts}
-use Rattle.uc_expression_rules.specs.Judging.{parts_judged}
+use Rattle.uc_expression_rules.specs.Judging.{parts_judged, product_found}
 
 pub all_parts : (c : Context) (es : List Expr) → judged_all (map judged es) c ≡ parts_judged c es
 all_parts c [] = refl
 all_parts c (e ∷ es) = ap (λ js. judged e c ∷ js) (all_parts c es)
+
+plains_are : (c : Context) (es : List Expr) → map (λ (p : Judged). p.plain) (parts_judged c es) ≡ map (λ e. (judged e c).plain) es
+plains_are c [] = refl
+plains_are c (e ∷ es) = ap (λ bs. (judged e c).plain ∷ bs) (plains_are c es)
 
 branches_of : {X : Type 0} → Expr-F X → List (Branch X)
 branches_of (IfForm p bs otherwise) = bs
@@ -75,9 +79,12 @@ module _ (c : Context) (place : Place) where
   unfolding judged roll-Expr denote.Hole.Carrier.roll
   judged_sum es ms = ap (λ (p : Part). p c) (fold-roll-Expr Part judged_form (SumForm place es ms)) ∙ ap (λ js. chain_judged Number place js (map (λ s. s.place) ms)) (all_parts c es)
 
-  pub judged_product : (es : List Expr) (ms : List Place) → judged (Product place es ms) c ≡ product_judged place (parts_judged c es) ms
+  pub judged_product : (es : List Expr) (ms : List Place) → judged (Product place es ms) c ≡ judges place (faults_of (parts_judged c es)) (product_found c es ms)
   unfolding judged roll-Expr denote.Hole.Carrier.roll
-  judged_product es ms = ap (λ (p : Part). p c) (fold-roll-Expr Part judged_form (ProductForm place es ms)) ∙ ap (λ js. product_judged place js ms) (all_parts c es)
+  judged_product es ms =
+      ap (λ (p : Part). p c) (fold-roll-Expr Part judged_form (ProductForm place es ms))
+      ∙ ap (λ js. product_judged place js ms) (all_parts c es)
+      ∙ ap (λ ps. judges place (faults_of (parts_judged c es)) (product_own (chained Number ms (types_of (parts_judged c es))) ms ps)) (plains_are c es)
 
   pub judged_compare : (how : Comparison) (mark : Place) (a b : Expr) →
       judged (Compare place how mark a b) c ≡ judges place ((judged a c).faults ++ (judged b c).faults) (own mark (comparison how (judged a c).type (judged b c).type))

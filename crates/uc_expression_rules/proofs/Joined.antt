@@ -2,7 +2,7 @@
 use Rattle.std.specs.Prelude.{◌&&◌, if◌then◌else◌}
 use Rattle.std.specs.Option.{is_some}
 use Rattle.uc_syntax.specs.declared.expression.BitFunction.{BitFunction}
-use Rattle.std.proofs.Common.{◌≡◌, ℕ, Bool, true, false, List, [], ◌∷◌, ◌++◌, map, Option, Some, None, reverse, refl, ap, ◌∙◌, sym, subst, append_assoc}
+use Rattle.std.proofs.Common.{◌≡◌, ℕ, Bool, true, false, List, [], ◌∷◌, ◌++◌, length, arith, map, Option, Some, None, reverse, refl, ap, ◌∙◌, sym, subst, append_assoc}
 use Rattle.uc_lexer.specs.declared.place.Place.{Place}
 use Rattle.uc_syntax.specs.declared.expression.Expr.{Expr}
 use Rattle.uc_syntax.specs.declared.expression.Branch.{Branch}
@@ -14,16 +14,18 @@ use Rattle.uc_syntax.specs.declared.expression.Expr.TheViews.{If, Compare, Unary
 use Rattle.uc_values.specs.declared.ty.Ty.{Ty}
 use Rattle.uc_rules.specs.declared.fault.Fault.{Fault}
 use Rattle.uc_rules.specs.declared.outcome.Outcome.{Outcome}
+use Rattle.uc_rules.specs.declared.outcome.Outcome.TheVariants.{Breaks}
+use Rattle.uc_rules.specs.declared.rule.Rule.TheVariants.{WrongType}
 use Rattle.uc_rules.specs.declared.rows.Chain.{Chain}
 use Rattle.uc_rules.specs.declared.rows.Chain.TheVariants.{Boolean, Number}
 use Rattle.uc_rules.specs.Faults.{first_of}
 use Rattle.uc_rules.specs.Outcomes.{faults_in, type_in}
 use Rattle.uc_rules.specs.Rows.{comparison, condition, same_outcome, unary}
-use Rattle.uc_rules.specs.Expressions.{Context, Judged, Own, Standing, branch_faults, branches, chained, faults_of, is_extension, judged, judged_all, number_faults, on_bits_inner, on_bits_outcome, primary_inner, primary_standing, product_own, selections_faults, selections_type, standing_faults, told, types_of}
+use Rattle.uc_rules.specs.Expressions.{Context, Judged, Own, Standing, branch_faults, branches, chained, condition_faults, faults_of, is_extension, judged, judged_all, number_faults, on_bits_inner, on_bits_outcome, primary_inner, primary_standing, product_own, selections_faults, selections_type, standing_faults, told, types_of}
 use Rattle.uc_rules.proofs.Chains.{first_of_append}
 use Rattle.uc_expression_rules.specs.declared.branches.JudgedBranch.{JudgedBranch}
 use Rattle.uc_expression_rules.specs.Parts.{branch_parts, primary_parts, selections_parts}
-use Rattle.uc_expression_rules.specs.Judging.{Finds, FindsOutcome, FindsOwn, Judges, JudgesAll, JudgesBranches, JudgesChain, JudgesFromRight, JudgesProduct, JudgesSelections, JudgesTold, bits_outcome, branch_judged, own_of_branch, own_with, parts_judged}
+use Rattle.uc_expression_rules.specs.Judging.{Finds, FindsOutcome, FindsOwn, Judges, JudgesAll, JudgesBranches, JudgesChain, JudgesFromRight, JudgesOnBits, JudgesProduct, JudgesSelections, JudgesTold, behind, bits_outcome, branch_judged, own_of_branch, own_with, parts_judged}
 use Rattle.uc_expression_rules.proofs.Forms.{all_parts, judged_compare, judged_if, judged_unary}
 use Rattle.uc_expression_rules.proofs.Selected.{judged_selected}
 
@@ -121,6 +123,16 @@ pub selected_told : (c : Context) (begin : Place) (before after : Standing) (ss 
 selected_told c begin before after ss ss' old mid new t mid-is after-is ss-is rest =
     finds_inner old mid new t _ (standing_faults before) _ mid-is (subst (λ b. JudgesSelections c begin b ss mid new t) after-is (subst (λ xs. JudgesSelections c begin after xs mid new t) ss-is rest))
 
+-- a condition, where it stands
+pub condition_noted : (c : Context) (e : Expr) (old mid new : Option Fault) (t : Option Ty) (place : Place) (o : Outcome) →
+    Judges c e old mid t → place ≡ (judged e c).place → o ≡ condition t → new ≡ first_of mid (faults_in place o) → new ≡ first_of old (condition_faults c e)
+condition_noted c e old mid new t place o one place-is o-is found =
+    found
+    ∙ ap (λ w. first_of mid (faults_in place w)) (o-is ∙ ap condition one.type)
+    ∙ ap (λ p. first_of mid (faults_in p (condition (judged e c).type))) place-is
+    ∙ ap (λ m. first_of m (faults_in (judged e c).place (condition (judged e c).type))) one.found
+    ∙ sym (first_of_append old (judged e c).faults (faults_in (judged e c).place (condition (judged e c).type)))
+
 -- ---- functions on bits
 
 bits_same : (f : BitFunction) (j : Judged) (js : List Judged) → bits_outcome f j.number (j.type ∷ types_of js) ≡ on_bits_outcome f (j ∷ js)
@@ -148,3 +160,26 @@ module _ (c : Context) (f : BitFunction) (amount : Expr) (rest es : List Expr) (
   amount_too old mid new is first found =
       found ∙ ap (λ o. first_of o (faults_of (parts_judged c rest))) first ∙ sym (first_of_append old (judged amount c).faults (faults_of (parts_judged c rest)))
       ∙ sym (ap (λ fs. first_of old (fs ++ faults_of (parts_judged c rest))) (number_kept false is)) ∙ sym (ap (λ js. first_of old (on_bits_inner f js)) parts_are)
+
+pub on_bits_none : (c : Context) (f : BitFunction) (es : List Expr) (old : Option Fault) → length es ≡ 0 → JudgesOnBits c f es old old (Breaks WrongType)
+unfolding first_of
+on_bits_none c f [] old h = record { outcome = refl; found = refl }
+on_bits_none c f (e ∷ es) old h = absurd (omega (arith, h))
+
+pub on_bits_alone : (c : Context) (f : BitFunction) (es : List Expr) (amount : Expr) (rest : List Expr) (number : Option ℕ) (t : Option Ty) (us vs : List (Option Ty)) (old new : Option Fault) (o : Outcome) →
+    es ≡ amount ∷ rest → number ≡ (judged amount c).number → (is_extension f && is_some number) ≡ true → t ≡ (judged amount c).type → JudgesAll c (behind es) old new us → vs ≡ us →
+    o ≡ bits_outcome f number (t ∷ vs) → JudgesOnBits c f es old new o
+on_bits_alone c f es amount rest number t us vs old new o same number-is is t-is others vs-is o-is =
+    let held = subst (λ xs. JudgesAll c xs old new us) (ap behind same) others in record {
+      outcome = o-is ∙ ap (λ ws. bits_outcome f number (t ∷ ws)) vs-is ∙ bits_found c f amount rest es number t us same number-is t-is held.types;
+      found = number_alone c f amount rest es number t us same number-is old new is held.found;
+    }
+
+pub on_bits_noted : (c : Context) (f : BitFunction) (es : List Expr) (amount : Expr) (rest : List Expr) (number : Option ℕ) (t : Option Ty) (us vs : List (Option Ty)) (old mid new : Option Fault) (o : Outcome) →
+    es ≡ amount ∷ rest → number ≡ (judged amount c).number → (is_extension f && is_some number) ≡ false → Judges c amount old mid t → JudgesAll c (behind es) mid new us → vs ≡ us →
+    o ≡ bits_outcome f number (t ∷ vs) → JudgesOnBits c f es old new o
+on_bits_noted c f es amount rest number t us vs old mid new o same number-is is one others vs-is o-is =
+    let held = subst (λ xs. JudgesAll c xs mid new us) (ap behind same) others in record {
+      outcome = o-is ∙ ap (λ ws. bits_outcome f number (t ∷ ws)) vs-is ∙ bits_found c f amount rest es number t us same number-is one.type held.types;
+      found = amount_too c f amount rest es number t us same number-is old mid new is one.found held.found;
+    }

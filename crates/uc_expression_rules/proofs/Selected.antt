@@ -1,5 +1,7 @@
 -- A primary with its selections.
-use Rattle.std.proofs.Common.{◌≡◌, ℕ, Bool, true, false, List, [], ◌∷◌, map, Option, Some, None, refl, ap, ◌∙◌}
+use Rattle.std.proofs.Common.{◌≡◌, ℕ, Bool, true, false, List, [], ◌∷◌, map, Option, Some, None, refl, ap, sym, ◌∙◌}
+use Rattle.std.specs.Prelude.{◌↔◌, IsTrue}
+use Rattle.std.proofs.lemmas.Bool.{iff_false}
 use Rattle.uc_lexer.specs.declared.place.Place.{Place}
 use Rattle.uc_syntax.specs.declared.expression.Expr.{Expr}
 use Rattle.uc_syntax.specs.declared.expression.Expr.TheOpen.{Expr-F}
@@ -115,3 +117,44 @@ plain_behind c (Apply x es) s ss = refl
 plain_behind c (OnBits k es) s ss = refl
 plain_behind c (Old i) s ss = refl
 plain_behind c (Grouped e) s ss = refl
+
+-- a primary that stands alone, and one with selections behind it
+module _ (p : Place) (c : Context) (primary : Primary Expr) (ss : List (Selection Expr)) (e : Expr) (is : e ≡ Selected p primary ss) where
+  number_in_it : number_in (primary_parts primary) (selections_parts ss) ≡ (judged e c).number
+  number_in_it = ap (λ j. j.number) (sym (judged_selected p c primary ss)) ∙ ap (λ x. (judged x c).number) (sym is)
+
+  name_in_it : name_in (primary_parts primary) (selections_parts ss) ≡ (judged e c).name
+  name_in_it = ap (λ j. j.name) (sym (judged_selected p c primary ss)) ∙ ap (λ x. (judged x c).name) (sym is)
+
+  plain_in_it : is_plain c (primary_parts primary) (selections_parts ss) ≡ (judged e c).plain
+  plain_in_it = ap (λ j. j.plain) (sym (judged_selected p c primary ss)) ∙ ap (λ x. (judged x c).plain) (sym is)
+
+  pub number_there : (n : Option ℕ) → ss ≡ [] → n ≡ number_of_primary primary → n ≡ (judged e c).number
+  number_there n none n-is = n-is ∙ sym (number_alone primary) ∙ ap (λ xs. number_in (primary_parts primary) (selections_parts xs)) (sym none) ∙ number_in_it
+
+  pub name_there : (n : Option ℕ) → ss ≡ [] → n ≡ name_of_primary primary → n ≡ (judged e c).name
+  name_there n none n-is = n-is ∙ sym (name_alone primary) ∙ ap (λ xs. name_in (primary_parts primary) (selections_parts xs)) (sym none) ∙ name_in_it
+
+  pub plain_there : (b : Bool) → ss ≡ [] → b ≡ is_plain_primary c primary → b ≡ (judged e c).plain
+  plain_there b none b-is = b-is ∙ sym (plain_alone c primary) ∙ ap (λ xs. is_plain c (primary_parts primary) (selections_parts xs)) (sym none) ∙ plain_in_it
+
+  pub number_missing : (b : Bool) → (IsTrue b ↔ (ss ≡ [])) → b ≡ false → None ≡ (judged e c).number
+  number_missing b when off = sym (behind ss when) ∙ number_in_it
+    where
+      behind : (xs : List (Selection Expr)) → (IsTrue b ↔ (xs ≡ [])) → number_in (primary_parts primary) (selections_parts xs) ≡ None
+      behind [] w = absurd (iff_false w off refl)
+      behind (x ∷ xs) w = number_behind primary x xs
+
+  pub name_missing : (b : Bool) → (IsTrue b ↔ (ss ≡ [])) → b ≡ false → None ≡ (judged e c).name
+  name_missing b when off = sym (behind ss when) ∙ name_in_it
+    where
+      behind : (xs : List (Selection Expr)) → (IsTrue b ↔ (xs ≡ [])) → name_in (primary_parts primary) (selections_parts xs) ≡ None
+      behind [] w = absurd (iff_false w off refl)
+      behind (x ∷ xs) w = name_behind primary x xs
+
+  pub plain_missing : (b : Bool) → (IsTrue b ↔ (ss ≡ [])) → b ≡ false → false ≡ (judged e c).plain
+  plain_missing b when off = sym (behind ss when) ∙ plain_in_it
+    where
+      behind : (xs : List (Selection Expr)) → (IsTrue b ↔ (xs ≡ [])) → is_plain c (primary_parts primary) (selections_parts xs) ≡ false
+      behind [] w = absurd (iff_false w off refl)
+      behind (x ∷ xs) w = plain_behind c primary x xs

@@ -1,6 +1,11 @@
 -- The turns of loops over parts, arms and selections.
-use Rattle.std.proofs.Common.{◌≡◌, ℕ, ◌+◌, ◌<◌, ◌≤◌, List, [], ◌∷◌, ◌++◌, length, map, take, drop, get_or, reverse, Option, Some, None, refl, ap, ◌∙◌, sym, subst}
+use Rattle.std.proofs.Common.{◌≡◌, ℕ, ◌+◌, ◌<◌, ◌≤◌, List, [], ◌∷◌, ◌++◌, length, map, take, drop, get_or, reverse, Option, Some, None, refl, ap, ◌∙◌, sym, subst, arith}
 use Rattle.std.specs.List.{flat_map}
+use Rattle.std.specs.Prelude.{Result, IfOk}
+use Rattle.uc_syntax.specs.declared.declaration.Module.{Module}
+use Rattle.uc_read_names.specs.Reading.{standing_meant}
+use Rattle.uc_read_names.specs.declared.standing.Standing.{Standing as Stood}
+use Rattle.uc_read_names.specs.declared.standing.Standing.TheVariants.{Value as StoodValue, State as StoodState, Inside as StoodInside, Wrong as StoodWrong, Broken as StoodBroken}
 use Rattle.std.proofs.lemmas.List.{drop_all, take_all}
 use Rattle.std.proofs.lemmas.Grind.{reverse_onto}
 use Rattle.uc_lexer.specs.declared.place.Place.{Place}
@@ -13,13 +18,13 @@ use Rattle.uc_values.specs.declared.ty.Ty.{Ty}
 use Rattle.uc_rules.specs.declared.fault.Fault.{Fault}
 use Rattle.uc_rules.specs.Faults.{first_of}
 use Rattle.uc_rules.specs.Outcomes.{faults_in, type_in}
-use Rattle.uc_rules.specs.Rows.{condition, element_on, extract_on, same_outcome, update_on}
+use Rattle.uc_rules.specs.Rows.{condition, element_on, extract_on, field_on, same_outcome, update_on}
 use Rattle.uc_rules.specs.Expressions.{Context, Judged, Own, Part, Standing, ValueOf, StateOf, Inside, Wrong, Broken, branch_faults, faults_of, judged, kept_where, read, select, select_value, selection_inner, selections_faults, selections_type, standing_faults, standing_type, told, types_of}
 use Rattle.uc_rules.proofs.Chains.{first_of_append}
 use Rattle.uc_rules.proofs.Lists.{drop_turn, take_turn}
 use Rattle.uc_expression_rules.specs.declared.branches.JudgedBranch.{JudgedBranch}
 use Rattle.uc_expression_rules.specs.Parts.{branch_parts, selection_parts, selections_parts}
-use Rattle.uc_expression_rules.specs.Judging.{Finds, FindsOutcome, FindsOwn, Judges, JudgesAll, JudgesBranches, JudgesSelections, Selects, branch_judged, on_value, own_of_branch, own_with, parts_judged}
+use Rattle.uc_expression_rules.specs.Judging.{Finds, FindsOutcome, FindsOwn, Judges, JudgesAll, JudgesBranches, JudgesSelections, Selects, behind, branch_judged, on_value, own_of_branch, own_with, parts_judged}
 
 -- ---- parts
 
@@ -64,6 +69,15 @@ all_more c es k e d old mid new ts us t before within is one now =
       found = whole.found ∙ sym (ap (λ xs. first_of old (faults_of (parts_judged c xs))) (take_turn es k e d within is));
     }
 
+-- the parts behind the first one
+pub behind_none : (c : Context) (es : List Expr) (old : Option Fault) (ts : List (Option Ty)) → length es ≡ 0 → ts ≡ [] → JudgesAll c (behind es) old old ts
+behind_none c [] old ts h is = subst (JudgesAll c [] old old) (sym is) (all_begin c old)
+behind_none c (e ∷ es) old ts h is = absurd (omega (arith, h))
+
+pub behind_all : (c : Context) (es : List Expr) (e : Expr) (rest : List Expr) (k : ℕ) (old new : Option Fault) (ts : List (Option Ty)) → es ≡ e ∷ rest → length rest ≤ k →
+    JudgesAll c (take k rest) old new ts → JudgesAll c (behind es) old new ts
+behind_all c es e rest k old new ts is past held = subst (λ xs. JudgesAll c xs old new ts) (take_all k rest past ∙ sym (ap behind is)) held
+
 -- ---- arms of a conditional
 
 pub branches_begin : (c : Context) (old : Option Fault) → JudgesBranches c [] old old []
@@ -95,7 +109,7 @@ branches_more c bs k b d old m0 m1 new js ks j before within is j-is first secon
 }
 
 -- arms from the last one
-own_from : List JudgedBranch → Own → Own
+pub own_from : List JudgedBranch → Own → Own
 own_from [] o = o
 own_from (b ∷ bs) o = own_from bs (own_of_branch b o)
 
@@ -137,7 +151,14 @@ own_more bs o old b left rest t u first new before is one = record {
 
 pub own_end : (bs : List JudgedBranch) (o : Own) (old : Option Fault) (left : List JudgedBranch) (t : Option Ty) (first : Option Fault) → OwnFrom bs o old left t first → left ≡ [] → FindsOwn old first t (own_with bs o)
 unfolding own_from
-own_end bs o old left t first before is = subst (λ w. FindsOwn old first t w) (sym (ap (λ xs. own_from xs before.rest) (sym is)) ∙ before.whole) before.finds
+own_end bs o old left t first before is = subst (λ w. FindsOwn old first t w) (ap (λ xs. own_from xs before.rest) (sym is) ∙ before.whole) before.finds
+
+none_left : {A : Type 0} (xs : List A) (n : ℕ) → n ≡ length xs → n ≡ 0 → xs ≡ []
+none_left [] n e h = refl
+none_left (x ∷ xs) n e h = absurd (omega (arith, e, h))
+
+pub own_done : (bs : List JudgedBranch) (o : Own) (old : Option Fault) (left : List JudgedBranch) (t : Option Ty) (first : Option Fault) (n : ℕ) → OwnFrom bs o old left t first → n ≡ length left → n ≡ 0 → FindsOwn old first t (own_with bs o)
+own_done bs o old left t first n before size none = own_end bs o old left t first before (none_left left n size none)
 
 -- ---- selections
 
@@ -235,6 +256,29 @@ module _ (c : Context) (begin place : Place) where
   extract_selected (Inside q m) hi lo = refl
   extract_selected (Wrong f) hi lo = refl
   extract_selected Broken hi lo = refl
+
+  field_selected : (ms : List Module) (before : Stood) (i : Identifier) → ((p : Place) (home : ℕ) → before ≡ StoodInside p home → ⊥) →
+      on_value place (λ t. field_on t i.name) (read c begin (standing_meant ms before)) ≡ select c begin (standing_meant ms before) (Field place i)
+  field_selected ms (StoodValue t) i never = refl
+  field_selected ms (StoodState t) i never = state (read c begin (StateOf t))
+    where
+      state : (s : Standing) → on_value place (λ u. field_on u i.name) s ≡ select_value c s (Field place i)
+      state (ValueOf u) = refl
+      state (StateOf u) = refl
+      state (Inside q m) = refl
+      state (Wrong f) = refl
+      state Broken = refl
+  field_selected ms (StoodInside p home) i never = absurd (never p home refl)
+  field_selected ms (StoodWrong f) i never = refl
+  field_selected ms StoodBroken i never = refl
+
+  -- a field of what is no instance
+  pub field_there : {E : Type 0} (ms : List Module) (before : Stood) (i : Identifier) (now : Standing) (result : Result Stood E) →
+      ((p : Place) (home : ℕ) → before ≡ StoodInside p home → ⊥) → now ≡ read c begin (standing_meant ms before) →
+      IfOk result (λ s. standing_meant ms s ≡ on_value place (λ t. field_on t i.name) now) →
+      IfOk result (λ s. standing_meant ms s ≡ select c begin (standing_meant ms before) (Field place i))
+  field_there ms before i now result never now-is held =
+      subst (λ w. IfOk result (λ s. standing_meant ms s ≡ w)) (ap (on_value place (λ t. field_on t i.name)) now-is ∙ field_selected ms before i never) held
 
 -- what is selected, by the outcome on the value that is read
 pub selects_of : (c : Context) (begin : Place) (before now after : Standing) (p : Selection Part) (old new : Option Fault) → now ≡ select c begin before p → after ≡ told now → new ≡ first_of old (standing_faults now) → Selects c begin before p old new after

@@ -83,6 +83,11 @@ abbrev pub bits_outcome : BitFunction → Option ℕ → List (Option Ty) → Ou
 bits_outcome function number (t ∷ (u ∷ [])) = if is_extension function then extended number t u else pair Bits t u
 bits_outcome function number other = Breaks WrongType
 
+-- all but the first of several expressions
+abbrev pub behind : List Expr → List Expr
+behind [] = []
+behind (e ∷ es) = es
+
 -- what is found of a function on bits
 pub record JudgesOnBits (c : Context) (function : BitFunction) (es : List Expr) (old new : Option Fault) (o : Outcome) : Type 0 where
   pub outcome : o ≡ on_bits_outcome function (judged_all (map judged es) c)

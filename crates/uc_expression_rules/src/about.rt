@@ -1,6 +1,6 @@
 //! What is asked of an expression besides its type: where it begins, and whether it is a literal, a plain number or a name alone.
 
-ghost use Rattle.std.specs.Prelude.{◌≡◌};
+ghost use Rattle.std.specs.Prelude.{◌≡◌, ◌&&◌};
 ghost use Rattle.std.specs.Option.{is_some, option_copied};
 ghost use Rattle.uc_rules.specs.Expressions.{Context, is_counter, is_integer, is_integer_counter, is_negation, judged};
 ghost use Rattle.uc_expression_rules.specs.Parts.{is_plain_primary, name_of_primary, number_of_primary};
@@ -34,7 +34,6 @@ pub fn place_of(e: &Expr) -> Place
 }
 
 /// The number of an expression that is a plain number.
-#[tactic(auto, using(crate::proofs::Forms::judged_iff, crate::proofs::Forms::judged_implies, crate::proofs::Forms::judged_or, crate::proofs::Forms::judged_and, crate::proofs::Forms::judged_bit_or, crate::proofs::Forms::judged_bit_xor, crate::proofs::Forms::judged_bit_and, crate::proofs::Forms::judged_concat, crate::proofs::Forms::judged_sum, crate::proofs::Forms::judged_product, crate::proofs::Forms::judged_if, crate::proofs::Forms::judged_compare, crate::proofs::Forms::judged_unary, crate::proofs::Selected::judged_selected, crate::proofs::Selected::number_is))]
 pub fn number_of(e: &Expr) -> Option<u128>
     ensures { (c : Context) → result ≡ (judged e.now c).number }
 {
@@ -60,7 +59,6 @@ fn number_of_primary(primary: &Primary<Expr>) -> Option<u128>
 }
 
 /// The name of an expression that is an unprimed name alone.
-#[tactic(auto, using(crate::proofs::Forms::judged_iff, crate::proofs::Forms::judged_implies, crate::proofs::Forms::judged_or, crate::proofs::Forms::judged_and, crate::proofs::Forms::judged_bit_or, crate::proofs::Forms::judged_bit_xor, crate::proofs::Forms::judged_bit_and, crate::proofs::Forms::judged_concat, crate::proofs::Forms::judged_sum, crate::proofs::Forms::judged_product, crate::proofs::Forms::judged_if, crate::proofs::Forms::judged_compare, crate::proofs::Forms::judged_unary, crate::proofs::Selected::judged_selected, crate::proofs::Selected::name_is))]
 pub fn name_of(e: &Expr) -> Option<u32>
     ensures { (c : Context) → result ≡ (judged e.now c).name }
 {
@@ -86,19 +84,26 @@ fn name_of_primary(primary: &Primary<Expr>) -> Option<u32>
 }
 
 /// Whether an expression is a literal, a negated literal or an integer loop variable.
-#[tactic(auto, using(crate::proofs::Forms::judged_iff, crate::proofs::Forms::judged_implies, crate::proofs::Forms::judged_or, crate::proofs::Forms::judged_and, crate::proofs::Forms::judged_bit_or, crate::proofs::Forms::judged_bit_xor, crate::proofs::Forms::judged_bit_and, crate::proofs::Forms::judged_concat, crate::proofs::Forms::judged_sum, crate::proofs::Forms::judged_product, crate::proofs::Forms::judged_if, crate::proofs::Forms::judged_compare, crate::proofs::Forms::judged_unary, crate::proofs::Selected::judged_selected, crate::proofs::Selected::plain_is))]
 pub fn is_plain(scope: &Scope<'_, '_>, e: &Expr) -> bool
     ensures { result ≡ (judged e.now scope.now).plain }
 {
     match e {
         Expr::Selected(_, primary, selections) => {
-            selections.is_empty() && is_plain_primary(scope, primary)
+            if selections.is_empty() {
+                is_plain_primary(scope, primary)
+            } else {
+                false
+            }
         }
-        Expr::Unary(_, operator, operand) => {
-            is_negation(*operator) && number_of(operand.get()).is_some()
-        }
+        Expr::Unary(_, operator, operand) => is_negated_number(*operator, operand.get()),
         _ => false,
     }
+}
+
+fn is_negated_number(operator: UnaryOperator, operand: &Expr) -> bool
+    ensures { (c : Context) → result ≡ (is_negation operator && is_some (judged operand.now c).number) }
+{
+    is_negation(operator) && number_of(operand).is_some()
 }
 
 fn is_negation(operator: UnaryOperator) -> bool

@@ -20,6 +20,7 @@ pub struct JudgedBranch {
 }
 
 /// The type of a conditional of some arms. They are judged from the last one, since each has the type of all that follows it too.
+#[tactic(auto, using(crate::proofs::Turns::own_begin, crate::proofs::Turns::own_more, crate::proofs::Turns::own_end))]
 pub(crate) fn conditional(
     branches: Items<JudgedBranch>,
     otherwise: Option<Ty>,

@@ -5,7 +5,7 @@ ghost use Rattle.std.specs.Prelude.{List};
 ghost use Rattle.uc_rules.specs.Expressions.{condition_faults, judged};
 ghost use Rattle.uc_rules.specs.Faults.{first_of};
 ghost use Rattle.uc_read_names.specs.Reading.{standing_meant};
-ghost use Rattle.uc_expression_rules.specs.Judging.{Judges, JudgesAll, JudgesBranches, JudgesChain, JudgesFromRight, JudgesOnBits, JudgesProduct, JudgesSelections, JudgesTold};
+ghost use Rattle.uc_expression_rules.specs.Judging.{Judges, JudgesAll, JudgesBranches, JudgesChain, JudgesFromRight, JudgesOnBits, JudgesProduct, JudgesSelections, JudgesTold, behind};
 
 use crate::about::{is_plain, number_of, place_of};
 use crate::branches::{JudgedBranch, conditional};
@@ -234,6 +234,27 @@ fn judge_branches(
     Ok(parts)
 }
 
+/// The types of all but the first of several expressions.
+#[cycle(judge)]
+fn judge_behind(
+    alloc: Global,
+    scope: &Scope<'_, '_>,
+    arguments: &[Expr],
+    first: &mut Option<Fault>,
+) -> Result<Items<Option<Ty>>, AllocError>
+    ensures { IfOk result (λ ts. JudgesAll scope.now (behind arguments.now) first.old first.new ts) }
+{
+    let mut types = Items::new(alloc);
+    let Some((_, rest)) = arguments.split_first() else {
+        return Ok(types);
+    };
+    for argument in rest {
+        let ty = judge(alloc, scope, argument, first)?;
+        types.push(ty)?;
+    }
+    Ok(types)
+}
+
 /// What a function on bits gives.
 #[cycle(judge)]
 fn judge_on_bits(
@@ -245,18 +266,19 @@ fn judge_on_bits(
 ) -> Result<Outcome, AllocError>
     ensures { IfOk result (λ o. JudgesOnBits scope.now function arguments.now first.old first.new o) }
 {
-    let Some((amount, rest)) = arguments.split_first() else {
+    let Some((amount, _)) = arguments.split_first() else {
         return Ok(Outcome::Breaks(Rule::WrongType));
     };
     let number = number_of(amount);
     if is_number_alone(function, number) {
         let mut unnoted = None;
-        let ty = judge(alloc, scope, amount, &mut unnoted)?;
-        let others = judge_all(alloc, scope, rest, first)?;
-        return Ok(bits_outcome(function, number, ty, others.as_slice()));
+        let alone = judge(alloc, scope, amount, &mut unnoted)?;
+        let behind = judge_behind(alloc, scope, arguments, first)?;
+        let outcome = bits_outcome(function, number, alone, behind.as_slice());
+        return Ok(outcome);
     }
     let ty = judge(alloc, scope, amount, first)?;
-    let others = judge_all(alloc, scope, rest, first)?;
+    let others = judge_behind(alloc, scope, arguments, first)?;
     Ok(bits_outcome(function, number, ty, others.as_slice()))
 }
 

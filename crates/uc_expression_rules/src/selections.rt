@@ -18,6 +18,7 @@ use uc_syntax::{Identifier, Place};
 use uc_values::Ty;
 
 /// Notes a fault that stands before a selection. It is told then.
+#[tactic(auto, unfolding(uc_rules::specs::Faults::first_of))]
 pub(crate) fn note_standing(standing: Standing, first: &mut Option<Fault>) -> Standing
     ensures told { (ms : List Module) → standing_meant ms result ≡ told (standing_meant ms standing) }
     ensures faults { (ms : List Module) → first.new ≡ first_of first.old (standing_faults (standing_meant ms standing)) }

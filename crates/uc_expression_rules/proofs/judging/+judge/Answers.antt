@@ -11,8 +11,8 @@ use Rattle.uc_read_names.specs.Reading.{standing_meant}
 use Rattle.uc_expression_rules.specs.Judging.{Judges, JudgesAll, JudgesBranches, JudgesSelections, on_value, parts_judged}
 use Rattle.uc_expression_rules.specs.Parts.{selection_parts}
 use Rattle.uc_expression_rules.proofs.Forms.{all_parts}
-use Rattle.uc_expression_rules.proofs.Joined.{chain_of_parts, comparison_of_parts, if_of_parts, none_of, product_of_parts, right_of_parts, selected_of_parts, selected_told, unary_of_part}
-use Rattle.uc_expression_rules.proofs.Turns.{all_begin, all_more, branches_begin, branches_more, selects_begin, selects_end, selects_more, selects_on, type_told}
+use Rattle.uc_expression_rules.proofs.Joined.{chain_of_parts, comparison_of_parts, if_of_parts, none_of, on_bits_alone, on_bits_none, on_bits_noted, product_of_parts, right_of_parts, selected_of_parts, selected_told, unary_of_part}
+use Rattle.uc_expression_rules.proofs.Turns.{all_begin, all_more, behind_all, behind_none, branches_begin, branches_more, selects_begin, selects_end, selects_more, selects_on, type_told}
 use Rattle.uc_expression_rules.proofs.judging.+judge.Goals as goal
 use Rattle.uc_expression_rules.proofs.judging.+judge.Goals.{judge_selections-in-Field+in_ok-before-in-Field, judge_selections-in-Copy, judge_selections-in-Element+in_ok-index-in-Element+in_ok-before-in-Element, judge_selections-in-Update+in_ok-index-in-Update+in_ok-value-in-Update+in_ok-before-in-Update, judge_selections-in-Extract}
 
@@ -23,6 +23,34 @@ pub judge_all-loop-expression-preserved : goal.judge_all-loop-expression-preserv
 judge_all-loop-expression-preserved t c =
     all_more c.args.scope.now c.args.expressions.now c.loop-expression.expression-index c.expression-item.result c.expression-item.result c.args.first.now c.loop-expression.first c.judge.new.first c.loop-expression.types c.push.new.self c.in_ok-ty.ty
     c.loop-expression.invariant c.loop-expression-test.true c.expression-item.is c.in_ok-ty.ensures c.in_ok-push.ensures.ok
+
+pub judge_behind-returns-in_default : goal.judge_behind-returns-in_default
+judge_behind-returns-in_default t c = behind_none c.args.scope.now c.args.arguments.now c.args.first.now _ c.in_default.ensures.cases c.new-types.ensures
+
+pub judge_behind-loop-argument-init : goal.judge_behind-loop-argument-init
+judge_behind-loop-argument-init t c = subst (JudgesAll c.args.scope.now [] c.args.first.now c.args.first.now) (sym c.new-types.ensures) (all_begin c.args.scope.now c.args.first.now)
+
+pub judge_behind-loop-argument-preserved : goal.judge_behind-loop-argument-preserved
+judge_behind-loop-argument-preserved t c =
+    all_more c.args.scope.now c.in-Some.rest.now c.loop-argument.argument-index c.argument-item.result c.argument-item.result c.args.first.now c.loop-argument.first c.judge.new.first c.loop-argument.types c.push.new.self c.in_ok-ty.ty
+    c.loop-argument.invariant c.loop-argument-test.true c.argument-item.is c.in_ok-ty.ensures c.in_ok-push.ensures.ok
+
+pub judge_behind-returns : goal.judge_behind-returns
+judge_behind-returns t c =
+    behind_all c.args.scope.now c.args.arguments.now _ c.in-Some.rest.now c.loop-argument.argument-index c.args.first.now c.loop-argument.first c.loop-argument.types c.in-Some.ensures.cases.0 c.loop-argument-test.false c.loop-argument.invariant
+
+pub judge_on_bits-returns-in_default : goal.judge_on_bits-returns-in_default
+judge_on_bits-returns-in_default t c = on_bits_none c.args.scope.now c.args.function c.args.arguments.now c.args.first.now c.in_default.ensures.cases
+
+pub judge_on_bits-returns-then-is_number_alone : goal.judge_on_bits-returns-then-is_number_alone
+judge_on_bits-returns-then-is_number_alone t c =
+    on_bits_alone c.args.scope.now c.args.function c.args.arguments.now c.in-Some.amount.now _ c.number_of-number.result c.in_ok-alone.alone c.in_ok-behind.behind c.as_slice.result.now c.args.first.now _ _
+    c.in-Some.ensures.cases.0 (c.number_of-number.ensures c.args.scope.now) (sym c.is_number_alone.ensures ∙ c.if-is_number_alone.true) c.in_ok-alone.ensures.type c.in_ok-behind.ensures c.as_slice.ensures c.bits_outcome-outcome.ensures
+
+pub judge_on_bits-returns : goal.judge_on_bits-returns
+judge_on_bits-returns t c =
+    on_bits_noted c.args.scope.now c.args.function c.args.arguments.now c.in-Some.amount.now _ c.number_of-number.result c.in_ok-ty.ty c.in_ok-others.others c.as_slice-2.result.now c.args.first.now _ _ _
+    c.in-Some.ensures.cases.0 (c.number_of-number.ensures c.args.scope.now) (sym c.is_number_alone.ensures ∙ c.if-is_number_alone.false) c.in_ok-ty.ensures c.in_ok-others.ensures c.as_slice-2.ensures c.bits_outcome.ensures
 
 pub judge_chain_of-returns : goal.judge_chain_of-returns
 judge_chain_of-returns t c =
@@ -44,7 +72,7 @@ judge_branches-loop-branch-init t c = subst (JudgesBranches c.args.scope.now [] 
 
 pub judge_branches-loop-branch-preserved : goal.judge_branches-loop-branch-preserved
 judge_branches-loop-branch-preserved t c =
-    branches_more c.args.scope.now c.args.branches.now c.loop-branch.branch-index c.branch-item.result c.branch-item.result c.args.first.now c.loop-branch.first c.judge.new.first c.judge-2.new.first c.loop-branch.parts c.push.new.self _
+    branches_more c.args.scope.now c.args.branches.now c.loop-branch.branch-index c.branch-item.result c.branch-item.result c.args.first.now c.loop-branch.first c.judge.new.first c.judge-in-loop-branch.new.first c.loop-branch.parts c.push.new.self _
     c.loop-branch.invariant c.loop-branch-test.true c.branch-item.is
     (λ k. record { place = c.branch-item.result.place; begin = c.place_of-begin.ensures c.args.scope.now k; condition = c.in_ok-condition.ensures.type k; value = c.in_ok-value.ensures.type k })
     c.in_ok-condition.ensures.found c.in_ok-value.ensures.found c.in_ok-push.ensures.ok

@@ -12,3 +12,6 @@ invariant-judge_branches-loop-branch l = JudgesBranches l.scope (take l.branch-i
 
 abbrev pub invariant-judge_selections-loop-selection : goal.invariant-judge_selections-loop-selection
 invariant-judge_selections-loop-selection l = SelectsFrom l.scope l.begin (standing_meant l.scope.system.modules l.fn.start) l.selections l.fn.first l.selection-index (standing_meant l.scope.system.modules l.before) l.first
+
+abbrev pub invariant-judge_behind-loop-argument : goal.invariant-judge_behind-loop-argument
+invariant-judge_behind-loop-argument l = JudgesAll l.scope (take l.argument-index l.rest) l.fn.first l.first l.types
