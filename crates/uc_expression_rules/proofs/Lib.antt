@@ -1,0 +1,7 @@
+mod Forms
+mod Selected
+mod Elsewhere
+mod Joined
+mod Turns
+mod Arms
+mod Products
