@@ -1,0 +1,5 @@
+mod Bounds
+mod Noted
+mod LoopForms
+mod TargetForms
+mod Again
