@@ -1,8 +1,8 @@
 -- Known terms of axioms, goals and states, over simplified terms.
-use Rattle.std.proofs.Common.{◌≡◌, ℕ, ◌+◌, ◌<◌, List, [], ◌∷◌, ◌++◌, length, Some, refl, sym, ap, ◌∙◌, subst, arith, get_or, slice_get, zero, suc, append-nil, append_assoc, add-one}
+use Rattle.std.proofs.Common.{◌≡◌, ℕ, ◌+◌, ◌<◌, List, [], ◌∷◌, ◌++◌, length, Some, refl, sym, ap, ◌∙◌, subst, arith, get_or, slice_get, zero, suc, append-nil, append_assoc, add-one, map, slice_index}
 use Rattle.std.specs.Prelude.{All, Contains}
 use Rattle.std.specs.Option.{option_map}
-use Rattle.std.proofs.lemmas.List.Elements.{All-nil, All-cons, All-contains, All-weaker}
+use Rattle.std.proofs.lemmas.List.Elements.{All-head, All-tail, All-nil, All-cons, All-contains, All-weaker}
 use Rattle.std.proofs.lemmas.Option.{get_or_from_slice_get}
 use Rattle.uc_values.specs.declared.ty.Ty.{Ty}
 use Rattle.uc_ops.specs.declared.op.Op.TheVariants.{Symbol}
@@ -12,6 +12,7 @@ use Rattle.uc_terms.specs.Tables.{HasOp, WellTyped, parts_at}
 use Rattle.uc_terms.specs.Subterms.{IsSubterm, itself, deeper}
 use Rattle.uc_terms.proofs.Grown.{parts-node}
 use Rattle.uc_simplify.specs.Features.{symbol, Brings, BringsNoMore}
+use Rattle.uc_simplify.specs.Walking.{AllAnswered}
 use Rattle.uc_flat.specs.declared.expression.Expression.{Expression}
 use Rattle.uc_flat.specs.declared.statement.Statement.{Statement}
 use Rattle.uc_flat.specs.declared.flat.Flat.{Flat}
@@ -20,6 +21,7 @@ use Rattle.uc_flat.specs.Fine.{ReadsBelow, CodeReadsBelow}
 use Rattle.uc_flat.specs.Flats.{cell_types, IsSound, IsFormula}
 use Rattle.uc_symstep.specs.declared.state.SymState.{SymState}
 use Rattle.uc_symstep.specs.Growing.{Grows}
+use Rattle.uc_symstep.specs.Unrolled.{IsSeen}
 use Rattle.uc_symstep.specs.Known.{IsKnown, known, ReadsTyped, CodeReadsTyped, constants_typed, draw_types, step_types, supply_after, ReadsOwnTypes, KnowsState}
 use Rattle.uc_symstep.proofs.Known.{known_grows, all_known_grow, known_later, code_reads_more}
 use Rattle.uc_symstep.proofs.Grown.{grows_on}
@@ -61,14 +63,24 @@ simpler_known supply old new t u w there no_more h = known_so supply new w u the
     op_at : (k : ℕ) (node : Node) → slice_get new k ≡ Some node → (number : ℕ) (ty : Ty) → HasOp new k (Symbol number ty) → node.op ≡ Symbol number ty
     op_at k node at number ty has = let e : Some node.op ≡ Some (Symbol number ty) = sym (ap (option_map (λ (n : Node). n.op)) at) ∙ has in cc
 
-pub state_known : (supply : List Ty) (old mid new : List Node) (s : SymState) (own cells : List ℕ) (path next : ℕ) → Grows old mid → Grows mid new → own ≡ s.cells
-    → (All (IsKnown supply old) own → All (IsKnown supply mid) cells) → (IsKnown supply mid s.path → IsKnown supply new path)
+known_answers : (supply : List Ty) (old new : List Node) (answers ts : List ℕ) → WellTyped new → AllAnswered old new answers (length old) → All (λ t. t < length old) ts → All (IsKnown supply old) ts → All (IsKnown supply new) (map (slice_index answers) ts)
+known_answers supply old new answers [] w a l h = All-nil (IsKnown supply new)
+known_answers supply old new answers (t ∷ ts) w a l h =
+    let s = a.each t (All-head (λ t. t < length old) t ts l) in
+    All-cons (IsKnown supply new) (slice_index answers t) (map (slice_index answers) ts) (simpler_known supply old new t (slice_index answers t) w s.there s.features (All-head (IsKnown supply old) t ts h))
+    (known_answers supply old new answers ts w a (All-tail (λ t. t < length old) t ts l) (All-tail (IsKnown supply old) t ts h))
+
+-- a state over simplified terms knows what it knew
+pub state_known : (supply : List Ty) (old new : List Node) (types : List Ty) (s : SymState) (answers own cells : List ℕ) (path next : ℕ) → WellTyped new → AllAnswered old new answers (length old) → IsSeen old types s
+    → own ≡ s.cells → cells ≡ map (slice_index answers) own → path ≡ slice_index answers s.path
     → KnowsState supply old s next → KnowsState supply new (record { cells = cells; path = path; sites = s.sites; choices = s.choices }) next
-state_known supply old mid new s own cells path next g h i f p a = record {
-  cells = all_known_grow supply mid new h cells (f (subst (All (IsKnown supply old)) (sym i) a.cells));
-  path = p (known_grows supply old mid g s.path a.path);
-  next = a.next;
-}
+state_known supply old new types s answers own cells path next w a seen i e p h =
+    let b = a.each s.path seen.path.there in
+    record {
+      cells = subst (All (IsKnown supply new)) (sym (e ∙ ap (map (slice_index answers)) i)) (known_answers supply old new answers s.cells w a seen.cells.there h.cells);
+      path = subst (IsKnown supply new) (sym p) (simpler_known supply old new s.path (slice_index answers s.path) w b.there b.features h.path);
+      next = h.next;
+    }
 
 pub one_state_known : (supply : List Ty) (nodes : List Node) (s : SymState) (states : List SymState) (next : ℕ) → states ≡ s ∷ [] → KnowsState supply nodes s next → All (λ (x : SymState). All (IsKnown supply nodes) x.cells) states
 one_state_known supply nodes s states next i a =

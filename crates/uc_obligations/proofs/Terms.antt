@@ -1,10 +1,10 @@
 -- Tables that go on from one another, simplified terms, and the terms of axioms and goals.
-use Rattle.std.proofs.Common.{◌≡◌, ℕ, ◌+◌, ◌<◌, ◌≤◌, List, [], ◌∷◌, ◌++◌, length, map, take, Some, refl, sym, ap, ◌∙◌, subst, arith, get_or, slice_get, append-nil}
+use Rattle.std.proofs.Common.{◌≡◌, ℕ, ◌+◌, ◌<◌, ◌≤◌, List, [], ◌∷◌, ◌++◌, length, map, take, Some, refl, sym, ap, ◌∙◌, subst, arith, get_or, slice_get, slice_index, append-nil}
 use Rattle.std.specs.Prelude.{All, not, ◌&&◌, zero, suc}
 use Rattle.std.specs.List.{list_all, flat_map}
 use Rattle.std.proofs.lemmas.List.{take_more, take_all, map-append}
 use Rattle.std.proofs.lemmas.List.{length-take-le}
-use Rattle.std.proofs.lemmas.List.Elements.{All-push, All-cons, All-nil}
+use Rattle.std.proofs.lemmas.List.Elements.{All-head, All-tail, All-push, All-cons, All-nil}
 use Rattle.std.proofs.lemmas.Option.{get_or_from_slice_get}
 use Rattle.uc_ops.proofs.Lists.{at_place}
 use Rattle.uc_symstep.proofs.Runs.{axiom_more, two_there, refuted_is}
@@ -19,6 +19,7 @@ use Rattle.uc_ops.specs.Typing.{type_at}
 use Rattle.uc_terms.specs.Values.{value}
 use Rattle.uc_terms.specs.Laws.{SameUnderEveryModel}
 use Rattle.uc_simplify.specs.Simplified.{Grows as GoesOn}
+use Rattle.uc_simplify.specs.Walking.{AllAnswered}
 use Rattle.uc_flat.specs.declared.flat.Flat.{Flat}
 use Rattle.uc_flat.specs.declared.flat.Formula.{Formula}
 use Rattle.uc_flat.specs.Flats.{cell_types, IsSound}
@@ -34,42 +35,42 @@ use Rattle.uc_obligations.specs.Unrolling.{IsSimpler}
 pub goes_on : (old new : List Node) → GoesOn old new → Grows old new
 goes_on old new g = record { more = g.more; is = g.is }
 
-pub simpler_is : (old new : List Node) (t u : ℕ) → GoesOn old new → u < length new → SameUnderEveryModel new u old t → type_at new u ≡ type_at old t → IsTerm old new u (type_at old t) (λ m. value m old t)
-simpler_is old new t u g l s e = record { grown = goes_on old new g; there = l; typed = e; means = λ m. s m }
+-- what simplified terms stand for
+pub answer_is : (old new : List Node) (answers : List ℕ) (t : ℕ) → AllAnswered old new answers (length old) → t < length old → IsTerm old new (slice_index answers t) (type_at old t) (λ m. value m old t)
+answer_is old new answers t a l =
+    let s = a.each t l in
+    record { grown = record { more = a.grown.more; is = a.grown.is }; there = s.there; typed = s.ty; means = λ m. s.same m }
 
 abbrev pub Same : List Node → List Node → List ℕ → List ℕ → Type 0
 Same old now ts us = AreTerms old now us (map (type_at old) ts) (λ m. map (value m old) ts)
 
-pub same_none : (old : List Node) (ts us : List ℕ) → us ≡ [] → Same old old (take 0 ts) us
-same_none old ts us i = subst (Same old old (take 0 ts)) (sym i) (record { grown = grows_not old old refl; there = λ k d l. absurd (omega (arith, l)); typed = refl; means = λ m. refl })
-
-pub item_there : (old now : List Node) (ts us : List ℕ) (k t : ℕ) → Same old now (take k ts) us → All (λ x. x < length old) ts → k < length ts → t ≡ get_or ts k t → t < length now
-item_there old now ts us k t a h l i =
-    let inside : t < length old = subst (λ x. x < length old) (sym i) (h k t l) in
-    omega (arith, inside, grows_length old now a.grown)
-
-pub same_more : (old now new : List Node) (ts us ws : List ℕ) (k t u : ℕ) → Same old now (take k ts) us → IsTerm now new u (type_at now t) (λ m. value m now t) → All (λ x. x < length old) ts → k < length ts → t ≡ get_or ts k t
-    → ws ≡ us ++ u ∷ [] → Same old new (take (k + 1) ts) ws
-same_more old now new ts us ws k t u a b h l i j =
-    let inside : t < length old = subst (λ x. x < length old) (sym i) (h k t l) in
-    let front : take (k + 1) ts ≡ take k ts ++ t ∷ [] = take_more ts k t l ∙ ap (λ y. take k ts ++ y ∷ []) (sym i) in
+pub all_answers : (old new : List Node) (answers ts : List ℕ) → AllAnswered old new answers (length old) → All (λ t. t < length old) ts → Same old new ts (map (slice_index answers) ts)
+all_answers old new answers [] a h = record { grown = record { more = a.grown.more; is = a.grown.is }; there = All-nil (λ t. t < length new); typed = refl; means = λ m. refl }
+all_answers old new answers (t ∷ ts) a h =
+    let one = answer_is old new answers t a (All-head (λ t. t < length old) t ts h) in
+    let rest = all_answers old new answers ts a (All-tail (λ t. t < length old) t ts h) in
     record {
-      grown = grows_on old now new a.grown b.grown;
-      there = subst (All (λ x. x < length new)) (sym j) (All-push (λ x. x < length new) us u (all_grow now new b.grown us a.there) b.there);
-      typed =
-          ap (map (type_at new)) j ∙ map-append (type_at new) us (u ∷ [])
-          ∙ ap (λ tys. tys ++ type_at new u ∷ []) (grows_types now new b.grown us a.there ∙ a.typed)
-          ∙ ap (λ ty. map (type_at old) (take k ts) ++ ty ∷ []) (b.typed ∙ grows_type old now a.grown t inside)
-          ∙ sym (ap (map (type_at old)) front ∙ map-append (type_at old) (take k ts) (t ∷ []));
-      means = λ m.
-          ap (map (value m new)) j ∙ map-append (value m new) us (u ∷ [])
-          ∙ ap (λ vs. vs ++ value m new u ∷ []) (grows_values now new b.grown m us a.there ∙ a.means m)
-          ∙ ap (λ v. map (value m old) (take k ts) ++ v ∷ []) (b.means m ∙ grows_value old now a.grown m t inside)
-          ∙ sym (ap (map (value m old)) front ∙ map-append (value m old) (take k ts) (t ∷ []));
+      grown = one.grown;
+      there = All-cons (λ t. t < length new) (slice_index answers t) (map (slice_index answers) ts) one.there rest.there;
+      typed = λ i. one.typed i ∷ rest.typed i;
+      means = λ m i. one.means m i ∷ rest.means m i;
     }
 
-pub same_end : (old now : List Node) (ts us : List ℕ) (k : ℕ) → Same old now (take k ts) us → length ts ≤ k → Same old now ts us
-same_end old now ts us k a l = subst (λ xs. Same old now xs us) (take_all k ts l) a
+pub same_cells : (old new : List Node) (answers ts own us : List ℕ) → AllAnswered old new answers (length old) → All (λ t. t < length old) ts → own ≡ ts → us ≡ map (slice_index answers) own → Same old new own us
+same_cells old new answers ts own us a h i e =
+    let within : All (λ t. t < length old) own = subst (All (λ t. t < length old)) (sym i) h in
+    subst (Same old new own) (sym e) (all_answers old new answers own a within)
+
+-- the answer of the path condition, in the new table
+pub path_answer : (old new : List Node) (answers : List ℕ) (t r : ℕ) → AllAnswered old new answers (length old) → t < length old → r ≡ slice_index answers t → IsTerm new new r (type_at new t) (λ m. value m new t)
+path_answer old new answers t r a l e =
+    let b = answer_is old new answers t a l in
+    record {
+      grown = grows_not new new refl;
+      there = subst (λ k. k < length new) (sym e) b.there;
+      typed = ap (type_at new) e ∙ b.typed ∙ sym (grows_type old new b.grown t l);
+      means = λ m. ap (value m new) e ∙ b.means m ∙ sym (grows_value old new b.grown m t l);
+    }
 
 pub cells_there : (old : List Node) (types : List Ty) (s : SymState) (own : List ℕ) → IsSeen old types s → own ≡ s.cells → All (λ t. t < length old) own
 cells_there old types s own h i = subst (All (λ t. t < length old)) (sym i) h.cells.there
@@ -171,3 +172,7 @@ pub refuted_as : (old a b c new : List Node) (f : Flat) (k axioms truth fails br
     → (x : Formula) → slice_get f.formulas k ≡ Some x → IsTerm old new all Bool (λ m. Boolean (holds m old axioms && (holds m old s.path && not (holds_in f x m (map (value m old) s.cells)))))
 refuted_as old a b c new f k axioms truth fails broken all s states h g i p q r t x at =
     refuted_is old a b c new f x axioms truth fails broken all s s.cells h g refl (formula_one old a f x s states truth i (p x at)) q r t
+
+-- each answer is at its number
+pub answers_within : (old new : List Node) (answers ts own : List ℕ) → AllAnswered old new answers (length old) → All (λ t. t < length old) ts → own ≡ ts → All (λ t. t < length answers) own
+answers_within old new answers ts own a h i = subst (All (λ t. t < length answers)) (sym i) (λ k d l. omega (arith, h k d l, a.size))

@@ -1,20 +1,18 @@
 //! The states after 0, 1 and so on steps, over simplified terms.
 
-ghost use Rattle.std.specs.Prelude.{◌≡◌, ℕ, ◌+◌, ◌<◌, List, map, length, IfOk, All};
+ghost use Rattle.std.specs.Prelude.{◌≡◌, ℕ, ◌+◌, ◌<◌, List, map, length, slice_index, IfOk, All};
 ghost use Rattle.uc_values.specs.declared.ty.Ty.{Ty as AType};
-ghost use Rattle.uc_ops.specs.Typing.{type_at};
-ghost use Rattle.uc_terms.specs.Values.{value};
 ghost use Rattle.uc_flat.specs.Flats.{cell_types, IsSound};
-ghost use Rattle.uc_symstep.specs.Growing.{Grows, IsTerm, AreTerms};
+ghost use Rattle.uc_symstep.specs.Growing.{Grows};
 ghost use Rattle.uc_symstep.specs.Unrolled.{IsSeen};
-ghost use Rattle.uc_symstep.specs.Known.{IsKnown, KnowsState};
+ghost use Rattle.uc_symstep.specs.Known.{KnowsState};
 ghost use Rattle.uc_obligations.specs.Unrolling.{IsUnrolled, IsSimpler};
 
 use crate::axioms::axioms_term;
 use std::alloc::{AllocError, Global};
 use uc_flat::Flat;
 use uc_items::Items;
-use uc_simplify::simplify;
+use uc_simplify::simplify_from;
 use uc_symstep::{Fresh, SymState, sym_init, sym_step};
 use uc_terms::{TermId, Terms};
 
@@ -37,8 +35,9 @@ pub fn begin(terms: &mut Terms, alloc: Global, f: &Flat) -> Result<Unrolling, Al
     }
     let axioms = axioms_term(terms, alloc, f)?;
     let mut fresh = Fresh { next: first as u32 };
+    let before = terms.len();
     let state = sym_init(terms, alloc, f, &mut fresh)?;
-    let state = simpler(terms, alloc, f, state)?;
+    let state = simpler(terms, alloc, f, before, state)?;
     let mut states = Items::new(alloc);
     states.push(state)?;
     Ok(Unrolling {
@@ -65,9 +64,10 @@ pub fn advance(
         mut states,
         mut fresh,
     } = run;
+    let before = terms.len();
     let so_far = states.as_slice();
     let state = sym_step(terms, alloc, f, &so_far[steps as usize], &mut fresh)?;
-    let state = simpler(terms, alloc, f, state)?;
+    let state = simpler(terms, alloc, f, before, state)?;
     states.push(state)?;
     Ok(Unrolling {
         axioms,
@@ -76,11 +76,12 @@ pub fn advance(
     })
 }
 
-/// The same state, with its cells and its path condition simplified.
+/// The same state, with its cells and its path condition simplified. Terms numbered below `first` stay as they are.
 fn simpler(
     terms: &mut Terms,
     alloc: Global,
     f: &Flat,
+    first: u32,
     state: SymState,
 ) -> Result<SymState, AllocError>
     requires { IsSeen terms.old (cell_types f.now) state }
@@ -88,14 +89,17 @@ fn simpler(
     ensures known { IfOk result (λ t. (supply : List AType) (next : ℕ) → KnowsState supply terms.old state next → KnowsState supply terms.new t next) }
     ensures grown { Grows terms.old terms.new }
 {
+    let answers = simplify_from(alloc, terms, first)?;
+    let _well = terms.len();
     let SymState {
         cells,
         path,
         sites,
         choices,
     } = state;
-    let cells = simpler_terms(terms, alloc, cells.as_slice())?;
-    let path = simpler_term(terms, alloc, path)?;
+    let all = answers.as_slice();
+    let path = answer_at(all, path);
+    let cells = chosen(alloc, all, cells.as_slice())?;
     Ok(SymState {
         cells,
         path,
@@ -104,35 +108,23 @@ fn simpler(
     })
 }
 
-/// The same terms, simplified.
-#[tactic(auto, using(uc_symstep::proofs::Grown::grows_on))]
-fn simpler_terms(
-    terms: &mut Terms,
-    alloc: Global,
-    ts: &[TermId],
-) -> Result<Items<TermId>, AllocError>
-    requires { All (λ t. t < length terms.old) ts.now }
-    ensures ok { IfOk result (λ us. AreTerms terms.old terms.new us (map (type_at terms.old) ts.now) (λ m. map (value m terms.old) ts.now)) }
-    ensures known { IfOk result (λ us. (supply : List AType) → All (IsKnown supply terms.old) ts.now → All (IsKnown supply terms.new) us) }
-    ensures grown { Grows terms.old terms.new }
+/// The answer at the number of a term.
+fn answer_at(answers: &[TermId], t: TermId) -> TermId
+    requires { t < length answers.now }
+    ensures { result ≡ slice_index answers.now t }
+{
+    answers[t.index()]
+}
+
+/// The answers at the numbers of these terms.
+fn chosen(alloc: Global, answers: &[TermId], ts: &[TermId]) -> Result<Items<TermId>, AllocError>
+    requires { All (λ t. t < length answers.now) ts.now }
+    ensures { IfOk result (λ us. us ≡ map (slice_index answers.now) ts.now) }
 {
     let mut all = Items::new(alloc);
     for t in ts {
-        let u = simpler_term(terms, alloc, *t)?;
-        all.push(u)?;
+        let answer = answer_at(answers, *t);
+        all.push(answer)?;
     }
     Ok(all)
-}
-
-/// The same term, simplified.
-#[tactic(auto, using(crate::proofs::Terms::goes_on))]
-fn simpler_term(terms: &mut Terms, alloc: Global, t: TermId) -> Result<TermId, AllocError>
-    requires { t < length terms.old }
-    ensures ok { IfOk result (λ u. IsTerm terms.old terms.new u (type_at terms.old t) (λ m. value m terms.old t)) }
-    ensures known { IfOk result (λ u. (supply : List AType) → IsKnown supply terms.old t → IsKnown supply terms.new u) }
-    ensures grown { Grows terms.old terms.new }
-{
-    let u = simplify(alloc, terms, t)?;
-    let _well = terms.len();
-    Ok(u)
 }

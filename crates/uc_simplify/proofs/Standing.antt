@@ -20,7 +20,7 @@ use Rattle.uc_terms.proofs.Values.{value-keeps, value-node}
 use Rattle.uc_terms.proofs.Walk.{marked_within}
 use Rattle.uc_simplify_steps.specs.Features.{Feature, Shows, Brings, OneBrings}
 use Rattle.uc_simplify.specs.Simplified.{Grows, StandsFor, Rebuilds}
-use Rattle.uc_simplify.specs.Walking.{PartsAnswered, Answered}
+use Rattle.uc_simplify.specs.Walking.{PartsAnswered, Answered, AllAnswered}
 use Rattle.uc_simplify_steps.proofs.Features.{part_before, parts-keep, brings-keeps, brings-grows, brings-below}
 
 pub Grows-none : (nodes : List Node) → Grows nodes nodes
@@ -215,3 +215,43 @@ pub rebuilt_stands_here : {E : Type 0} (nodes new : List Node) (t : ℕ) (node :
 rebuilt_stands_here nodes new t node rs op ps (Err e) w h a f g b = tt
 rebuilt_stands_here nodes new t node rs op ps (Ok r) w h a f g b =
     rebuilt_stands nodes new t r node rs w h a (subst (λ xs. Rebuilds new r nodes node.op xs) g (subst (λ o. Rebuilds new r nodes o ps) f b))
+
+-- Where every term has an answer.
+
+pub AllAnswered-start : (nodes : List Node) (answers : List ℕ) → answers ≡ [] → AllAnswered nodes nodes answers 0
+AllAnswered-start nodes answers e = record { grown = Grows-none nodes; size = ap length e; each = λ k l. absurd (omega (arith, l)) }
+
+-- one answer more
+pub AllAnswered-push : (old now new : List Node) (answers after : List ℕ) (place a : ℕ) → WellTyped old → WellTyped now → place < length old → Grows now new → StandsFor new a now place → after ≡ answers ++ a ∷ []
+    → AllAnswered old now answers place → AllAnswered old new after (place + 1)
+AllAnswered-push old now new answers after place a w v l g s e b = record {
+  grown = Grows-trans old now new b.grown g;
+  size = omega (arith, ap length e, length-append answers (a ∷ []), b.size);
+  each = λ k h. elim (leb_tells (suc k) place) [
+    | inl x ↦
+        let same : slice_index after k ≡ slice_index answers k = ap (λ xs. slice_index xs k) e ∙ get_or-append answers (a ∷ []) 0 k (omega (arith, x.1, b.size)) in
+        subst (λ r. StandsFor new r old k) (sym same) (StandsFor-grows old now new (slice_index answers k) k v g (b.each k x.1))
+    | inr x ↦
+        let here : k ≡ place = omega (arith, h, x.1) in
+        let same : slice_index after k ≡ a = ap (λ xs. slice_index xs k) e ∙ ap (slice_index (answers ++ a ∷ [])) (here ∙ sym b.size) ∙ get_or-append_seam answers a [] 0 in
+        subst (λ r. StandsFor new r old k) (sym same)
+        (StandsFor-earlier old now new a k w b.grown (omega (arith, here, l)) (subst (StandsFor new a now) (sym here) s))
+  ];
+}
+
+-- the parts of a term have answers
+pub all_parts_known : (old now : List Node) (answers : List ℕ) (place : ℕ) → WellTyped old → place < length old → AllAnswered old now answers place → PartsAnswered now answers place
+all_parts_known old now answers place w within b =
+    let same : parts_at now place ≡ parts_at old place = ap (λ ns. parts_at ns place) b.grown.is ∙ parts-keep old b.grown.more place within in
+    subst (All (Fine now answers)) (sym same)
+    (λ k d l.
+    let p = get_or (parts_at old place) k d in
+    let c : Contains (parts_at old place) p = (k, l, get_or_default (parts_at old place) k p d l) in
+    let before = part_before old place p w within c in
+    (omega (arith, before, b.size), StandsFor-later old now now (slice_index answers p) p w b.grown (omega (arith, before, within)) (b.each p before)))
+
+pub stands_for_itself : (nodes : List Node) (t r : ℕ) → t < length nodes → r ≡ t → StandsFor nodes r nodes t
+stands_for_itself nodes t r h e = subst (λ k. StandsFor nodes k nodes t) (sym e) (StandsFor-itself nodes t h)
+
+pub grown_by_none : (nodes : List Node) → Grows nodes nodes
+grown_by_none nodes = Grows-none nodes

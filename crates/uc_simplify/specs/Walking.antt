@@ -15,3 +15,9 @@ pub record Answered (old new : List Node) (marks : List Bool) (answers : List �
   pub grown : Grows old new
   pub size : length answers ≡ place
   pub each : (k : ℕ) → k < place → Marked marks k → StandsFor new (slice_index answers k) old k
+
+-- what is at the number of each term before a place stands for it
+pub record AllAnswered (old new : List Node) (answers : List ℕ) (place : ℕ) : Type 0 where
+  pub grown : Grows old new
+  pub size : length answers ≡ place
+  pub each : (k : ℕ) → k < place → StandsFor new (slice_index answers k) old k

@@ -51,4 +51,4 @@ mod rebuild;
 mod records;
 mod simplifier;
 
-pub use simplifier::simplify;
+pub use simplifier::{simplify, simplify_from};

@@ -7,7 +7,7 @@ ghost use Rattle.uc_terms.specs.Subterms.{EvenlyTyped};
 ghost use Rattle.uc_terms.specs.Laws.{KeepsValues, SameUnderEveryModel};
 ghost use Rattle.uc_simplify_steps.specs.Features.{BringsNoMore};
 ghost use Rattle.uc_simplify.specs.Simplified.{Grows, StandsFor};
-ghost use Rattle.uc_simplify.specs.Walking.{PartsAnswered};
+ghost use Rattle.uc_simplify.specs.Walking.{PartsAnswered, AllAnswered};
 
 use crate::rebuild::rebuild;
 use std::alloc::{AllocError, Global};
@@ -46,6 +46,57 @@ fn standing(alloc: Global, terms: &mut Terms, t: TermId) -> Result<TermId, Alloc
         }
     }
     Ok(answers[t.index()])
+}
+
+/// For each term of the table, by its number, one that is equal under every model. Those numbered below `first` stand for themselves, so where
+/// they were simplified before, this takes the time of the others.
+pub fn simplify_from(
+    alloc: Global,
+    terms: &mut Terms,
+    first: u32,
+) -> Result<Vec<TermId>, AllocError>
+    ensures answers { IfOk result (λ all. AllAnswered terms.old terms.new all.items (length terms.old)) }
+    ensures grown { Grows terms.old terms.new }
+    ensures kept { KeepsValues terms.old terms.new }
+{
+    let all = all_standing(alloc, terms, first)?;
+    Ok(all)
+}
+
+/// The same, from the walk.
+fn all_standing(alloc: Global, terms: &mut Terms, first: u32) -> Result<Vec<TermId>, AllocError>
+    ensures answers { IfOk result (λ all. AllAnswered terms.old terms.new all.items (length terms.old)) }
+    ensures grown { Grows terms.old terms.new }
+{
+    let count = terms.len();
+    let mut answers: Vec<TermId> = Vec::with_capacity(alloc, count as usize)?;
+    for place in 0..count {
+        let answer = answer_from(alloc, terms, first, place, &answers)?;
+        answers.push(answer)?;
+    }
+    Ok(answers)
+}
+
+/// What stands for the term of a number: the term itself below `first`.
+#[tactic(auto, using(crate::proofs::Standing::stands_for_itself, crate::proofs::Standing::grown_by_none))]
+fn answer_from(
+    alloc: Global,
+    terms: &mut Terms,
+    first: u32,
+    place: u32,
+    answers: &[TermId],
+) -> Result<TermId, AllocError>
+    requires there { place < length terms.old }
+    requires answered { PartsAnswered terms.old answers.now place }
+    ensures stands { IfOk result (λ r. StandsFor terms.new r terms.old place) }
+    ensures grown { Grows terms.old terms.new }
+    ensures well { WellTyped terms.new }
+{
+    if place < first {
+        let _count = terms.len();
+        return Ok(TermId::new(place));
+    }
+    simplified(alloc, terms, place as usize, answers)
 }
 
 /// What stands for the term at a place, from what stands for its parts.
