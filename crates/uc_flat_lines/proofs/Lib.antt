@@ -1,9 +1,5 @@
-pub mod Terms
-pub mod Unrollings
 pub mod Alike
-pub mod Read
 pub mod Outcomes
 pub mod Judged
 pub mod Below
 pub mod Supplied
-pub mod Knowing

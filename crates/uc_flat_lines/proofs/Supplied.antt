@@ -24,38 +24,8 @@ use Rattle.uc_solver.specs.declared.answer.SolveError.{SolveError}
 use Rattle.uc_solver.specs.declared.answer.SolveError.TheVariants.{Budget}
 use Rattle.uc_solver.specs.Stands.{HasBitsUpTo}
 use Rattle.uc_symstep.specs.Known.{IsKnown, known}
+use Rattle.uc_obligations.proofs.KnownTerms.{op_is, symbol_below}
 use Rattle.uc_flat_lines.proofs.Below.{Is, same_or_not, is_below}
-
--- Subterms of known terms.
-
-same_node : (nodes : List Node) (t : ℕ) (m n : Node) → slice_get nodes t ≡ Some m → slice_get nodes t ≡ Some n → m ≡ n
-same_node nodes t m n h g = let e : Some m ≡ Some n = sym h ∙ g in cc
-
-known_part : (supply : List Ty) (nodes : List Node) (t p : ℕ) → IsKnown supply nodes t → Contains (parts_at nodes t) p → IsKnown supply nodes p
-known_part supply nodes t p (known u node there symbol parts) c = parts p (subst (λ ps. Contains ps p) (parts-node nodes t node there) c)
-
-pub known_below : (supply : List Ty) (nodes : List Node) (t : ℕ) → IsKnown supply nodes t → (k : ℕ) → IsSubterm nodes t k → IsKnown supply nodes k
-known_below supply nodes t h k itself = h
-known_below supply nodes t h k (deeper j p s c) = known_part supply nodes j k (known_below supply nodes t h j s) c
-
-op_is : (nodes : List Node) (t : ℕ) (node : Node) (op : Op) → slice_get nodes t ≡ Some node → HasOp nodes t op → node.op ≡ op
-op_is nodes t node op there has = let e : Some node.op ≡ Some op = sym (ap (option_map (λ n. n.op)) there) ∙ has in cc
-
-known_symbol : (supply : List Ty) (nodes : List Node) (t number : ℕ) (ty : Ty) → IsKnown supply nodes t → HasOp nodes t (Symbol number ty) → slice_get supply number ≡ Some ty
-known_symbol supply nodes t number ty (known u node there symbol parts) has = symbol number ty (op_is nodes t node (Symbol number ty) there has)
-
--- each symbol at or below a known term has its type in the supply, at its number
-pub symbol_below : (supply : List Ty) (nodes : List Node) (t k number : ℕ) (ty : Ty) → IsKnown supply nodes t → IsSubterm nodes t k → HasOp nodes k (Symbol number ty) → slice_get supply number ≡ Some ty
-symbol_below supply nodes t k number ty h s has = known_symbol supply nodes k number ty (known_below supply nodes t h k s) has
-
--- a known term without functions gives each number one type
-pub known_even : (supply : List Ty) (nodes : List Node) (t : ℕ) → IsKnown supply nodes t → ((k number : ℕ) (ty : Ty) → IsSubterm nodes t k → ¬ HasOp nodes k (App number ty)) → EvenlyTyped nodes t
-known_even supply nodes t h none = record {
-  symbols = λ j k number r s sj sk hj hk.
-      let e : Some r ≡ Some s = sym (symbol_below supply nodes t j number r h sj hj) ∙ symbol_below supply nodes t k number s h sk hk in
-      cc;
-  functions = λ j k number r s sj sk hj hk. absurd (none j number r sj hj);
-}
 
 -- Symbols are one term where their numbers and types are the same.
 

@@ -1,4 +1,2 @@
 pub mod Lines
-pub mod Unrolling
-pub mod Reading
 pub mod Deciding

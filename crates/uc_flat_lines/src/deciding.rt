@@ -5,21 +5,17 @@ ghost use Rattle.uc_flat.specs.declared.flat.Formula.{Formula as AFormula};
 ghost use Rattle.uc_flat.specs.Flats.{IsSound};
 ghost use Rattle.uc_symstep.specs.Growing.{Grows};
 ghost use Rattle.uc_flat_lines.specs.Lines.{IsFlatVerdict, IsHonestVerdict};
-ghost use Rattle.uc_flat_lines.specs.Unrolling.{IsUnrolled};
-ghost use Rattle.uc_flat_lines.specs.Reading.{IsTraceOf};
+ghost use Rattle.uc_obligations.specs.Unrolling.{IsUnrolled};
 ghost use Rattle.uc_flat_lines.specs.Deciding.{IsOutcome, IsSpentFor, IsSpentOn, IsHonestAfter};
 
-use crate::axioms::refuted_term;
 use crate::line::{FlatVerdict, FlatWhy};
-use crate::reading::trace_of;
 use crate::solving::solution;
-use crate::unrolling::Unrolling;
-use std::alloc::{AllocError, Global};
+use std::alloc::Global;
 use uc_flat::Flat;
 use uc_flat_traces::FlatTrace;
 use uc_log::Meter;
-use uc_symstep::SymState;
-use uc_terms::{Model, TermId, Terms};
+use uc_obligations::{Unrolling, build, goal};
+use uc_terms::Terms;
 
 /// The verdict on formula `k`, which speaks of one copy, after so many steps.
 pub(crate) fn verdict_on<M: Meter>(
@@ -75,31 +71,12 @@ fn refutation<M: Meter>(
     ensures few { M.total meter.new ≤ M.total meter.old + 2 ^ 32 }
     ensures grown { Grows terms.old terms.new }
 {
-    let states = run.states.as_slice();
-    let goal = refuted_term(terms, alloc, f, k, run.axioms, &states[steps as usize])?;
+    let goal = goal(terms, alloc, f, run, steps, k)?;
     match solution(alloc, terms, goal, budget, meter)? {
         None => Ok(None),
         Some(model) => {
-            let trace = found_trace(alloc, terms, f, goal, states, model)?;
+            let trace = build(alloc, terms, f, run, steps, goal, model)?;
             Ok(Some(trace))
         }
-    }
-}
-
-/// The trace of a model that was found. Each error of reading it counts as want of memory.
-fn found_trace(
-    alloc: Global,
-    terms: &Terms,
-    f: &Flat,
-    goal: TermId,
-    states: &[SymState],
-    model: Model,
-) -> Result<FlatTrace, AllocError>
-    requires { goal < length terms.now }
-    ensures { IfOk result (λ t. IsTraceOf f.now terms.now goal states.now t) }
-{
-    match trace_of(alloc, terms, f, goal, states, model) {
-        Ok(trace) => Ok(trace),
-        Err(_) => Err(AllocError),
     }
 }

@@ -5,15 +5,15 @@ ghost use Rattle.uc_flat.specs.Drawn.{listed_if};
 ghost use Rattle.uc_flat.specs.Flats.{IsSound};
 ghost use Rattle.uc_symstep.specs.Growing.{Grows};
 ghost use Rattle.uc_flat_lines.specs.Lines.{speaks_of_one, lines_below, step_lines, AreFlatJudged};
-ghost use Rattle.uc_flat_lines.specs.Unrolling.{IsUnrolled};
+ghost use Rattle.uc_obligations.specs.Unrolling.{IsUnrolled};
 
 use crate::deciding::verdict_on;
 use crate::line::FlatLine;
-use crate::unrolling::{Unrolling, advance, begin};
 use std::alloc::{AllocError, Global};
 use uc_flat::Flat;
 use uc_items::Items;
 use uc_log::Meter;
+use uc_obligations::{Unrolling, advance, begin};
 use uc_terms::Terms;
 
 /// A line for each formula of one copy after 0, 1 and so on up to `depth` steps. Where the design reads each constant at its own type, a

@@ -4,15 +4,11 @@
 //! is true under some model. A model that is found is read as a trace that refutes the formula.
 #![tactic(auto)]
 
-mod axioms;
-mod build;
 mod deciding;
 mod judging;
 mod law;
 mod line;
-mod reading;
 mod solving;
-mod unrolling;
 
 pub use judging::judge_flat;
 pub use law::{is_even_where_known, reads_own_types};

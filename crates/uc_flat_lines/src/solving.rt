@@ -45,7 +45,7 @@ pub(crate) fn solution<M: Meter>(
 }
 
 /// What the solver answers to a goal of finitely many values.
-#[tactic(auto, using(crate::proofs::Terms::goes_on))]
+#[tactic(auto, using(uc_obligations::proofs::Terms::goes_on))]
 fn asked<M: Meter>(
     alloc: Global,
     terms: &mut Terms,

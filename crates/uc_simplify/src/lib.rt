@@ -36,7 +36,7 @@
 //! | extensions | by no bits; of an extension of the same kind | `a`; one extension |
 //! | sums | `a + 0`, `a + -1 * a`, of one integer `a`, of two constants | `a`, `0`, `a`, the constant where it has 128 bits |
 //! | multiples | `1 * a`; `0 * a`; `m * (n * a)` | `a`; `0`; `mn * a` where `mn` has 128 bits |
-//! | linear forms | sums, and multiples of sums, of parts that may be sums of at most 8 parts or multiples of such | one multiple of each term, in the order of the numbers, and then the constant, where it is not 0 |
+//! | linear forms | sums, and multiples of sums, of parts that may be sums of at most 32 parts or multiples of such | one multiple of each term, in the order of the numbers, and then the constant, where it is not 0 |
 //! | differences | `a <= b`, `a == b` of integers | the same of two sums: of `a - b` the positive multiples, and the negative ones turned; the constant is on the right, or on the left where no multiple is |
 //! | | `a == b` where the earliest term of `a - b` has a negative coefficient | as for `b == a` |
 //! | | a linear form or a difference with a number that leaves 128 bits | left undone |

@@ -9,7 +9,7 @@ use uc_terms::{Op, TermId, Terms};
 use uc_values::Value;
 
 /// A sum gives its own parts where it has at most so many, so that a chain of sums takes no more than this many times its length.
-const FEW: usize = 8;
+const FEW: usize = 32;
 
 /// The value of a constant.
 fn constant(terms: &Terms, t: TermId) -> Option<&Value>

@@ -1,5 +1,5 @@
 use Rattle.std.proofs.Common.{arith}
-use Rattle.uc_flat_lines.proofs.Unrollings.{unrolled_grows}
+use Rattle.uc_obligations.proofs.Unrollings.{unrolled_grows}
 use Rattle.uc_flat_lines.proofs.Judged.{lines_begin, lines_more, lines_last}
 use Rattle.uc_flat_lines.proofs.judging.judge_flat.Goals as goal
 

@@ -1,4 +1,4 @@
-use Rattle.uc_flat_lines.specs.Unrolling.{IsUnrolled}
+use Rattle.uc_obligations.specs.Unrolling.{IsUnrolled}
 use Rattle.uc_flat_lines.specs.Lines.{lines_below, AreFlatJudged}
 use Rattle.uc_flat_lines.proofs.judging.judge_flat.Given as goal
 

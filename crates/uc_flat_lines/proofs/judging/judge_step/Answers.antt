@@ -1,6 +1,6 @@
 use Rattle.std.proofs.Common.{◌∙◌, ap, sym, subst, arith, refl}
 use Rattle.uc_symstep.proofs.Grown.{grows_not, grows_on}
-use Rattle.uc_flat_lines.proofs.Unrollings.{unrolled_grows}
+use Rattle.uc_obligations.proofs.Unrollings.{unrolled_grows}
 use Rattle.uc_flat_lines.proofs.Judged.{step_begin, step_more, step_end}
 use Rattle.uc_flat_lines.proofs.judging.judge_step.Goals as goal
 

@@ -1,0 +1,4 @@
+pub mod Along
+pub mod Following
+pub mod Aliases
+pub mod Instances

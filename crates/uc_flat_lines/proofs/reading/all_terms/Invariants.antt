@@ -1,5 +1,0 @@
-use Rattle.uc_flat_lines.specs.Reading.{AreNumbers}
-use Rattle.uc_flat_lines.proofs.reading.all_terms.Given as goal
-
-abbrev pub invariant-loop-number : goal.invariant-loop-number
-invariant-loop-number l = AreNumbers l.number l.all

@@ -1,6 +1,0 @@
-use Rattle.std.proofs.Common.{◌≡◌, take, map}
-use Rattle.uc_flat_lines.specs.Reading.{position_read}
-use Rattle.uc_flat_lines.proofs.reading.trace_of.Given as goal
-
-abbrev pub invariant-loop-state : goal.invariant-loop-state
-invariant-loop-state l = l.positions ≡ map (position_read l.all_values) (take l.state-index l.states)

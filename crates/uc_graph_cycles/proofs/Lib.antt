@@ -1,0 +1,5 @@
+mod Tests
+pub mod Ways
+mod Flags
+mod Reversing
+mod Steps

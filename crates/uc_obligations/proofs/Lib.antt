@@ -1,0 +1,6 @@
+pub mod KnownTerms
+pub mod Terms
+pub mod Unrollings
+pub mod Read
+pub mod Knowing
+pub mod Goaled

@@ -1,0 +1,37 @@
+use Rattle.uc_symstep.proofs.Grown.{grows_on}
+use Rattle.uc_symstep.proofs.Runs.{both_there}
+use Rattle.uc_obligations.proofs.Terms.{seen_one, copies_one, formula_ready, refuted_as}
+use Rattle.uc_ops.proofs.Lists.{at_place}
+use Rattle.uc_symstep.proofs.Known.{known_grows}
+use Rattle.uc_obligations.proofs.Knowing.{axiom_read, one_state_known}
+use Rattle.uc_obligations.proofs.axioms.refuted_term.Goals as goal
+
+pub sym_formula-requires-clause-states : goal.sym_formula-requires-clause-states
+sym_formula-requires-clause-states c = seen_one _ _ _ _ c.from_ref.ensures.value c.requires.state
+
+pub sym_formula-requires-clause-copies : goal.sym_formula-requires-clause-copies
+sym_formula-requires-clause-copies c = copies_one c.args.f.now c.args.k _ _ c.requires.single c.from_ref.ensures.value
+
+pub negated-requires-clause-there : goal.negated-requires-clause-there
+negated-requires-clause-there c = (formula_ready c.args.f.now c.args.k _ _ _ _ c.requires.there c.in_ok-condition.ensures.ok).there
+
+pub negated-requires-clause-boolean : goal.negated-requires-clause-boolean
+negated-requires-clause-boolean c = (formula_ready c.args.f.now c.args.k _ _ _ _ c.requires.there c.in_ok-condition.ensures.ok).typed
+
+pub both-requires-clause-boolean : goal.both-requires-clause-boolean
+both-requires-clause-boolean c = (both_there _ _ _ _ _ _ c.requires.state.path c.in_ok-condition.ensures.grown c.in_ok-fails.ensures.ok).1
+
+pub both-requires-2-clause-boolean : goal.both-requires-2-clause-boolean
+both-requires-2-clause-boolean c = (both_there _ _ _ _ _ _ c.requires.axioms (grows_on _ _ _ c.in_ok-condition.ensures.grown c.in_ok-fails.ensures.grown) c.in_ok-broken.ensures.ok).1
+
+pub returns-clause-ok : goal.returns-clause-ok
+returns-clause-ok c =
+    refuted_as _ _ _ _ _ c.args.f.now c.args.k _ _ _ _ _ _ _ c.requires.axioms c.requires.state c.from_ref.ensures.value c.in_ok-condition.ensures.ok c.in_ok-fails.ensures.ok c.in_ok-broken.ensures.ok c.in_ok-all.ensures.ok
+
+pub returns-clause-known : goal.returns-clause-known
+returns-clause-known c = λ supply next reads axioms last.
+    let x = at_place c.args.f.now.formulas c.args.k c.requires.there in
+    let truth = c.in_ok-condition.ensures.known supply x.0 x.1 (axiom_read supply _ _ x.0 x.1 reads) (one_state_known supply _ _ _ next c.from_ref.ensures.value last) in
+    let grown = grows_on _ _ _ c.in_ok-condition.ensures.grown c.in_ok-fails.ensures.grown in
+    let broken = c.in_ok-broken.ensures.known supply (known_grows supply _ _ grown _ last.path) (c.in_ok-fails.ensures.known supply truth) in
+    c.in_ok-all.ensures.known supply (known_grows supply _ _ (grows_on _ _ _ grown c.in_ok-broken.ensures.grown) _ axioms) broken

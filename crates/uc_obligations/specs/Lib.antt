@@ -1,0 +1,3 @@
+pub mod Unrolling
+pub mod Reading
+pub mod Goals

@@ -1,0 +1,66 @@
+//! Goals, and the traces that their models tell.
+
+ghost use Rattle.std.specs.Prelude.{◌≡◌, ◌<◌, length, slice_get, IfOk, Some};
+ghost use Rattle.uc_flat.specs.declared.flat.Formula.{Formula as AFormula};
+ghost use Rattle.uc_flat.specs.Flats.{IsSound};
+ghost use Rattle.uc_symstep.specs.Growing.{Grows};
+ghost use Rattle.uc_symstep.specs.Stands.{IsTruth};
+ghost use Rattle.uc_symstep.specs.Known.{IsKnown, ReadsOwnTypes, supply_after};
+ghost use Rattle.uc_flat_traces.specs.Traces.{RefutesFlat};
+ghost use Rattle.uc_obligations.specs.Unrolling.{IsUnrolled};
+ghost use Rattle.uc_obligations.specs.Goals.{IsGoal, IsObligation};
+
+use crate::axioms::refuted_term;
+use crate::reading::trace_of;
+use crate::unrolling::Unrolling;
+use std::alloc::{AllocError, Global};
+use uc_flat::Flat;
+use uc_flat_traces::FlatTrace;
+use uc_linear::LinearError;
+use uc_terms::{Model, TermId, Terms};
+
+/// The goal of formula `k`, which speaks of one copy, after so many steps: a term whose models are the traces that refute it.
+pub fn goal(
+    terms: &mut Terms,
+    alloc: Global,
+    f: &Flat,
+    run: &Unrolling,
+    steps: u32,
+    k: u32,
+) -> Result<TermId, AllocError>
+    requires sound { IsSound f.now }
+    requires unrolled { IsUnrolled f.now terms.old steps run.now }
+    requires there { k < length f.now.formulas }
+    requires single { (x : AFormula) → slice_get f.now.formulas k ≡ Some x → x.copies ≡ 1 }
+    ensures truth { IfOk result (IsTruth terms.new) }
+    ensures goal { IfOk result (λ t. (x : AFormula) → slice_get f.now.formulas k ≡ Some x → IsGoal f.now x steps terms.new t) }
+    ensures traces { IfOk result (λ t. (x : AFormula) → slice_get f.now.formulas k ≡ Some x → IsObligation f.now x steps terms.new t) }
+    ensures known { IfOk result (λ t. ReadsOwnTypes f.now → IsKnown (supply_after f.now steps) terms.new t) }
+    ensures grown { Grows terms.old terms.new }
+{
+    let states = run.states.as_slice();
+    let t = refuted_term(terms, alloc, f, k, run.axioms, &states[steps as usize])?;
+    Ok(t)
+}
+
+/// The trace that a model of a goal after so many steps tells. Want of memory is answered too where no value fits the type of a
+/// constant, and where the goal is not true once each constant has a value that fits its type; an operation on whole numbers that
+/// leaves 128 bits is answered as it is.
+pub fn build(
+    alloc: Global,
+    terms: &Terms,
+    f: &Flat,
+    run: &Unrolling,
+    steps: u32,
+    goal: TermId,
+    model: Model,
+) -> Result<FlatTrace, LinearError>
+    requires sound { IsSound f.now }
+    requires unrolled { IsUnrolled f.now terms.now steps run.now }
+    requires there { goal < length terms.now }
+    ensures { IfOk result (λ t. (x : AFormula) → IsGoal f.now x steps terms.now goal → RefutesFlat f.now x steps t) }
+{
+    let states = run.states.as_slice();
+    let trace = trace_of(alloc, terms, f, goal, states, model)?;
+    Ok(trace)
+}

@@ -1,0 +1,210 @@
+//! The trace that a model tells.
+
+ghost use Rattle.std.specs.Prelude.{◌≡◌, ◌<◌, ◌++◌, List, map, length, slice_get, IfOk, IsTrue, All};
+ghost use Rattle.std.specs.List.{flat_map};
+ghost use Rattle.uc_values.specs.declared.value.Value.{Value as AValue};
+ghost use Rattle.uc_values.specs.Values.{fits, truth_of};
+ghost use Rattle.uc_ops.specs.Meaning.{part};
+ghost use Rattle.uc_flat.specs.Executions.{FitAll};
+ghost use Rattle.uc_flat_traces.specs.Traces.{constant_types};
+ghost use Rattle.uc_obligations.specs.Reading.{position_read, choice_read, hit_read, BeginsWith, AreNumbers, IsTraceOf};
+
+use std::alloc::{AllocError, Global};
+use uc_flat::Flat;
+use uc_flat_traces::{FlatPosition, FlatTrace};
+use uc_items::{Items, at};
+use uc_linear::LinearError;
+use uc_symstep::{Choice, Hit, SymState};
+use uc_terms::{Model, TermId, Terms, eval_all};
+use uc_values::{Ty, Value, copy, copy_all, fits, zero};
+
+/// The trace of the states under a model, where its constants fit their types. Memory also counts as used up where the goal is not
+/// true under the model then, which is so at most where a constant is read at another type than its own.
+pub(crate) fn trace_of(
+    alloc: Global,
+    terms: &Terms,
+    f: &Flat,
+    goal: TermId,
+    states: &[SymState],
+    model: Model,
+) -> Result<FlatTrace, LinearError>
+    requires { goal < length terms.now }
+    ensures { IfOk result (λ t. IsTraceOf f.now terms.now goal states.now t) }
+{
+    let constants = constants_of(alloc, f, &model)?;
+    let model = beginning_with(alloc, constants.as_slice(), model)?;
+    let all = all_terms(alloc, terms.len())?;
+    let values = eval_all(alloc, terms, all.as_slice(), &model)?;
+    let all_values = values.as_slice();
+    if !is_true(all_values, goal) {
+        return Err(LinearError::NoMemory);
+    }
+    let mut positions = Items::new(alloc);
+    for state in states {
+        let position = position(alloc, all_values, state)?;
+        positions.push(position)?;
+    }
+    Ok(FlatTrace {
+        constants,
+        positions,
+    })
+}
+
+/// A value that fits its type for each constant: that of the model, where it fits.
+fn constants_of(alloc: Global, f: &Flat, model: &Model) -> Result<Items<Value>, LinearError>
+    ensures { IfOk result (FitAll (constant_types f.now)) }
+{
+    let mut values = Items::new(alloc);
+    let constants = f.constants.as_slice();
+    for place in 0..constants.len() {
+        let given = at(model.symbols.as_slice(), place);
+        let value = fitting(alloc, &constants[place].ty, given)?;
+        values.push(value)?;
+    }
+    Ok(values)
+}
+
+/// The value where it fits the type, else the one that counts as 0. Memory also counts as used up where no value fits.
+fn fitting(alloc: Global, ty: &Ty, value: Option<&Value>) -> Result<Value, LinearError>
+    ensures { IfOk result (λ v. IsTrue (fits ty.now v)) }
+{
+    if let Some(value) = value {
+        if fits(ty, value) {
+            return Ok(copy(alloc, value)?);
+        }
+    }
+    let other = zero(alloc, ty)?;
+    if fits(ty, &other) {
+        Ok(other)
+    } else {
+        Err(LinearError::NoMemory)
+    }
+}
+
+/// The model with these values as its first symbols.
+fn beginning_with(alloc: Global, values: &[Value], model: Model) -> Result<Model, AllocError>
+    ensures { IfOk result (BeginsWith values.now) }
+{
+    let mut symbols = copy_all(alloc, values)?;
+    let Model {
+        symbols: given,
+        tables,
+    } = model;
+    let given = given.as_slice();
+    for place in values.len()..given.len() {
+        let symbol = copy(alloc, &given[place])?;
+        symbols.push(symbol)?;
+    }
+    Ok(Model { symbols, tables })
+}
+
+/// The numbers of so many terms.
+fn all_terms(alloc: Global, count: u32) -> Result<Items<TermId>, AllocError>
+    ensures { IfOk result (AreNumbers count) }
+{
+    let mut all = Items::new(alloc);
+    for number in 0..count {
+        let term = TermId::new(number);
+        all.push(term)?;
+    }
+    Ok(all)
+}
+
+/// The position of a state, given the value of each term.
+fn position(alloc: Global, values: &[Value], state: &SymState) -> Result<FlatPosition, AllocError>
+    ensures { IfOk result (λ p. p ≡ position_read values.now state.now) }
+{
+    let mut cells = Items::new(alloc);
+    let terms = state.cells.as_slice();
+    for term in terms {
+        let value = value_of(alloc, values, *term)?;
+        cells.push(value)?;
+    }
+    let choices = choices(alloc, values, state.choices.as_slice())?;
+    let sites = sites(alloc, values, state.sites.as_slice())?;
+    Ok(FlatPosition {
+        cells,
+        choices,
+        sites,
+    })
+}
+
+/// The values of the choices that are taken.
+fn choices(alloc: Global, values: &[Value], all: &[Choice]) -> Result<Items<Value>, AllocError>
+    ensures { IfOk result (λ vs. vs ≡ flat_map (choice_read values.now) all.now) }
+{
+    let mut taken = Items::new(alloc);
+    for choice in all {
+        let more = choice_value(alloc, values, choice)?;
+        taken.append(more)?;
+    }
+    Ok(taken)
+}
+
+/// The value of a choice, where it is taken.
+fn choice_value(
+    alloc: Global,
+    values: &[Value],
+    choice: &Choice,
+) -> Result<Items<Value>, AllocError>
+    ensures { IfOk result (λ vs. vs ≡ choice_read values.now choice.now) }
+{
+    let mut taken = Items::new(alloc);
+    if is_true(values, choice.taken) {
+        let value = value_of(alloc, values, choice.term)?;
+        taken.push(value)?;
+    }
+    Ok(taken)
+}
+
+/// The sites whose assertions are taken and false.
+fn sites(alloc: Global, values: &[Value], all: &[Hit]) -> Result<Items<u32>, AllocError>
+    ensures { IfOk result (λ ns. ns ≡ flat_map (hit_read values.now) all.now) }
+{
+    let mut failed = Items::new(alloc);
+    for hit in all {
+        let more = site(alloc, values, hit)?;
+        failed.append(more)?;
+    }
+    Ok(failed)
+}
+
+/// The site, where its assertion is taken and false.
+fn site(alloc: Global, values: &[Value], hit: &Hit) -> Result<Items<u32>, AllocError>
+    ensures { IfOk result (λ ns. ns ≡ hit_read values.now hit.now) }
+{
+    let mut failed = Items::new(alloc);
+    if is_true(values, hit.failed) {
+        failed.push(hit.site)?;
+    }
+    Ok(failed)
+}
+
+/// The value of a term.
+fn value_of(alloc: Global, values: &[Value], term: TermId) -> Result<Value, AllocError>
+    ensures { IfOk result (λ v. v ≡ part values.now term) }
+{
+    match at(values, term.index()) {
+        Some(value) => Ok(copy(alloc, value)?),
+        None => Ok(Value::Bool(false)),
+    }
+}
+
+/// Whether a term is true.
+fn is_true(values: &[Value], term: TermId) -> bool
+    ensures { result ≡ truth_of (part values.now term) }
+{
+    match at(values, term.index()) {
+        Some(value) => truth_in(value),
+        None => false,
+    }
+}
+
+fn truth_in(value: &Value) -> bool
+    ensures { result ≡ truth_of value.now }
+{
+    match value {
+        Value::Bool(truth) => *truth,
+        _ => false,
+    }
+}

@@ -1,0 +1,5 @@
+mod Bools
+mod Members
+mod Takings
+mod Rounds
+pub mod Ways

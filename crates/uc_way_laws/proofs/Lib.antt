@@ -1,0 +1,4 @@
+pub mod Rounds
+pub mod Calls
+pub mod Bodies
+pub mod Followed
