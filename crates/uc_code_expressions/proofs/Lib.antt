@@ -1,0 +1,2 @@
+mod CallForms
+mod ExpressionForms
