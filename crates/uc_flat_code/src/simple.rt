@@ -125,6 +125,7 @@ pub(crate) fn havoc(
 }
 
 /// A cell, or a part of it behind fields, takes a value of its type.
+#[tactic(auto, unfolding(crate::specs::Walk::behind))]
 fn assigned(
     alloc: Global,
     target: Written,
@@ -157,7 +158,7 @@ fn one_assigned(
 }
 
 /// Each target takes the value of its source, from left to right.
-#[tactic(auto, using(crate::proofs::Assigning::uneven_none, crate::proofs::Assigning::target_err, crate::proofs::Assigning::source_err, crate::proofs::Assigning::target_step, crate::proofs::Assigning::targets_done, crate::proofs::Assigning::targets_begin))]
+#[tactic(auto, using(crate::proofs::Assigning::uneven_none, crate::proofs::Assigning::targets_begin))]
 pub(crate) fn assign(
     alloc: Global,
     names: &[Meant],
