@@ -1,5 +1,5 @@
 -- Answers of what a part of a cell is to be, field by field.
-use Rattle.std.proofs.Common.{◌≡◌, ℕ, List, [], ◌∷◌, ◌++◌, refl, sym, ap, ◌∙◌, subst, Option, Some, None}
+use Rattle.std.proofs.Common.{◌≡◌, ℕ, List, [], ◌∷◌, ◌++◌, length, refl, sym, ap, ◌∙◌, subst, Option, Some, None, arith}
 use Rattle.std.specs.Prelude.{if◌then◌else◌, Result, Err, slice_get}
 use Rattle.std.specs.Option.{option_map, option_and_then}
 use Rattle.uc_syntax.specs.declared.statement.TargetPart.{TargetPart}
@@ -16,6 +16,10 @@ use Rattle.uc_flat_expressions.specs.declared.typed.FlatError.TheVariants.{NoMem
 use Rattle.uc_flat_expressions.specs.Answers.{IsAnswer}
 use Rattle.uc_flat_code.specs.Code.{field_in, with_field, field_place, replaced_in}
 use Rattle.uc_flat_code.specs.Walk.{behind, field_name}
+
+pub none_left : (parts : List TargetPart) → length parts ≡ 0 → parts ≡ []
+none_left [] h = refl
+none_left (p ∷ parts) h = absurd (omega (arith, h))
 
 behind_more : (whole : Expression) (places : List ℕ) (k : ℕ) → behind whole (places ++ k ∷ []) ≡ field_in (behind whole places) k
 unfolding behind

@@ -1,13 +1,12 @@
 //! The walk over code.
 
-ghost use Rattle.std.specs.Prelude.{◌≡◌, ◌++◌, [], ◌∷◌, ◌||◌, ◌≤◌, length, take, drop, map, slice_get, IfOk};
+ghost use Rattle.std.specs.Prelude.{◌≡◌, ◌++◌, [], take, drop, map, slice_get, Some, IfOk};
 ghost use Rattle.std.specs.Option.{is_some};
 ghost use Rattle.uc_flat_expressions.specs.Answers.{IsAnswer};
 ghost use Rattle.uc_flat_code.specs.Code.{each_arm};
-ghost use Rattle.uc_meaning.specs.Code.{else_block};
 ghost use Rattle.uc_meaning.specs.Steps.{fields_before, is_prefix};
-ghost use Rattle.uc_flat_once.specs.Once.{overlaps, touched, writes_part, arms_write, writer_of, target_writer, writer, written_by, code_once};
-ghost use Rattle.uc_flat_once.specs.Walk.{after_one, each_after};
+ghost use Rattle.uc_flat_once.specs.Once.{overlaps, touched, writes_part, writer_of, target_writer, writer, written_by, code_once};
+ghost use Rattle.uc_flat_once.specs.Walk.{after_one, each_after, arms_only, beside};
 
 use std::alloc::{AllocError, Global};
 use uc_flat::Statement;
@@ -73,7 +72,7 @@ fn after_code(
 }
 
 #[cycle(after_code)]
-#[tactic(auto, using(crate::proofs::After::block_told, crate::proofs::After::havoc_told, crate::proofs::After::assign_told, crate::proofs::After::if_told, crate::proofs::After::case_told, crate::proofs::After::local_told, crate::proofs::After::skip_told, crate::proofs::After::assert_told, crate::proofs::After::assume_told, crate::proofs::After::for_told, crate::proofs::After::call_told, crate::proofs::After::next_told))]
+#[tactic(auto, using(crate::proofs::After::block_told, crate::proofs::After::havoc_told, crate::proofs::After::assign_told, crate::proofs::After::if_none, crate::proofs::After::if_alone, crate::proofs::After::if_else_none, crate::proofs::After::if_else, crate::proofs::After::case_none, crate::proofs::After::case_alone, crate::proofs::After::case_else_none, crate::proofs::After::case_else, crate::proofs::After::local_told, crate::proofs::After::skip_told, crate::proofs::After::assert_told, crate::proofs::After::assume_told, crate::proofs::After::for_told, crate::proofs::After::call_told, crate::proofs::After::next_told))]
 fn after_statement(
     alloc: Global,
     names: &[Meant],
@@ -87,12 +86,34 @@ fn after_statement(
         Stmt::Havoc(_, name, _) => after_name(names, name.name, Items::new(alloc), before),
         Stmt::Assign(_, targets, _) => after_targets(alloc, names, targets.as_slice(), before),
         Stmt::If(_, arms, otherwise) => {
-            let otherwise = block_of(otherwise);
-            after_arms(alloc, names, arms.as_slice(), otherwise, before)
+            let start = before.len();
+            let Some((now, found)) = after_arms(alloc, names, arms.as_slice(), before)? else {
+                return Ok(None);
+            };
+            match otherwise {
+                None => joined(alloc, now, start, found),
+                Some(block) => {
+                    let Some(after) = after_code(alloc, names, block.as_slice(), now)? else {
+                        return Ok(None);
+                    };
+                    joined(alloc, after, start, found)
+                }
+            }
         }
         Stmt::Case(_, arms, otherwise) => {
-            let otherwise = block_of(otherwise);
-            after_arms(alloc, names, arms.as_slice(), otherwise, before)
+            let start = before.len();
+            let Some((now, found)) = after_arms(alloc, names, arms.as_slice(), before)? else {
+                return Ok(None);
+            };
+            match otherwise {
+                None => joined(alloc, now, start, found),
+                Some(block) => {
+                    let Some(after) = after_code(alloc, names, block.as_slice(), now)? else {
+                        return Ok(None);
+                    };
+                    joined(alloc, after, start, found)
+                }
+            }
         }
         Stmt::Local(..) => Ok(Some(before)),
         Stmt::Skip(_) => Ok(Some(before)),
@@ -104,53 +125,63 @@ fn after_statement(
     }
 }
 
-/// The block of `else`, or none.
-fn block_of(otherwise: &Option<Items<Stmt>>) -> &[Stmt]
-    ensures { result.now ≡ else_block otherwise.now }
-{
-    match otherwise {
-        Some(block) => block.as_slice(),
-        None => &[],
-    }
-}
-
+/// The parts from before again, and those that any of the arms writes.
 #[cycle(after_code)]
-#[tactic(auto, using(crate::proofs::After::arm_none, crate::proofs::After::arm_step, crate::proofs::After::arm_front, crate::proofs::After::else_none, crate::proofs::After::else_end, crate::proofs::After::long_enough))]
+#[tactic(auto, unfolding(crate::specs::Walk::each_after))]
 fn after_arms(
     alloc: Global,
     names: &[Meant],
     arms: &[Arm<Stmt>],
-    otherwise: &[Stmt],
     before: Items<Part>,
-) -> Result<Option<Items<Part>>, AllocError>
-    ensures { IfOk result (λ o. o ≡ after_one (arms_write (map (each_arm (writer names.now)) arms.now) (map (writer names.now) otherwise.now)) before) }
+) -> Result<Option<(Items<Part>, Items<Part>)>, AllocError>
+    ensures { IfOk result (λ o. o ≡ beside before (arms_only (map (each_arm (writer names.now)) arms.now) before)) }
 {
     let start = before.len();
     let mut now = before;
     let mut found = Items::new(alloc);
     for arm in arms {
-        let Some(after) = after_code(alloc, names, arm.body.as_slice(), now)? else {
-            return Ok(None);
-        };
-        let (front, more) = split(after, start)?;
+        let block = arm.body.as_slice();
+        for statement in block {
+            match after_statement(alloc, names, statement, now)? {
+                Some(more) => now = more,
+                None => return Ok(None),
+            }
+        }
+        let (front, more) = split(alloc, now, start)?;
         now = front;
         found.append(more)?;
     }
-    let Some(after) = after_code(alloc, names, otherwise, now)? else {
-        return Ok(None);
-    };
-    let (mut all, more) = split(after, start)?;
+    Ok(Some((now, found)))
+}
+
+/// The parts with those of the arms before the ones behind the first, so many.
+fn joined(
+    alloc: Global,
+    after: Items<Part>,
+    start: usize,
+    found: Items<Part>,
+) -> Result<Option<Items<Part>>, AllocError>
+    ensures { IfOk result (λ o. o ≡ Some ((take start after ++ found) ++ drop start after)) }
+{
+    let (mut all, more) = split(alloc, after, start)?;
     all.append(found)?;
     all.append(more)?;
     Ok(Some(all))
 }
 
 /// The first parts, so many, and those behind them.
-fn split(parts: Items<Part>, count: usize) -> Result<(Items<Part>, Items<Part>), AllocError>
-    requires { count ≤ length parts }
+#[tactic(auto, using(crate::proofs::After::take_all, crate::proofs::After::drop_none))]
+fn split(
+    alloc: Global,
+    parts: Items<Part>,
+    count: usize,
+) -> Result<(Items<Part>, Items<Part>), AllocError>
     ensures { IfOk result (λ both. (both.0 ≡ take count parts) × (both.1 ≡ drop count parts)) }
 {
     let mut front = parts.into_vec();
+    if front.len() < count {
+        return Ok((Items::from_vec(front), Items::new(alloc)));
+    }
     let behind = front.split_off(count)?;
     Ok((Items::from_vec(front), Items::from_vec(behind)))
 }

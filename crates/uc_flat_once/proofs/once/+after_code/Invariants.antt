@@ -1,8 +1,8 @@
 use Rattle.std.proofs.Common.{◌≡◌, ◌++◌, drop, map, length}
 use Rattle.std.specs.Option.{option_map}
 use Rattle.uc_flat_code.specs.Code.{each_arm}
-use Rattle.uc_flat_once.specs.Once.{arms_write, writer}
-use Rattle.uc_flat_once.specs.Walk.{each_after}
+use Rattle.uc_flat_once.specs.Once.{writer}
+use Rattle.uc_flat_once.specs.Walk.{each_after, arms_only}
 use Rattle.uc_flat_once.proofs.once.+after_code.Given as goal
 
 abbrev pub invariant-after_code-loop-statement : goal.invariant-after_code-loop-statement
@@ -12,4 +12,7 @@ abbrev pub invariant-after_arms-loop-arm : goal.invariant-after_arms-loop-arm
 invariant-after_arms-loop-arm l =
     (l.start ≡ length l.fn.before)
     × (l.now ≡ l.fn.before)
-    × (arms_write (map (each_arm (writer l.names)) l.arms) (map (writer l.names) l.otherwise) l.fn.before ≡ option_map (λ ys. l.found ++ ys) (arms_write (map (each_arm (writer l.names)) (drop l.arm-index l.arms)) (map (writer l.names) l.otherwise) l.fn.before))
+    × (arms_only (map (each_arm (writer l.names)) l.arms) l.fn.before ≡ option_map (λ ys. l.found ++ ys) (arms_only (map (each_arm (writer l.names)) (drop l.arm-index l.arms)) l.fn.before))
+
+abbrev pub invariant-after_arms-loop-statement : goal.invariant-after_arms-loop-statement
+invariant-after_arms-loop-statement l = each_after (map (writer l.names) (drop l.statement-index l.block)) l.now ≡ each_after (map (writer l.names) l.block) l.fn.before
