@@ -1,5 +1,5 @@
 -- Code over cells one piece after another, and cells that keep their types.
-use Rattle.std.proofs.Common.{◌≡◌, ℕ, zero, suc, List, [], ◌∷◌, ◌++◌, map, refl, ap, ◌∙◌, Option, Some, None, true}
+use Rattle.std.proofs.Common.{◌≡◌, ℕ, zero, suc, List, [], ◌∷◌, ◌++◌, map, refl, sym, ap, ◌∙◌, Option, Some, None, true}
 use Rattle.std.specs.Prelude.{slice_get, slice_set}
 use Rattle.std.specs.Option.{option_and_then}
 use Rattle.std.proofs.lemmas.List.{map-append}
@@ -7,6 +7,7 @@ use Rattle.uc_values.specs.declared.ty.Ty.{Ty}
 use Rattle.uc_values.specs.declared.value.Value.{Value}
 use Rattle.uc_values.specs.Values.{fits}
 use Rattle.uc_ops.specs.declared.model.Model.{Model}
+use Rattle.uc_ops.specs.Meaning.{part}
 use Rattle.uc_flat.specs.declared.statement.Statement.{Statement}
 use Rattle.uc_flat.specs.Executions.{FitAll}
 use Rattle.uc_flat.specs.Running.{Placed, Execution, in_turn, runs, run_all}
@@ -48,3 +49,11 @@ fit_set [] values k ty v h f g = absurd (cc)
 fit_set (t ∷ types) [] k ty v h f g = absurd g
 fit_set (t ∷ types) (w ∷ values) zero ty v h f g = (ap (λ u. fits u v) (some_same t ty h) ∙ f, g.1)
 fit_set (t ∷ types) (w ∷ values) (suc k) ty v h f g = (g.0, fit_set types values k ty v h f g.1)
+
+-- a cell has a value that fits
+pub fit_part : (types : List Ty) (values : List Value) (k : ℕ) (ty : Ty) → FitAll types values → slice_get types k ≡ Some ty → fits ty (part values k) ≡ true
+unfolding FitAll
+fit_part [] values k ty h e = absurd (cc)
+fit_part (t ∷ types) [] k ty h e = absurd h
+fit_part (t ∷ types) (v ∷ values) zero ty h e = ap (λ s. fits s v) (some_same ty t (sym e)) ∙ h.0
+fit_part (t ∷ types) (v ∷ values) (suc k) ty h e = fit_part types values k ty h.1 e

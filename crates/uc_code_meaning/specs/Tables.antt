@@ -7,8 +7,9 @@ use Rattle.uc_values.specs.Values.{fits}
 use Rattle.uc_meaning.specs.declared.scope.Scope.{Scope}
 use Rattle.uc_meaning.specs.Lookup.{System}
 use Rattle.uc_meaning.specs.Cells.{cell_of}
-use Rattle.uc_meaning.specs.Expressions.{reading, name, value}
+use Rattle.uc_meaning.specs.Expressions.{reads, reading, name, value}
 use Rattle.uc_ops.specs.declared.model.Model.{Model}
+use Rattle.uc_ops.specs.Meaning.{part}
 use Rattle.uc_flat.specs.Reading.{value_of}
 use Rattle.uc_flat.specs.Executions.{FitAll}
 use Rattle.uc_flat_expressions.specs.declared.typed.TypedExpression.{TypedExpression}
@@ -30,11 +31,11 @@ abbrev pub SaysExpressions : System → Model → List Ty → List Meant → Sco
 SaysExpressions system m types names scopes =
     (cells : List Value) → FitAll types cells → (e : Expr) (t : TypedExpression) → flat_of names e ≡ Some t → IsSaid system m types (scopes cells) cells e t
 
--- a name of main is that of a cell of this number and type
+-- a name of main is that of a cell of this number and type, and is read as the cell
 pub record IsVariable (system : System) (types : List Ty) (scopes : Scopes) (x k : ℕ) (ty : Ty) : Type 0 where
   pub cell : cell_of system [] x ≡ Some k
   pub typed : slice_get types k ≡ Some ty
-  pub type : (cells : List Value) → FitAll types cells → (name system (reading system) (scopes cells) x false).type ≡ ty
+  pub read : (cells : List Value) → FitAll types cells → name system (reading system) (scopes cells) x false ≡ reads ty (part cells k)
 
 -- each cell that is listed for a name is that of the name
 abbrev pub SaysCells : System → List Ty → List Meant → Scopes → Type 0

@@ -24,7 +24,7 @@ use Rattle.uc_flat_expressions.specs.Answers.{IsAnswer}
 use Rattle.uc_flat_expressions.specs.Expressions.{flat_of, all_of}
 use Rattle.uc_flat_code.specs.declared.writing.Writing.{Writing}
 use Rattle.uc_flat_code.specs.declared.writing.FlatArm.{FlatArm}
-use Rattle.uc_flat_code.specs.Code.{MayBe, written, assume_of, havoc_of, assign_of, each_arm, arm_of, joined_arms, else_of, if_of, code_form, statement_of, code_of}
+use Rattle.uc_flat_code.specs.Code.{MayBe, havocked, assume_of, havoc_of, assign_of, each_arm, arm_of, joined_arms, else_of, if_of, code_form, statement_of, code_of}
 
 pub code_skip : (names : List Meant) (w : Writing) (p : Place) → statement_of names w (Skip p) ≡ Some []
 unfolding statement_of roll-Stmt denote.Hole.Carrier.roll
@@ -38,7 +38,7 @@ pub code_assume : (names : List Meant) (w : Writing) (p : Place) (e : Expr) → 
 unfolding statement_of roll-Stmt denote.Hole.Carrier.roll
 code_assume names w p e = fold-roll-Stmt MayBe (code_form names w) (AssumeForm p e)
 
-pub code_havoc : (names : List Meant) (w : Writing) (p : Place) (x : Identifier) (primed : Truth) → statement_of names w (Havoc p x primed) ≡ option_map (havoc_of w) (written names w x.name primed)
+pub code_havoc : (names : List Meant) (w : Writing) (p : Place) (x : Identifier) (primed : Truth) → statement_of names w (Havoc p x primed) ≡ option_map (havoc_of w) (havocked names w x.name primed)
 unfolding statement_of roll-Stmt denote.Hole.Carrier.roll
 code_havoc names w p x primed = fold-roll-Stmt MayBe (code_form names w) (HavocForm p x primed)
 
@@ -133,8 +133,8 @@ pub assume_answer : (names : List Meant) (w : Writing) (s : Stmt) (p : Place) (e
 assume_answer names w s p e r is h = by_form names w s (Assume p e) (option_and_then assume_of (flat_of names e)) r is (code_assume names w p e) h
 
 pub havoc_answer : (names : List Meant) (w : Writing) (s : Stmt) (p : Place) (x : Identifier) (primed : Truth) (r : Result (List Statement) FlatError) → s ≡ Havoc p x primed
-    → IsAnswer (option_map (havoc_of w) (written names w x.name primed)) r → IsAnswer (statement_of names w s) r
-havoc_answer names w s p x primed r is h = by_form names w s (Havoc p x primed) (option_map (havoc_of w) (written names w x.name primed)) r is (code_havoc names w p x primed) h
+    → IsAnswer (option_map (havoc_of w) (havocked names w x.name primed)) r → IsAnswer (statement_of names w s) r
+havoc_answer names w s p x primed r is h = by_form names w s (Havoc p x primed) (option_map (havoc_of w) (havocked names w x.name primed)) r is (code_havoc names w p x primed) h
 
 pub assign_answer : (names : List Meant) (w : Writing) (s : Stmt) (p : Place) (targets : List Target) (sources : List Expr) (r : Result (List Statement) FlatError) → s ≡ Assign p targets sources
     → IsAnswer (assign_of names w targets sources) r → IsAnswer (statement_of names w s) r

@@ -1,1 +1,4 @@
 pub mod Forms
+pub mod Sparing
+pub mod Replaced
+pub mod Assigning

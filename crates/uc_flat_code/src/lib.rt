@@ -2,6 +2,8 @@
 #![tactic(auto)]
 
 mod code;
+mod parts;
+mod reading;
 mod simple;
 mod writing;
 

@@ -1,19 +1,19 @@
 //! Statements that have no statements inside them.
 
-ghost use Rattle.std.specs.Prelude.{◌≡◌, ◌+◌, ◌∷◌, [], Some, slice_get, IfOk};
+ghost use Rattle.std.specs.Prelude.{◌≡◌, ◌+◌, ◌∷◌, [], if◌then◌else◌, Some, None, slice_get, IfOk};
 ghost use Rattle.std.specs.Option.{option_map, option_and_then};
 ghost use Rattle.uc_flat_expressions.specs.Answers.{IsAnswer};
 ghost use Rattle.uc_flat_expressions.specs.Expressions.{flat_of};
-ghost use Rattle.uc_flat_code.specs.Code.{may_write, written_as, written, assume_of, havoc_of, assigned, target_of, assign_of};
+ghost use Rattle.uc_flat_code.specs.Code.{may_write, may_havoc, written_as, written, havocked, assume_of, havoc_of, assigned, spares, assign_of};
 
+use crate::parts::replaced_in;
+use crate::reading::spares;
 use crate::writing::{Writing, Written};
 use std::alloc::{AllocError, Global};
 use uc_flat::Statement;
-use uc_flat_expressions::{
-    FlatError, Meant, TypedExpression, equal_types, flat_expression, is_boolean,
-};
+use uc_flat_expressions::{FlatError, Meant, TypedExpression, flat_expression, is_boolean};
 use uc_items::{Items, at};
-use uc_syntax::{Expr, Target};
+use uc_syntax::{Expr, Target, TargetPart};
 use uc_values::{Ty, copy_ty};
 
 /// Code of one statement.
@@ -30,6 +30,13 @@ fn may_write(primes: bool, primed: bool) -> bool
     ensures { result ≡ may_write primes primed }
 {
     primes == primed
+}
+
+/// Whether `havoc` with a prime, or with none, may stand where targets have primes, or have none.
+fn may_havoc(primes: bool, primed: bool) -> bool
+    ensures { result ≡ may_havoc primes primed }
+{
+    primes || !primed
 }
 
 /// The cell that is written for a name, so many numbers behind that of the old state. Numbers of cells are below 2^32: a greater one counts
@@ -70,6 +77,22 @@ fn written(
     written_as(alloc, names, writing.shift, name)
 }
 
+/// The cell that `havoc` writes for a name, where its prime is as it may be.
+fn havocked(
+    alloc: Global,
+    names: &[Meant],
+    writing: Writing,
+    name: u32,
+    primed: bool,
+) -> Result<Written, FlatError>
+    ensures { IsAnswer (havocked names.now writing name primed) result }
+{
+    if !may_havoc(writing.primed, primed) {
+        return Err(FlatError::NotBuilt);
+    }
+    written_as(alloc, names, writing.shift, name)
+}
+
 /// A condition is assumed.
 pub(crate) fn assume(
     alloc: Global,
@@ -94,44 +117,48 @@ pub(crate) fn havoc(
     name: u32,
     primed: bool,
 ) -> Result<Items<Statement>, FlatError>
-    ensures { IsAnswer (option_map (havoc_of writing) (written names.now writing name primed)) result }
+    ensures { IsAnswer (option_map (havoc_of writing) (havocked names.now writing name primed)) result }
 {
-    let target = written(alloc, names, writing, name, primed)?;
+    let target = havocked(alloc, names, writing, name, primed)?;
     let code = one(alloc, Statement::Havoc(target.cell, !writing.primed))?;
     Ok(code)
 }
 
-/// A cell takes a value of its type.
+/// A cell, or a part of it behind fields, takes a value of its type.
+#[tactic(auto, unfolding(crate::specs::Walk::behind))]
 fn assigned(
     alloc: Global,
     target: Written,
+    parts: &[TargetPart],
     t: TypedExpression,
 ) -> Result<Items<Statement>, FlatError>
-    ensures { IsAnswer (assigned target t) result }
+    ensures { IsAnswer (assigned target parts.now t) result }
 {
-    if !equal_types(&target.ty, &t.ty) {
-        return Err(FlatError::NotBuilt);
-    }
-    let code = one(alloc, Statement::Assign(target.cell, t.expression))?;
+    let e = replaced_in(alloc, target.cell, Items::new(alloc), &target.ty, parts, t)?;
+    let code = one(alloc, Statement::Assign(target.cell, e))?;
     Ok(code)
 }
 
-/// The cell of a target that is a whole cell.
-fn target_of(
+/// One target takes the value of one source, which reads none of the cells.
+fn one_assigned(
     alloc: Global,
     names: &[Meant],
-    writing: Writing,
-    target: &Target,
-) -> Result<Written, FlatError>
-    ensures { IsAnswer (target_of names.now writing target.now) result }
+    before: &[u32],
+    written: Written,
+    parts: &[TargetPart],
+    source: &Expr,
+) -> Result<Items<Statement>, FlatError>
+    ensures { IsAnswer (option_and_then (λ x. if spares before.now x.expression then assigned written parts.now x else None) (flat_of names.now source.now)) result }
 {
-    if !target.parts.is_empty() {
+    let t = flat_expression(alloc, names, source)?;
+    if !spares(before, &t.expression) {
         return Err(FlatError::NotBuilt);
     }
-    written(alloc, names, writing, target.name, target.is_primed)
+    assigned(alloc, written, parts, t)
 }
 
-/// One whole cell takes the value of one source.
+/// Each target takes the value of its source, from left to right.
+#[tactic(auto, using(crate::proofs::Assigning::uneven_none, crate::proofs::Assigning::targets_begin))]
 pub(crate) fn assign(
     alloc: Global,
     names: &[Meant],
@@ -141,13 +168,19 @@ pub(crate) fn assign(
 ) -> Result<Items<Statement>, FlatError>
     ensures { IsAnswer (assign_of names.now writing targets.now sources.now) result }
 {
-    let [target] = targets else {
+    if targets.len() != sources.len() {
         return Err(FlatError::NotBuilt);
-    };
-    let [source] = sources else {
-        return Err(FlatError::NotBuilt);
-    };
-    let target = target_of(alloc, names, writing, target)?;
-    let t = flat_expression(alloc, names, source)?;
-    assigned(alloc, target, t)
+    }
+    let mut all = Items::new(alloc);
+    let mut before = Items::new(alloc);
+    for k in 0..targets.len() {
+        let target = &targets[k];
+        let written = written(alloc, names, writing, target.name, target.is_primed)?;
+        let cell = written.cell;
+        let parts = target.parts.as_slice();
+        let more = one_assigned(alloc, names, before.as_slice(), written, parts, &sources[k])?;
+        all.append(more)?;
+        before.push(cell)?;
+    }
+    Ok(all)
 }

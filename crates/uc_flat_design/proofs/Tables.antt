@@ -23,10 +23,11 @@ use Rattle.uc_values.proofs.Shapes.{and_true, all_mapped}
 use Rattle.uc_values.proofs.Fitting.{zero-fits}
 use Rattle.uc_meaning.specs.declared.scope.Interp.{Interp}
 use Rattle.uc_meaning.specs.declared.scope.Scope.{Scope}
+use Rattle.uc_meaning.specs.declared.scope.State.{State}
 use Rattle.uc_meaning.specs.Lookup.{System, instance_in, variable_of}
 use Rattle.uc_meaning.specs.Types.{label_of, type_of_written}
 use Rattle.uc_meaning.specs.Cells.{cell_of, FitAll as FitTypes}
-use Rattle.uc_meaning.specs.Expressions.{Reading, reads, reading, name, label_count}
+use Rattle.uc_meaning.specs.Expressions.{reads, reading, name, label_count}
 use Rattle.uc_meaning.specs.Plain.{IsTop}
 use Rattle.uc_meaning.specs.Steps.{state_of}
 use Rattle.uc_ops.specs.declared.model.Model.{Model}
@@ -212,7 +213,10 @@ module _ (system : System) (code : Module) (alone : StandsAlone system code) (m 
         record {
           cell = a.cell;
           typed = cell_type system code x k a.kind a.type alone a.has_cells a.variable a.cell ∙ ap Some a.own;
-          type = λ cells fit. ap (λ (r : Reading). r.type) (name_in_cell system code alone (scopes cells) (tops cells) (reading system) x k false a.kind a.type a.no_label a.variable a.has_cells a.cell) ∙ a.own;
+          read = λ cells fit.
+              name_in_cell system code alone (scopes cells) (tops cells) (reading system) x k false a.kind a.type a.no_label a.variable a.has_cells a.cell
+              ∙ ap (λ (q : State). reads (type_of_written system code a.type) (part q.cells k)) (befores cells)
+              ∙ ap (λ t. reads t (part cells k)) a.own;
         };
   }
 

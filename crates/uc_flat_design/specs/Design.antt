@@ -24,7 +24,8 @@ use Rattle.uc_flat_expressions.specs.Expressions.{flat_of}
 use Rattle.uc_flat_names.specs.Names.{names_over_cells, types_of}
 use Rattle.uc_flat_code.specs.Code.{code_of}
 use Rattle.uc_code_meaning.specs.Sequential.{plainly}
-use Rattle.uc_flat_once.specs.Once.{written_after}
+use Rattle.uc_flat_once.specs.declared.once.Part.{Part}
+use Rattle.uc_flat_once.specs.Once.{written_by}
 use Rattle.uc_step_meaning.specs.Next.{primed_behind, step_code}
 
 abbrev pub is_finite_form : Ty-F Truth → Truth
@@ -84,7 +85,7 @@ flat_with system init next formulas = record {
   axioms = 0;
 }
 
--- The design has one module, with declarations that are built, cells of such types, code and invariants over cells, and a next block that writes no cell twice on one way; and this is the design over cells.
+-- The design has one module, with declarations that are built, cells of such types, code and invariants over cells, and a next block that writes no part of a cell twice on one way; and this is the design over cells.
 pub record IsFlatOf (system : System) (code : Module) (f : Flat) : Type 0 where
   pub only : system.modules ≡ code ∷ []
   pub first : system.main ≡ 0
@@ -92,10 +93,10 @@ pub record IsFlatOf (system : System) (code : Module) (f : Flat) : Type 0 where
   pub types : list_all is_cell_type (types_of system) ≡ true
   pub init : List Statement
   pub next : List Statement
-  pub after : List ℕ
+  pub after : List Part
   pub formulas : List Formula
   pub init_is : code_of (names_over_cells system code) plainly (init_of code) ≡ Some init
   pub next_is : code_of (names_over_cells system code) (primed_behind (length (cells_of system))) (next_of code) ≡ Some next
-  pub once : written_after next [] ≡ Some after
+  pub once : written_by (names_over_cells system code) (next_of code) [] ≡ Some after
   pub formulas_are : formulas_from (names_over_cells system code) 0 code.decls ≡ Some formulas
   pub is : f ≡ flat_with system init next formulas

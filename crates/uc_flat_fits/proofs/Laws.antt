@@ -5,10 +5,11 @@ use Rattle.std.proofs.lemmas.Option.{none-some, same_Some, slice_get_within, get
 use Rattle.std.proofs.lemmas.List.Elements.{All-contains}
 use Rattle.uc_syntax.specs.declared.expression.Expr.{Expr}
 use Rattle.uc_values.specs.declared.ty.Ty.{Ty}
-use Rattle.uc_ops.specs.Typing.{Valid, AllValid}
-use Rattle.uc_ops.specs.Decisions.{types-decided}
+use Rattle.uc_ops.specs.Typing.{Valid, AllValid, type_or}
 use Rattle.uc_flat.specs.Fine.{IsTest}
-use Rattle.uc_flat.proofs.Making.{Alone, fine_alone, AloneReads, reads_alone}
+use Rattle.uc_flat.specs.declared.expression.Expression.TheVariants.{Cell as ReadCell}
+use Rattle.uc_flat.proofs.Forms.{type_cell}
+use Rattle.uc_flat.proofs.Making.{Alone, fine_alone, AloneReads, reads_alone, typed_cell, reads_cell}
 use Rattle.uc_flat_expressions.specs.declared.typed.TypedExpression.{TypedExpression}
 use Rattle.uc_flat_expressions.specs.declared.typed.Meant.{Meant}
 use Rattle.uc_flat_expressions.specs.declared.typed.Meant.TheVariants.{Cell}
@@ -16,9 +17,10 @@ use Rattle.uc_flat_expressions.specs.Expressions.{flat_of}
 use Rattle.uc_flat_expressions.specs.Types.{is_boolean}
 use Rattle.uc_flat_code.specs.declared.writing.Writing.{Writing}
 use Rattle.uc_flat_code.specs.declared.writing.Written.{Written}
-use Rattle.uc_flat_code.specs.Code.{may_write, written_as, written}
+use Rattle.uc_flat_code.specs.Code.{may_write, may_havoc, written_as, written, havocked}
 use Rattle.uc_flat_fits.specs.Fits.{ExpressionsFit, AreWritten, ExpressionsReadBelow, FitsLaw, ReadsLaw, SequentialLaw, StepLaw}
 use Rattle.uc_flat_fits.proofs.Conditions.{boolean_is}
+use Rattle.uc_flat_fits.proofs.Fielded.{IsPart, replaced_part, replaced_reads}
 use Rattle.uc_flat_fits.proofs.Suiting.{Suited, if_some, code_gives}
 use Rattle.uc_flat.proofs.Extending.{slice_get-back}
 
@@ -36,6 +38,15 @@ written_typed names w types cells x primed k h =
     let c = if_some (may_write w.primed primed) (written_as w.shift (slice_get names x)) k h in
     meant_typed names w types cells x (slice_get names x) refl k c.1
 
+havocked_typed : (names : List Meant) (w : Writing) (types : List Ty) → AreWritten names w types → (x : ℕ) (primed : Truth) (k : Written) → havocked names w x primed ≡ Some k → slice_get types k.cell ≡ Some k.ty
+havocked_typed names w types cells x primed k h =
+    let c = if_some (may_havoc w.primed primed) (written_as w.shift (slice_get names x)) k h in
+    meant_typed names w types cells x (slice_get names x) refl k c.1
+
+-- the cell of a number
+cell_part : (types : List Ty) (k : ℕ) (ty : Ty) → slice_get types k ≡ Some ty → IsPart types ty (ReadCell k)
+cell_part types k ty h = record { typed = typed_cell types k (slice_get_within types k ty h); type = type_cell types k ∙ ap type_or h }
+
 test_of : (names : List Meant) (types : List Ty) → ExpressionsFit names types → (t : TypedExpression) (e : Expr) → flat_of names e ≡ Some t → is_boolean t.ty ≡ true → IsTest types t.expression
 test_of names types fit t e is b = record { typed = (fit e t is).0; boolean = (fit e t is).1 ∙ boolean_is t.ty b }
 
@@ -47,10 +58,14 @@ pub fits_suited : (names : List Meant) (w : Writing) (types : List Ty) → Expre
 fits_suited names w types fit cells valid = record {
   assumed = λ e t is b. test_of names types fit t e is b;
   decided = λ e t xs ys is b. test_of names types fit t e is b;
-  havocked = λ x primed k is.
-      let at = written_typed names w types cells x primed k is in
+  anything = λ x primed k is.
+      let at = havocked_typed names w types cells x primed k is in
       (k.ty, at, listed_valid types valid k.cell k.ty at);
-  given = λ x primed k e t is that same. ((fit e t that).0, written_typed names w types cells x primed k is ∙ ap Some ((types-decided k.ty t.ty).0 same ∙ sym (fit e t that).1));
+  given = λ x primed k parts e t z is that made.
+      let at = written_typed names w types cells x primed k is in
+      let source : IsPart types t.ty t.expression = record { typed = (fit e t that).0; type = (fit e t that).1 } in
+      let a = replaced_part types parts (ReadCell k.cell) z k.ty t (cell_part types k.cell k.ty at) (listed_valid types valid k.cell k.ty at) source made in
+      (a.typed, at ∙ ap Some (sym a.type));
 }
 
 -- each single statement reads constants that there are
@@ -58,8 +73,8 @@ pub reads_suited : (names : List Meant) (w : Writing) (n : ℕ) → ExpressionsR
 reads_suited names w n reads = record {
   assumed = λ e t is b. reads e t is;
   decided = λ e t xs ys is b. reads e t is;
-  havocked = λ x primed k is. tt;
-  given = λ x primed k e t is that same. reads e t that;
+  anything = λ x primed k is. tt;
+  given = λ x primed k parts e t z is that made. replaced_reads n parts (ReadCell k.cell) z k.ty t (reads_cell n k.cell) (reads e t that) made;
 }
 
 pub fits_hold : FitsLaw

@@ -7,11 +7,13 @@ use Rattle.uc_lexer.specs.declared.place.Place.{Place}
 use Rattle.uc_syntax.specs.declared.expression.Expr.{Expr}
 use Rattle.uc_syntax.specs.declared.statement.Arm.{Arm}
 use Rattle.uc_syntax.specs.declared.statement.Target.{Target}
+use Rattle.uc_syntax.specs.declared.statement.TargetPart.{TargetPart}
 use Rattle.uc_syntax.specs.declared.statement.Stmt.{Stmt}
 use Rattle.uc_syntax.specs.declared.statement.Stmt.TheOpen.{Stmt-F}
 use Rattle.uc_syntax.specs.declared.statement.Stmt.TheOpen.Stmt-F.{Local, Skip, Block, Assert, Assume, Havoc, Assign, If, Case, For, Call, Next}
 use Rattle.uc_syntax.specs.declared.statement.Stmt.TheFolds.{fold-Stmt, map-Stmt, fold-roll-Stmt, ind-Stmt}
-use Rattle.uc_ops.specs.Equality.{equal_types}
+use Rattle.uc_flat.specs.declared.expression.Expression.{Expression}
+use Rattle.uc_flat.specs.declared.expression.Expression.TheVariants.{Cell as ReadCell}
 use Rattle.uc_flat.specs.declared.statement.Statement.{Statement}
 use Rattle.uc_flat.specs.declared.statement.Statement.TheOpen.{Statement-F}
 use Rattle.uc_flat.specs.declared.statement.Statement.TheOpen.Statement-F.{Assign as AssignForm, Havoc as HavocForm, Assume as AssumeForm, If as IfForm}
@@ -23,7 +25,7 @@ use Rattle.uc_flat_expressions.specs.Expressions.{flat_of, all_of}
 use Rattle.uc_flat_code.specs.declared.writing.Writing.{Writing}
 use Rattle.uc_flat_code.specs.declared.writing.Written.{Written}
 use Rattle.uc_flat_code.specs.declared.writing.FlatArm.{FlatArm}
-use Rattle.uc_flat_code.specs.Code.{MayBe, written, assume_of, havoc_of, assigned, has_none, target_of, assign_of, in_order, arm_with, arm_of, joined_arms, else_of, if_of, code_form, statement_of, code_of}
+use Rattle.uc_flat_code.specs.Code.{MayBe, written, havocked, assume_of, havoc_of, replaced_in, assigned, spares, one_assigned, with_cell, each_assigned, assign_of, in_order, arm_with, arm_of, joined_arms, else_of, if_of, code_form, statement_of, code_of}
 use Rattle.uc_flat_fits.proofs.Standing.{Everywhere, nowhere, both, one_assign, one_havoc, one_assume, one_if}
 
 -- ---- what there is where something came of it
@@ -53,9 +55,9 @@ map_parts f (Some x) y h = (x, refl, same_Some (f x) y h)
 pub record Suited (names : List Meant) (w : Writing) (A : Statement-F Statement → Type 0) : Type 0 where
   pub assumed : (e : Expr) (t : TypedExpression) → flat_of names e ≡ Some t → is_boolean t.ty ≡ true → A (AssumeForm t.expression)
   pub decided : (e : Expr) (t : TypedExpression) (xs ys : List Statement) → flat_of names e ≡ Some t → is_boolean t.ty ≡ true → A (IfForm t.expression xs ys)
-  pub havocked : (x : ℕ) (primed : Truth) (k : Written) → written names w x primed ≡ Some k → A (HavocForm k.cell (not w.primed))
-  pub given : (x : ℕ) (primed : Truth) (k : Written) (e : Expr) (t : TypedExpression) → written names w x primed ≡ Some k → flat_of names e ≡ Some t → equal_types k.ty t.ty ≡ true
-      → A (AssignForm k.cell t.expression)
+  pub anything : (x : ℕ) (primed : Truth) (k : Written) → havocked names w x primed ≡ Some k → A (HavocForm k.cell (not w.primed))
+  pub given : (x : ℕ) (primed : Truth) (k : Written) (parts : List TargetPart) (e : Expr) (t : TypedExpression) (z : Expression) → written names w x primed ≡ Some k → flat_of names e ≡ Some t
+      → replaced_in (ReadCell k.cell) k.ty parts t ≡ Some z → A (AssignForm k.cell z)
 
 abbrev arms_in : {X : Type 0} → Stmt-F X → List (Arm X)
 arms_in (If p arms otherwise) = arms
@@ -100,23 +102,29 @@ module _ (names : List Meant) (w : Writing) (A : Statement-F Statement → Type 
       let c = if_some (is_boolean p.0.ty) (Some code) flat p.2 in
       subst (Everywhere A) (same_Some code flat c.1) (one_assume A p.0.expression (suited.assumed e p.0 p.1 c.0))
 
-  gives_havoc : (x : ℕ) (primed : Truth) → Gives (option_map (havoc_of w) (written names w x primed))
+  gives_havoc : (x : ℕ) (primed : Truth) → Gives (option_map (havoc_of w) (havocked names w x primed))
   gives_havoc x primed flat h =
-      let p = map_parts (havoc_of w) (written names w x primed) flat h in
-      subst (Everywhere A) p.2 (one_havoc A p.0.cell (not w.primed) (suited.havocked x primed p.0 p.1))
+      let p = map_parts (havoc_of w) (havocked names w x primed) flat h in
+      subst (Everywhere A) p.2 (one_havoc A p.0.cell (not w.primed) (suited.anything x primed p.0 p.1))
+
+  gives_one : (before : List ℕ) (t : Target) (e : Expr) → Gives (one_assigned names w before t e)
+  gives_one before t e flat h =
+      let p = then_parts (λ k. option_and_then (λ x. if spares before x.expression then assigned k t.parts x else None) (flat_of names e)) (written names w t.name t.is_primed) flat h in
+      let q = then_parts (λ x. if spares before x.expression then assigned p.0 t.parts x else None) (flat_of names e) flat p.2 in
+      let r = if_some (spares before q.0.expression) (assigned p.0 t.parts q.0) flat q.2 in
+      let code : Expression → List Statement = λ z. AssignCell p.0.cell z ∷ [] in
+      let o = map_parts code (replaced_in (ReadCell p.0.cell) p.0.ty t.parts q.0) flat r.1 in
+      subst (Everywhere A) o.2 (one_assign A p.0.cell o.0 (suited.given t.name t.is_primed p.0 t.parts e q.0 o.0 p.1 q.1 o.1))
+
+  gives_each : (ts : List Target) (es : List Expr) (before : List ℕ) → AllGive (each_assigned names w before ts es)
+  unfolding each_assigned
+  gives_each [] [] before = tt
+  gives_each [] (e ∷ es) before = (λ flat h. absurd (none-some flat h), tt)
+  gives_each (t ∷ ts) [] before = (λ flat h. absurd (none-some flat h), tt)
+  gives_each (t ∷ ts) (e ∷ es) before = (gives_one before t e, gives_each ts es (with_cell before (written names w t.name t.is_primed)))
 
   gives_assign : (ts : List Target) (es : List Expr) → Gives (assign_of names w ts es)
-  gives_assign [] es flat h = absurd (none-some flat h)
-  gives_assign (t ∷ (u ∷ us)) es flat h = absurd (none-some flat h)
-  gives_assign (t ∷ []) [] flat h = absurd (none-some flat h)
-  gives_assign (t ∷ []) (e ∷ (d ∷ ds)) flat h = absurd (none-some flat h)
-  gives_assign (t ∷ []) (e ∷ []) flat h =
-      let p = then_parts (λ k. option_and_then (assigned k) (flat_of names e)) (target_of names w t) flat h in
-      let q = then_parts (assigned p.0) (flat_of names e) flat p.2 in
-      let code : List Statement = AssignCell p.0.cell q.0.expression ∷ [] in
-      let r = if_some (equal_types p.0.ty q.0.ty) (Some code) flat q.2 in
-      let k = if_some (has_none t.parts) (written names w t.name t.is_primed) p.0 p.1 in
-      subst (Everywhere A) (same_Some code flat r.1) (one_assign A p.0.cell q.0.expression (suited.given t.name t.is_primed p.0 e q.0 k.1 q.1 r.0))
+  gives_assign ts es flat h = gives_order (each_assigned names w [] ts es) (gives_each ts es []) flat h
 
   -- ---- conditionals
 

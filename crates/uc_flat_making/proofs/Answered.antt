@@ -11,7 +11,7 @@ use Rattle.uc_syntax.specs.declared.declaration.Module.{Module}
 use Rattle.uc_meaning.specs.Lookup.{System, instance_in, init_of, next_of}
 use Rattle.uc_meaning.specs.Cells.{Cell, cells_of}
 use Rattle.uc_flat.specs.declared.flat.Flat.{Flat}
-use Rattle.uc_flat_once.specs.Once.{written_after}
+use Rattle.uc_flat_once.specs.Once.{written_by}
 use Rattle.uc_flat_expressions.specs.declared.typed.Meant.{Meant}
 use Rattle.uc_flat_expressions.specs.declared.typed.FlatError.{FlatError}
 use Rattle.uc_flat_expressions.specs.declared.typed.FlatError.TheVariants.{NoMemory, NotBuilt}
@@ -22,7 +22,7 @@ use Rattle.uc_code_meaning.specs.Sequential.{plainly}
 use Rattle.uc_step_meaning.specs.Next.{primed_behind}
 use Rattle.uc_flat_design.specs.Design.{is_built, is_cell_type, formulas_from, IsFlatOf}
 use Rattle.uc_flat_table.specs.declared.cells.OwnCell.{OwnCell}
-use Rattle.uc_flat_making.specs.Made.{IsMade, full, flat_over, if_once, next_once, made_over, made_typed, made, made_only, made_whole}
+use Rattle.uc_flat_making.specs.Made.{IsMade, full, flat_over, next_once, made_over, made_typed, made, made_only, made_whole}
 
 -- ---- what there is where something came of it
 
@@ -69,9 +69,8 @@ made_is system code f only first built typed h =
     let p = then_parts (λ init. option_and_then (λ next. option_map (flat_over cells init next) (formulas_from names 0 code.decls)) (next_once names cells code)) (code_of names plainly (init_of code)) f h in
     let q = then_parts (λ next. option_map (flat_over cells p.0 next) (formulas_from names 0 code.decls)) (next_once names cells code) f p.2 in
     let r = map_parts (flat_over cells p.0 q.0) (formulas_from names 0 code.decls) f q.2 in
-    let s = then_parts if_once (code_of names (primed_behind (length cells)) (next_of code)) q.0 q.1 in
-    let t = if_some (is_some (written_after s.0 [])) (Some s.0) q.0 s.2 in
-    let u = some_of (written_after s.0 []) t.0 in
+    let t = if_some (is_some (written_by names (next_of code) [])) (code_of names (primed_behind (length cells)) (next_of code)) q.0 q.1 in
+    let u = some_of (written_by names (next_of code) []) t.0 in
     record {
       only = only;
       first = first;
@@ -82,8 +81,8 @@ made_is system code f only first built typed h =
       after = u.0;
       formulas = r.0;
       init_is = p.1;
-      next_is = s.1 ∙ t.1;
-      once = ap (λ code'. written_after code' []) (sym (same_Some s.0 q.0 t.1)) ∙ u.1;
+      next_is = t.1;
+      once = u.1;
       formulas_are = r.1;
       is = sym r.2;
     }
@@ -95,7 +94,7 @@ made_some system code f is =
       flat_over cells is.init is.next is.formulas,
       ap (option_and_then (λ init. option_and_then (λ next. option_map (flat_over cells init next) (formulas_from names 0 code.decls)) (next_once names cells code))) is.init_is
           ∙ ap (option_and_then (λ next. option_map (flat_over cells is.init next) (formulas_from names 0 code.decls)))
-          (ap (option_and_then if_once) is.next_is ∙ ap (λ o. if is_some o then Some is.next else None) is.once)
+          (ap (λ o. if is_some o then code_of names (primed_behind (length cells)) (next_of code) else None) is.once ∙ is.next_is)
           ∙ ap (option_map (flat_over cells is.init is.next)) is.formulas_are,
     )
 

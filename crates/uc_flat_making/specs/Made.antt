@@ -1,6 +1,6 @@
 -- The design over numbered cells of a design, or that it has none.
 use Rattle.std.specs.Prelude.{nat_eq, List, [], ◌∷◌, map, length, if◌then◌else◌, Option, Some, None, Result, Ok, Err}
-use Rattle.std.specs.Option.{option_map, option_and_then, is_some}
+use Rattle.std.specs.Option.{option_map, option_and_then}
 use Rattle.std.specs.List.{list_all}
 use Rattle.uc_syntax.specs.declared.declaration.Module.{Module}
 use Rattle.uc_meaning.specs.Lookup.{System, init_of, next_of}
@@ -8,7 +8,7 @@ use Rattle.uc_meaning.specs.Cells.{Cell, cells_of}
 use Rattle.uc_flat.specs.declared.flat.Flat.{Flat}
 use Rattle.uc_flat.specs.declared.flat.Formula.{Formula}
 use Rattle.uc_flat.specs.declared.statement.Statement.{Statement}
-use Rattle.uc_flat_once.specs.Once.{written_after}
+use Rattle.uc_flat_once.specs.Once.{code_once}
 use Rattle.uc_flat_expressions.specs.declared.typed.Meant.{Meant}
 use Rattle.uc_flat_expressions.specs.declared.typed.FlatError.{FlatError}
 use Rattle.uc_flat_expressions.specs.declared.typed.FlatError.TheVariants.{NoMemory, NotBuilt}
@@ -43,12 +43,9 @@ flat_over cells init next formulas = record {
   axioms = 0;
 }
 
--- code that writes no cell twice on one way
-abbrev pub if_once : List Statement → Option (List Statement)
-if_once code = if is_some (written_after code []) then Some code else None
-
+-- the code of the next block, where this writes no part of a cell twice on one way
 abbrev pub next_once : List Meant → List Cell → Module → Option (List Statement)
-next_once names cells code = option_and_then if_once (code_of names (primed_behind (length cells)) (next_of code))
+next_once names cells code = code_once names (primed_behind (length cells)) (next_of code)
 
 -- the design over cells by what the names stand for
 abbrev pub made_over : List Meant → List Cell → Module → Option Flat

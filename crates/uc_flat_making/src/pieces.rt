@@ -14,7 +14,6 @@ use uc_flat::{Cell, Flat, Formula, Statement};
 use uc_flat_blocks::{init_code, next_code};
 use uc_flat_code::Writing;
 use uc_flat_expressions::{FlatError, Meant};
-use uc_flat_once::writes_once;
 use uc_flat_parts::{formulas, inputs};
 use uc_flat_table::OwnCell;
 use uc_items::Items;
@@ -101,7 +100,7 @@ fn flat_over(
     })
 }
 
-/// The code of the `next` block, where it writes no cell twice on one way.
+/// The code of the `next` block, where it writes no part of a cell twice on one way.
 fn next_once(
     alloc: Global,
     names: &[Meant],
@@ -116,12 +115,7 @@ fn next_once(
         primed: true,
         shift: count,
     };
-    let next = next_code(alloc, names, writing, code)?;
-    let is_once = writes_once(alloc, next.as_slice())?;
-    if !is_once {
-        return Err(FlatError::NotBuilt);
-    }
-    Ok(next)
+    next_code(alloc, names, writing, code)
 }
 
 fn plain_code(alloc: Global, names: &[Meant], code: &Module) -> Result<Items<Statement>, FlatError>

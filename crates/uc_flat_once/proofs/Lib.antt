@@ -1,3 +1,1 @@
-pub mod Lists
-pub mod Forms
-pub mod Flagged
+pub mod After

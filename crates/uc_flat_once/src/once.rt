@@ -1,35 +1,69 @@
 //! The walk over code.
 
-ghost use Rattle.std.specs.Prelude.{◌≡◌, [], ◌||◌, max, IfOk};
+ghost use Rattle.std.specs.Prelude.{◌≡◌, ◌++◌, [], take, drop, map, slice_get, Some, IfOk};
 ghost use Rattle.std.specs.Option.{is_some};
-ghost use Rattle.uc_flat_once.specs.Once.{written_after};
-ghost use Rattle.uc_flat_once.specs.Flags.{has_flag, set_flag, either_flags, marks_cell, marker, marked_after};
+ghost use Rattle.uc_flat_expressions.specs.Answers.{IsAnswer};
+ghost use Rattle.uc_flat_code.specs.Code.{each_arm};
+ghost use Rattle.uc_meaning.specs.Steps.{fields_before, is_prefix};
+ghost use Rattle.uc_flat_once.specs.Once.{overlaps, touched, writes_part, writer_of, target_writer, writer, written_by, code_once};
+ghost use Rattle.uc_flat_once.specs.Walk.{after_one, each_after, arms_only, beside};
 
 use std::alloc::{AllocError, Global};
 use uc_flat::Statement;
-use uc_items::Items;
+use uc_flat_code::{Writing, flat_code};
+use uc_flat_expressions::{FlatError, Meant};
+use uc_items::{Items, at};
+use uc_syntax::{Arm, Stmt, Target, TargetPart};
 
-/// Whether no way through the code writes a cell twice.
-#[tactic(auto, using(crate::proofs::Flagged::once_flagged))]
-pub fn writes_once(alloc: Global, code: &[Statement]) -> Result<bool, AllocError>
-    ensures { IfOk result (λ b. b ≡ is_some (written_after code.now [])) }
+/// A part of a cell: the cell's number, and the names of the fields down to the part.
+#[derive(Drop)]
+pub struct Part {
+    pub cell: u32,
+    pub fields: Items<u32>,
+}
+
+/// The code over cells of a next block that writes no part of a cell twice on one way, where names stand for what is listed by their numbers.
+/// Not built is what `flat_code` does not build, and a part that is written again.
+#[tactic(auto, using(crate::proofs::After::once_err, crate::proofs::After::once_again, crate::proofs::After::once_built))]
+pub fn code_once(
+    alloc: Global,
+    names: &[Meant],
+    writing: Writing,
+    code: &[Stmt],
+) -> Result<Items<Statement>, FlatError>
+    ensures { IsAnswer (code_once names.now writing code.now) result }
 {
-    let after = after_code(alloc, code, Items::new(alloc))?;
+    let flat = flat_code(alloc, names, writing, code)?;
+    let is_once = writes_once(alloc, names, code)?;
+    if !is_once {
+        return Err(FlatError::NotBuilt);
+    }
+    Ok(flat)
+}
+
+/// Whether no way through the code writes a part of a cell twice.
+#[tactic(auto, using(crate::proofs::After::once_told))]
+fn writes_once(alloc: Global, names: &[Meant], code: &[Stmt]) -> Result<bool, AllocError>
+    ensures { IfOk result (λ b. b ≡ is_some (written_by names.now code.now [])) }
+{
+    let after = after_code(alloc, names, code, Items::new(alloc))?;
     Ok(after.is_some())
 }
 
+/// The parts that were written before, and those that code writes, unless one is written again.
 #[cycle(after_code)]
-#[tactic(auto, unfolding(crate::specs::Flags::each_marks))]
+#[tactic(auto, unfolding(crate::specs::Walk::each_after))]
 fn after_code(
     alloc: Global,
-    code: &[Statement],
-    flags: Items<bool>,
-) -> Result<Option<Items<bool>>, AllocError>
-    ensures { IfOk result (λ o. o ≡ marked_after code.now flags) }
+    names: &[Meant],
+    code: &[Stmt],
+    before: Items<Part>,
+) -> Result<Option<Items<Part>>, AllocError>
+    ensures { IfOk result (λ o. o ≡ each_after (map (writer names.now) code.now) before) }
 {
-    let mut now = flags;
+    let mut now = before;
     for statement in code {
-        match after_statement(alloc, statement, now)? {
+        match after_statement(alloc, names, statement, now)? {
             Some(more) => now = more,
             None => return Ok(None),
         }
@@ -38,84 +72,215 @@ fn after_code(
 }
 
 #[cycle(after_code)]
-#[tactic(auto, using(crate::proofs::Forms::assign_marks, crate::proofs::Forms::havoc_marks, crate::proofs::Forms::assume_marks, crate::proofs::Forms::assert_marks, crate::proofs::Forms::if_first, crate::proofs::Forms::if_second, crate::proofs::Forms::if_both))]
+#[tactic(auto, using(crate::proofs::After::block_told, crate::proofs::After::havoc_told, crate::proofs::After::assign_told, crate::proofs::After::if_none, crate::proofs::After::if_alone, crate::proofs::After::if_else_none, crate::proofs::After::if_else, crate::proofs::After::case_none, crate::proofs::After::case_alone, crate::proofs::After::case_else_none, crate::proofs::After::case_else, crate::proofs::After::local_told, crate::proofs::After::skip_told, crate::proofs::After::assert_told, crate::proofs::After::assume_told, crate::proofs::After::for_told, crate::proofs::After::call_told, crate::proofs::After::next_told))]
 fn after_statement(
     alloc: Global,
-    statement: &Statement,
-    flags: Items<bool>,
-) -> Result<Option<Items<bool>>, AllocError>
-    ensures { IfOk result (λ o. o ≡ marker statement.now flags) }
+    names: &[Meant],
+    statement: &Stmt,
+    before: Items<Part>,
+) -> Result<Option<Items<Part>>, AllocError>
+    ensures { IfOk result (λ o. o ≡ after_one (writer names.now statement.now) before) }
 {
     match statement {
-        Statement::Assign(cell, _) => mark(flags, *cell),
-        Statement::Havoc(cell, _) => mark(flags, *cell),
-        Statement::Assume(_) => Ok(Some(flags)),
-        Statement::Assert(..) => Ok(Some(flags)),
-        Statement::If(_, first, second) => {
-            let copy = Items::from_slice(alloc, flags.as_slice())?;
-            let Some(one) = after_code(alloc, first.as_slice(), flags)? else {
+        Stmt::Block(_, block) => after_code(alloc, names, block.as_slice(), before),
+        Stmt::Havoc(_, name, _) => after_name(names, name.name, Items::new(alloc), before),
+        Stmt::Assign(_, targets, _) => after_targets(alloc, names, targets.as_slice(), before),
+        Stmt::If(_, arms, otherwise) => {
+            let start = before.len();
+            let Some((now, found)) = after_arms(alloc, names, arms.as_slice(), before)? else {
                 return Ok(None);
             };
-            let Some(other) = after_code(alloc, second.as_slice(), copy)? else {
+            match otherwise {
+                None => joined(alloc, now, start, found),
+                Some(block) => {
+                    let Some(after) = after_code(alloc, names, block.as_slice(), now)? else {
+                        return Ok(None);
+                    };
+                    joined(alloc, after, start, found)
+                }
+            }
+        }
+        Stmt::Case(_, arms, otherwise) => {
+            let start = before.len();
+            let Some((now, found)) = after_arms(alloc, names, arms.as_slice(), before)? else {
                 return Ok(None);
             };
-            let both = either_flags(alloc, one.as_slice(), other.as_slice())?;
-            Ok(Some(both))
+            match otherwise {
+                None => joined(alloc, now, start, found),
+                Some(block) => {
+                    let Some(after) = after_code(alloc, names, block.as_slice(), now)? else {
+                        return Ok(None);
+                    };
+                    joined(alloc, after, start, found)
+                }
+            }
+        }
+        Stmt::Local(..) => Ok(Some(before)),
+        Stmt::Skip(_) => Ok(Some(before)),
+        Stmt::Assert(..) => Ok(Some(before)),
+        Stmt::Assume(..) => Ok(Some(before)),
+        Stmt::For(..) => Ok(Some(before)),
+        Stmt::Call(..) => Ok(Some(before)),
+        Stmt::Next(..) => Ok(Some(before)),
+    }
+}
+
+/// The parts from before again, and those that any of the arms writes.
+#[cycle(after_code)]
+#[tactic(auto, unfolding(crate::specs::Walk::each_after))]
+fn after_arms(
+    alloc: Global,
+    names: &[Meant],
+    arms: &[Arm<Stmt>],
+    before: Items<Part>,
+) -> Result<Option<(Items<Part>, Items<Part>)>, AllocError>
+    ensures { IfOk result (λ o. o ≡ beside before (arms_only (map (each_arm (writer names.now)) arms.now) before)) }
+{
+    let start = before.len();
+    let mut now = before;
+    let mut found = Items::new(alloc);
+    for arm in arms {
+        let block = arm.body.as_slice();
+        for statement in block {
+            match after_statement(alloc, names, statement, now)? {
+                Some(more) => now = more,
+                None => return Ok(None),
+            }
+        }
+        let (front, more) = split(alloc, now, start)?;
+        now = front;
+        found.append(more)?;
+    }
+    Ok(Some((now, found)))
+}
+
+/// The parts with those of the arms before the ones behind the first, so many.
+fn joined(
+    alloc: Global,
+    after: Items<Part>,
+    start: usize,
+    found: Items<Part>,
+) -> Result<Option<Items<Part>>, AllocError>
+    ensures { IfOk result (λ o. o ≡ Some ((take start after ++ found) ++ drop start after)) }
+{
+    let (mut all, more) = split(alloc, after, start)?;
+    all.append(found)?;
+    all.append(more)?;
+    Ok(Some(all))
+}
+
+/// The first parts, so many, and those behind them.
+#[tactic(auto, using(crate::proofs::After::take_all, crate::proofs::After::drop_none))]
+fn split(
+    alloc: Global,
+    parts: Items<Part>,
+    count: usize,
+) -> Result<(Items<Part>, Items<Part>), AllocError>
+    ensures { IfOk result (λ both. (both.0 ≡ take count parts) × (both.1 ≡ drop count parts)) }
+{
+    let mut front = parts.into_vec();
+    if front.len() < count {
+        return Ok((Items::from_vec(front), Items::new(alloc)));
+    }
+    let behind = front.split_off(count)?;
+    Ok((Items::from_vec(front), Items::from_vec(behind)))
+}
+
+/// The parts after each target is written.
+#[tactic(auto, unfolding(crate::specs::Walk::each_after))]
+fn after_targets(
+    alloc: Global,
+    names: &[Meant],
+    targets: &[Target],
+    before: Items<Part>,
+) -> Result<Option<Items<Part>>, AllocError>
+    ensures { IfOk result (λ o. o ≡ each_after (map (target_writer names.now) targets.now) before) }
+{
+    let mut now = before;
+    for target in targets {
+        let fields = fields_before(alloc, target.parts.as_slice())?;
+        match after_name(names, target.name, fields, now)? {
+            Some(more) => now = more,
+            None => return Ok(None),
         }
     }
+    Ok(Some(now))
 }
 
-fn has_flag(flags: &[bool], k: usize) -> bool
-    ensures { result ≡ has_flag flags.now k }
+/// The names of the fields up to the first index.
+#[tactic(auto, unfolding(uc_meaning::specs::Steps::fields_before))]
+fn fields_before(alloc: Global, parts: &[TargetPart]) -> Result<Items<u32>, AllocError>
+    ensures { IfOk result (λ fields. fields ≡ fields_before parts.now) }
 {
-    if k < flags.len() { flags[k] } else { false }
+    let mut fields = Items::new(alloc);
+    for part in parts {
+        let TargetPart::Field(_, name) = part else {
+            return Ok(fields);
+        };
+        fields.push(name.name)?;
+    }
+    Ok(fields)
 }
 
-/// The flags with that of a cell, where it has none yet.
-fn mark(flags: Items<bool>, cell: u32) -> Result<Option<Items<bool>>, AllocError>
-    ensures { IfOk result (λ o. o ≡ marks_cell cell flags) }
+/// The parts after a part of the cell that a name stands for is written.
+fn after_name(
+    names: &[Meant],
+    name: u32,
+    fields: Items<u32>,
+    before: Items<Part>,
+) -> Result<Option<Items<Part>>, AllocError>
+    ensures { IfOk result (λ o. o ≡ after_one (writer_of (slice_get names.now name) fields) before) }
 {
-    if has_flag(flags.as_slice(), cell as usize) {
+    match at(names, name as usize) {
+        Some(Meant::Cell(cell, _, _)) => {
+            let cell = *cell;
+            after_part(Part { cell, fields }, before)
+        }
+        _ => Ok(Some(before)),
+    }
+}
+
+fn after_part(part: Part, before: Items<Part>) -> Result<Option<Items<Part>>, AllocError>
+    ensures { IfOk result (λ o. o ≡ after_one (writes_part part) before) }
+{
+    if touched(before.as_slice(), &part) {
         return Ok(None);
     }
-    let more = set_flag(flags, cell as usize)?;
-    Ok(Some(more))
+    let mut all = before;
+    all.push(part)?;
+    Ok(Some(all))
 }
 
-#[tactic(auto, using(crate::proofs::Lists::set_longer, crate::proofs::Lists::set_within))]
-fn set_flag(flags: Items<bool>, k: usize) -> Result<Items<bool>, AllocError>
-    ensures { IfOk result (λ more. more ≡ set_flag flags k) }
+/// Whether a part overlaps one of these.
+#[tactic(auto, unfolding(crate::specs::Once::touched))]
+fn touched(parts: &[Part], part: &Part) -> bool
+    ensures { result ≡ touched parts.now part.now }
 {
-    let mut more = flags;
-    while more.len() <= k {
-        more.push(false)?;
+    for one in parts {
+        if overlaps(one, part) {
+            return true;
+        }
     }
-    more.set(k, true);
-    Ok(more)
+    false
 }
 
-/// Whether either list has the flag.
-fn either_flag(a: &[bool], b: &[bool], k: usize) -> bool
-    ensures { result ≡ has_flag a.now k || has_flag b.now k }
+fn overlaps(one: &Part, other: &Part) -> bool
+    ensures { result ≡ overlaps one.now other.now }
 {
-    has_flag(a, k) || has_flag(b, k)
+    let (fields, others) = (one.fields.as_slice(), other.fields.as_slice());
+    one.cell == other.cell && (is_prefix(fields, others) || is_prefix(others, fields))
 }
 
-fn greater(a: usize, b: usize) -> usize
-    ensures { result ≡ max a b }
+/// Whether a list begins with another.
+#[tactic(auto, unfolding(uc_meaning::specs::Steps::is_prefix))]
+fn is_prefix(front: &[u32], whole: &[u32]) -> bool
+    ensures { result ≡ is_prefix front.now whole.now }
 {
-    if a < b { b } else { a }
-}
-
-/// The flags of either list.
-fn either_flags(alloc: Global, a: &[bool], b: &[bool]) -> Result<Items<bool>, AllocError>
-    ensures { IfOk result (λ both. both ≡ either_flags a.now b.now) }
-{
-    let mut both = Items::new(alloc);
-    let count = greater(a.len(), b.len());
-    for k in 0..count {
-        let flag = either_flag(a, b, k);
-        both.push(flag)?;
-    }
-    Ok(both)
+    let Some((first, front)) = front.split_first() else {
+        return true;
+    };
+    let Some((own, whole)) = whole.split_first() else {
+        return false;
+    };
+    *first == *own && is_prefix(front, whole)
 }

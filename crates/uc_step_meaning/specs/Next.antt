@@ -25,7 +25,8 @@ use Rattle.uc_flat_code.specs.declared.writing.Writing.{Writing}
 use Rattle.uc_flat_code.specs.Code.{code_of}
 use Rattle.uc_code_meaning.specs.Tables.{Scopes, IsTable}
 use Rattle.uc_same_values.specs.Same.{has_no_array}
-use Rattle.uc_flat_once.specs.Once.{written_after}
+use Rattle.uc_flat_once.specs.declared.once.Part.{Part}
+use Rattle.uc_flat_once.specs.Once.{written_by}
 
 -- in main, between an old and a new state
 abbrev pub between : Interp → List Value → Scopes
@@ -88,7 +89,7 @@ StepFoundLaw =
     → IsNextCode system m names i cells code flat → FitAll (types_in cells) old → FitAll (types_in cells) new
     → IsAsked system blocks i cells code old new choices sites → IsFound m cells flat old new choices sites
 
--- Where the code over cells leads from one state to another, and no way through it writes a cell twice, the next block holds between the two, with no choices and no sites.
+-- Where the code over cells leads from one state to another, and no way through the next block writes a part of a cell twice, the next block holds between the two, with no choices and no sites.
 pub record IsStepThere (system : System) (blocks : Blocks) (i : Interp) (cells : List Cell) (code : List Stmt) (old new choices : List Value) (sites : List ℕ) : Type 0 where
   pub no_choices : choices ≡ []
   pub no_sites : sites ≡ []
@@ -96,8 +97,8 @@ pub record IsStepThere (system : System) (blocks : Blocks) (i : Interp) (cells :
 
 abbrev pub StepIsLaw : Type 0
 StepIsLaw =
-    (system : System) (blocks : Blocks) (i : Interp) (m : Model) (names : List Meant) (cells : List Cell) (code : List Stmt) (flat : List Statement) (old new choices : List Value) (sites : List ℕ) (after : List ℕ)
-    → IsNextCode system m names i cells code flat → written_after flat [] ≡ Some after → FitAll (types_in cells) old → FitAll (types_in cells) new
+    (system : System) (blocks : Blocks) (i : Interp) (m : Model) (names : List Meant) (cells : List Cell) (code : List Stmt) (flat : List Statement) (old new choices : List Value) (sites : List ℕ) (after : List Part)
+    → IsNextCode system m names i cells code flat → written_by names code [] ≡ Some after → FitAll (types_in cells) old → FitAll (types_in cells) new
     → IsReached m (types_in cells) (step_code cells flat) old new choices sites → IsStepThere system blocks i cells code old new choices sites
 
 -- The code over cells leads from fitting cells to fitting cells.

@@ -8,7 +8,7 @@ pub fn next_found()
     ensures { StepFoundLaw }
 {}
 
-/// Each step of the code over cells is one of the design, where no way through the code writes a cell twice.
+/// Each step of the code over cells is one of the design, where no way through the next block writes a part of a cell twice.
 pub fn next_asks()
     ensures { StepIsLaw }
 {}

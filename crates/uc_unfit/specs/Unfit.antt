@@ -24,11 +24,11 @@ use Rattle.uc_flat_expressions.specs.declared.typed.Meant.{Meant}
 use Rattle.uc_flat_expressions.specs.Expressions.{flat_of}
 use Rattle.uc_flat_code.specs.declared.writing.Writing.{Writing}
 use Rattle.uc_flat_code.specs.Code.{code_of}
+use Rattle.uc_flat_once.specs.Once.{code_once}
 use Rattle.uc_flat_names.specs.Names.{names_over_cells}
 use Rattle.uc_code_meaning.specs.Sequential.{plainly}
 use Rattle.uc_step_meaning.specs.Next.{primed_behind}
 use Rattle.uc_flat_design.specs.Design.{is_built, is_cell_type, condition_of}
-use Rattle.uc_flat_making.specs.Made.{if_once}
 use Rattle.uc_fragment.specs.Plain.{with_variables, is_print, unknown_type}
 
 -- the place of a part, where nothing came of it
@@ -63,9 +63,9 @@ unfit_statement names w s = unless_there (begins_at s) (code_of names w (s ∷ [
 abbrev pub unfit_block : List Meant → Writing → List Stmt → Option Place
 unfit_block names w block = first_some (unfit_statement names w) block
 
--- the same of a next block; then the block itself, where it writes a cell twice on one way
+-- the same of a next block; then the block itself, where it writes a part of a cell twice on one way
 abbrev pub unfit_next : List Meant → Writing → Place → List Stmt → Option Place
-unfit_next names w place block = or_else (unfit_block names w block) (unless_there place (option_and_then if_once (code_of names w block)))
+unfit_next names w place block = or_else (unfit_block names w block) (unless_there place (code_once names w block))
 
 -- ---- declarations
 

@@ -1,15 +1,15 @@
 //! Statements that have no code over cells.
 
 ghost use Rattle.std.specs.Prelude.{◌≡◌, ◌∷◌, [], IfOk};
-ghost use Rattle.std.specs.Option.{is_some, option_and_then};
+ghost use Rattle.std.specs.Option.{is_some};
 ghost use Rattle.uc_flat_code.specs.Code.{code_of};
-ghost use Rattle.uc_flat_making.specs.Made.{if_once};
+ghost use Rattle.uc_flat_once.specs.Once.{code_once};
 ghost use Rattle.uc_unfit.specs.Unfit.{begins_at, unless_there, unfit_statement, unfit_block, unfit_next};
 
 use std::alloc::{AllocError, Global};
 use uc_flat_code::{Writing, flat_code};
 use uc_flat_expressions::{FlatError, Meant};
-use uc_flat_once::writes_once;
+use uc_flat_once::code_once;
 use uc_syntax::{Place, Stmt};
 
 /// The place where a statement begins.
@@ -50,17 +50,18 @@ fn has_code(
     }
 }
 
-/// Whether code has code over cells that writes no cell twice on one way.
+/// Whether a next block has code over cells, and writes no part of a cell twice on one way.
+#[tactic(auto, using(crate::proofs::Answers::there, crate::proofs::Answers::not_there))]
 fn has_code_once(
     alloc: Global,
     names: &[Meant],
     writing: Writing,
     block: &[Stmt],
 ) -> Result<bool, AllocError>
-    ensures { IfOk result (λ b. b ≡ is_some (option_and_then if_once (code_of names.now writing block.now))) }
+    ensures { IfOk result (λ b. b ≡ is_some (code_once names.now writing block.now)) }
 {
-    match flat_code(alloc, names, writing, block) {
-        Ok(code) => writes_once(alloc, code.as_slice()),
+    match code_once(alloc, names, writing, block) {
+        Ok(_) => Ok(true),
         Err(FlatError::NotBuilt) => Ok(false),
         Err(FlatError::NoMemory) => Err(AllocError),
     }
@@ -84,7 +85,7 @@ pub(crate) fn unfit_block(
     Ok(None)
 }
 
-/// The same of a next block that begins at a place; then the block itself, where it writes a cell twice on one way.
+/// The same of a next block that begins at a place; then the block itself, where it writes a part of a cell twice on one way.
 pub(crate) fn unfit_next(
     alloc: Global,
     names: &[Meant],

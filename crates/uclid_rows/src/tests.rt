@@ -169,6 +169,62 @@ const TYPED: [Row; 7] = [
     ),
 ];
 
+/// Targets with fields, several targets, and `havoc` in a `next` block.
+const TARGETS: [Row; 9] = [
+    // A field that is not written keeps its value, and two fields of one record are written on one way.
+    (
+        b"module main {\n  type c = enum { red, green };\n  type r = record { k : c, n : bv2 };\n  input go : boolean;\n  var s : r;\n  init { s.k = red; s.n = 0bv2; }\n  next { if (go) { s'.k = green; s'.n = s.n + 1bv2; } }\n  invariant z : s.k == red ==> s.n == 0bv2;\n  control { unroll(2); check; print_results; }\n}\n",
+        0,
+        b"3 assertions passed.\n0 assertions failed.\n0 assertions indeterminate.\n  PASSED -> unroll [step 0] invariant z\n  PASSED -> unroll [step 1] invariant z\n  PASSED -> unroll [step 2] invariant z\n",
+    ),
+    // The order of the statements of a next block has no meaning; a field of a field is written in a conditional of its own.
+    (
+        b"module main { type p = record { a : bv2, b : bv2 }; type q = record { u : p, v : p }; var s : q; init { s.u.a = 0bv2; s.v = s.u; s.v.a = 1bv2; } next { s'.v.a = s.u.a; s'.u.a = s.v.a; if (s.u.b == 0bv2) { s'.v.b = 1bv2; } } invariant i : s.u.a + s.v.a == 1bv2; invariant j : s.u.b == s.v.b; control { unroll(1); check; print_results; } }",
+        1,
+        b"3 assertions passed.\n1 assertions failed.\n0 assertions indeterminate.\n  PASSED -> unroll [step 0] invariant i\n  PASSED -> unroll [step 0] invariant j\n  PASSED -> unroll [step 1] invariant i\n  FAILED -> unroll [step 1] invariant j\n",
+    ),
+    // All sources have their values from before.
+    (
+        b"module main { var a, b : bv4; init { a, b = 1bv4, 2bv4; } next { a', b' = b, a; } invariant s : a + b == 3bv4; invariant one : a == 1bv4; control { unroll(1); check; print_results; } }",
+        1,
+        b"3 assertions passed.\n1 assertions failed.\n0 assertions indeterminate.\n  PASSED -> unroll [step 0] invariant s\n  PASSED -> unroll [step 0] invariant one\n  PASSED -> unroll [step 1] invariant s\n  FAILED -> unroll [step 1] invariant one\n",
+    ),
+    // In a next block `havoc` means the same with a prime and without.
+    (
+        b"module main { var a, b : boolean; init { a, b = true, true; } next { havoc a; havoc b'; } invariant x : a; invariant y : b; control { unroll(1); check; print_results; } }",
+        1,
+        b"2 assertions passed.\n2 assertions failed.\n0 assertions indeterminate.\n  PASSED -> unroll [step 0] invariant x\n  PASSED -> unroll [step 0] invariant y\n  FAILED -> unroll [step 1] invariant x\n  FAILED -> unroll [step 1] invariant y\n",
+    ),
+    // A part that is written twice on one way, and a part of one that is written: the block is told.
+    (
+        b"module main { type p = record { a : bv2, b : bv2 }; var s : p; next { s'.a = 1bv2; s'.a = 1bv2; } }",
+        3,
+        b"error 33 in m.ucl at line 1, column 64\n",
+    ),
+    (
+        b"module main { type p = record { a : bv2, b : bv2 }; var s : p; next { s' = s; s'.a = 1bv2; } }",
+        3,
+        b"error 33 in m.ucl at line 1, column 64\n",
+    ),
+    // A source of another type than the field, and a field that is not there: the statement is told.
+    (
+        b"module main { type p = record { a : bv2, b : bv2 }; var s : p; init { s.a = 1bv3; } }",
+        3,
+        b"error 33 in m.ucl at line 1, column 71\n",
+    ),
+    (
+        b"module main { type p = record { a : bv2, b : bv2 }; var s : p; init { s.c = 1bv2; } }",
+        3,
+        b"error 33 in m.ucl at line 1, column 71\n",
+    ),
+    // In init code a source may not read what a target before its own writes.
+    (
+        b"module main { var a, b : bv4; init { a, b = b, a; } }",
+        3,
+        b"error 33 in m.ucl at line 1, column 38\n",
+    ),
+];
+
 /// Control blocks that print counterexamples, or nothing.
 const PRINTED: [Row; 5] = [
     (
@@ -309,6 +365,12 @@ fn designs_are_judged(rt: HostRuntime) -> Result<(), Fail> {
 #[test]
 fn designs_of_finite_types_are_judged(rt: HostRuntime) -> Result<(), Fail> {
     check_rows(&rt, rt.alloc(), &TYPED)?;
+    Ok(())
+}
+
+#[test]
+fn targets_are_written_part_by_part(rt: HostRuntime) -> Result<(), Fail> {
+    check_rows(&rt, rt.alloc(), &TARGETS)?;
     Ok(())
 }
 
