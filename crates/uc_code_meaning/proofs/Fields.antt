@@ -291,7 +291,7 @@ stays_part (f ∷ fields) (o ∷ others) r w g k h j e =
 
     by_test : (q : Bool) → nat_eq o f ≡ q
         → (has_part (field_type r.type o) fields ≡ true → part_reading (field_reading r o) fields ≡ part_reading (field_reading (reads r.type w) o) fields → Unit {0}
-          → part_reading (reads (field_type r.type o) inner) fields ≡ part_reading (field_reading (reads r.type w) o) fields)
+        → part_reading (reads (field_type r.type o) inner) fields ≡ part_reading (field_reading (reads r.type w) o) fields)
         → part_reading (field_reading (reads r.type (with_field r.value (place_of r.type o) inner)) f) fields ≡ part_reading (field_reading (reads r.type w) f) fields
     by_test false t deeper = ap (λ s. part_reading s fields) (read_other r.type r.value o f inner g d.0 b.0 t) ∙ e
     by_test true t deeper =

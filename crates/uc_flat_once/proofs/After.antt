@@ -216,7 +216,7 @@ rest_none names arms block before now found h e =
   where
     given : (o : Option (List Part)) → Some (pair now found) ≡ beside before o → now ≡ before
     given None q = absurd (cc)
-    given (Some xs) q = cc
+    given (Some xs) q = let p : pair now found ≡ pair before xs = cc in ap (λ (z : List Part × List Part). z.0) p
 
     nothing : (o : Option (List Part)) → either_writes o None ≡ None
     nothing None = refl

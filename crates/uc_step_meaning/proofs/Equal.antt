@@ -14,7 +14,6 @@ use Rattle.uc_meaning.specs.Steps.{part_reading, has_part, is_prefix}
 use Rattle.uc_flat_code.specs.Code.{are_different}
 use Rattle.uc_code_meaning.proofs.Fields.{name_is, has_field, place_of, is_nat, HasField, field_of_fit, field_fits, IsPath}
 
-
 -- ---- fields of different names
 
 any_at : (test : Field Ty → Bool) (fs : List (Field Ty)) (k : ℕ) (d : Field Ty) → slice_get fs k ≡ Some d → test d ≡ true → list_any test fs ≡ true
@@ -145,12 +144,12 @@ same_records t v w f a b different has each =
     let i = field_of_fit t v f a has in
     let j = field_of_fit t w f b has in
     let at : (k : ℕ) → k < length i.parts → slice_index_or i.parts k (truth false) ≡ slice_index_or j.parts k (truth false) = λ k l.
-        let d = item_at (fields_of t) k (omega (arith, l, i.even)) in
-        let place : place_of t d.0.name ≡ k = ap (λ o. unwrap_or o 0) (place_is (fields_of t) k 0 d.0 different d.1) ∙ omega arith in
-        let has_it : has_field t d.0.name ≡ true = any_at (name_is d.0.name) (fields_of t) k d.0 d.1 (same_nat d.0.name) in
-        sym (ap (λ xs. slice_index_or xs (place_of t d.0.name) (truth false)) i.own ∙ ap (λ x. slice_index_or i.parts x (truth false)) place)
-        ∙ each d.0.name has_it
-        ∙ (ap (λ xs. slice_index_or xs (place_of t d.0.name) (truth false)) j.own ∙ ap (λ x. slice_index_or j.parts x (truth false)) place) in
+    let d = item_at (fields_of t) k (omega (arith, l, i.even)) in
+    let place : place_of t d.0.name ≡ k = ap (λ o. unwrap_or o 0) (place_is (fields_of t) k 0 d.0 different d.1) ∙ omega arith in
+    let has_it : has_field t d.0.name ≡ true = any_at (name_is d.0.name) (fields_of t) k d.0 d.1 (same_nat d.0.name) in
+    sym (ap (λ xs. slice_index_or xs (place_of t d.0.name) (truth false)) i.own ∙ ap (λ x. slice_index_or i.parts x (truth false)) place)
+    ∙ each d.0.name has_it
+    ∙ (ap (λ xs. slice_index_or xs (place_of t d.0.name) (truth false)) j.own ∙ ap (λ x. slice_index_or j.parts x (truth false)) place) in
     i.is ∙ ap Rec (same_values i.parts j.parts (i.even ∙ sym j.even) at) ∙ sym j.is
 
 -- Fitting values whose parts behind some paths are the same are equal, where so are all parts that meet none of the paths.

@@ -178,7 +178,7 @@ keeps_same (c ∷ cells) j (suc k) ms (v ∷ vs) (w ∷ ws) fields p f g h l the
 -- Parts that are the same where they are in no input and are not written keep their values.
 pub keeps_all : (cells : List Cell) (j : ℕ) (ms : List Effect) (vs ws : List Value) → ArePlain (types_in cells) → FitAll (types_in cells) vs
     → ((k : ℕ) (fields : List ℕ) → k < length cells → has_part (part_type (types_in cells) k) fields ≡ true → touched (parts_of (input_effects j cells)) (at_fields (j + k) fields) ≡ false → touched (parts_of ms) (at_fields (j + k) fields) ≡ false
-      → SamePart (part_type (types_in cells) k) (part vs k) (part ws k) fields) → AllKeep (parts_in ms) j cells vs ws
+    → SamePart (part_type (types_in cells) k) (part vs k) (part ws k) fields) → AllKeep (parts_in ms) j cells vs ws
 unfolding FitAll AllKeep
 keeps_all [] j ms vs ws p f h = tt
 keeps_all (c ∷ cells) j ms [] ws p f h = tt

@@ -1,4 +1,4 @@
-use Rattle.uc_flat_once.proofs.After.{block_told, havoc_told, assign_told, if_none, if_else_none, case_none, case_else_none, statement_none, block_done, arm_none, arm_front, arm_step, arms_done}
+use Rattle.uc_flat_once.proofs.After.{block_told, havoc_told, assign_told, if_none, if_alone, if_else_none, if_else, case_none, case_alone, case_else_none, case_else, statement_none, block_done, arm_none, arm_front, arm_step, arms_done}
 use Rattle.uc_flat_once.proofs.once.+after_code.Goals as goal
 
 pub after_arms-returns-in-None : goal.after_arms-returns-in-None
@@ -49,3 +49,25 @@ after_statement-returns-in-Havoc t c =
 pub after_statement-returns-in-Assign : goal.after_statement-returns-in-Assign
 after_statement-returns-in-Assign t c =
     assign_told c.args.names.now c.args.statement.now c.in-Assign.field-0 c.in-Assign.targets c.as_slice-in-Assign.result.now c.in-Assign.field-2 c.args.before c.after_targets.result c.in-Assign.is c.as_slice-in-Assign.ensures c.after_targets.ensures
+
+pub after_statement-returns-in-None : goal.after_statement-returns-in-None
+after_statement-returns-in-None t c =
+    if_alone c.args.names.now c.args.statement.now c.in-If.field-0 c.in-If.arms c.as_slice-in-If.result.now c.in-If.otherwise c.args.before c.in-Some.now c.in-Some.found c.len-start.result c.in_ok-now-in-If.field-0 c.joined.result c.in-If.is
+    c.as_slice-in-If.ensures c.in-None.is c.len-start.ensures c.in_ok-now-in-If.ensures c.in-Some.is c.joined.ensures
+
+pub after_statement-returns-in-Some-2 : goal.after_statement-returns-in-Some-2
+after_statement-returns-in-Some-2 t c =
+    if_else c.args.names.now c.args.statement.now c.in-If.field-0 c.in-If.arms c.as_slice-in-If.result.now c.in-If.otherwise c.in-Some-otherwise.block c.as_slice-in-Some-otherwise.result.now c.args.before c.in-Some.now c.in-Some.found c.in-Some-2.after c.len-start.result
+    c.in_ok-now-in-If.field-0 c.in_ok-after-in-Some-otherwise.field-0 c.joined-in-Some-otherwise.result c.in-If.is c.as_slice-in-If.ensures c.in-Some-otherwise.is c.as_slice-in-Some-otherwise.ensures c.len-start.ensures c.in_ok-now-in-If.ensures c.in-Some.is
+    c.in_ok-after-in-Some-otherwise.ensures c.in-Some-2.is c.joined-in-Some-otherwise.ensures
+
+pub after_statement-returns-in-None-otherwise : goal.after_statement-returns-in-None-otherwise
+after_statement-returns-in-None-otherwise t c =
+    case_alone c.args.names.now c.args.statement.now c.in-Case.field-0 c.in-Case.arms c.as_slice-in-Case.result.now c.in-Case.otherwise c.args.before c.in-Some-3.now c.in-Some-3.found c.len-start-in-Case.result c.in_ok-now-in-Case.field-0 c.joined-in-None-otherwise.result
+    c.in-Case.is c.as_slice-in-Case.ensures c.in-None-otherwise.is c.len-start-in-Case.ensures c.in_ok-now-in-Case.ensures c.in-Some-3.is c.joined-in-None-otherwise.ensures
+
+pub after_statement-returns-in-Some-4 : goal.after_statement-returns-in-Some-4
+after_statement-returns-in-Some-4 t c =
+    case_else c.args.names.now c.args.statement.now c.in-Case.field-0 c.in-Case.arms c.as_slice-in-Case.result.now c.in-Case.otherwise c.in-Some-otherwise-2.block c.as_slice-in-Some-otherwise-2.result.now c.args.before c.in-Some-3.now c.in-Some-3.found c.in-Some-4.after
+    c.len-start-in-Case.result c.in_ok-now-in-Case.field-0 c.in_ok-after-in-Some-otherwise-2.field-0 c.joined-in-Some-otherwise-2.result c.in-Case.is c.as_slice-in-Case.ensures c.in-Some-otherwise-2.is c.as_slice-in-Some-otherwise-2.ensures c.len-start-in-Case.ensures
+    c.in_ok-now-in-Case.ensures c.in-Some-3.is c.in_ok-after-in-Some-otherwise-2.ensures c.in-Some-4.is c.joined-in-Some-otherwise-2.ensures
