@@ -1,10 +1,9 @@
 -- Tables that go on from one another, simplified terms, and the terms of axioms and goals.
-use Rattle.std.proofs.Common.{◌≡◌, ℕ, ◌+◌, ◌<◌, ◌≤◌, List, [], ◌∷◌, ◌++◌, length, map, take, Some, refl, sym, ap, ◌∙◌, subst, arith, get_or, slice_get, slice_index, append-nil}
+use Rattle.std.proofs.Common.{◌≡◌, ℕ, ◌+◌, ◌<◌, ◌≤◌, List, [], ◌∷◌, length, map, take, Some, refl, sym, ap, ◌∙◌, subst, arith, get_or, slice_get, slice_index, append-nil}
 use Rattle.std.specs.Prelude.{All, not, ◌&&◌, zero, suc}
 use Rattle.std.specs.List.{list_all, flat_map}
-use Rattle.std.proofs.lemmas.List.{take_more, take_all, map-append}
 use Rattle.std.proofs.lemmas.List.{length-take-le}
-use Rattle.std.proofs.lemmas.List.Elements.{All-head, All-tail, All-push, All-cons, All-nil}
+use Rattle.std.proofs.lemmas.List.Elements.{All-head, All-tail, All-cons, All-nil}
 use Rattle.std.proofs.lemmas.Option.{get_or_from_slice_get}
 use Rattle.uc_ops.proofs.Lists.{at_place}
 use Rattle.uc_symstep.proofs.Runs.{axiom_more, two_there, refuted_is}
@@ -17,7 +16,6 @@ use Rattle.uc_ops.specs.declared.model.Model.{Model}
 use Rattle.uc_ops.specs.declared.node.Node.{Node}
 use Rattle.uc_ops.specs.Typing.{type_at}
 use Rattle.uc_terms.specs.Values.{value}
-use Rattle.uc_terms.specs.Laws.{SameUnderEveryModel}
 use Rattle.uc_simplify.specs.Simplified.{Grows as GoesOn}
 use Rattle.uc_simplify.specs.Walking.{AllAnswered}
 use Rattle.uc_flat.specs.declared.flat.Flat.{Flat}
