@@ -1,0 +1,5 @@
+use Rattle.uc_cycles.proofs.Entering.{name_new}
+use Rattle.uc_cycles.proofs.names.NameNumbers.enter.Goals as goal
+
+pub returns-in_ok-enter_new-in-None : goal.returns-in_ok-enter_new-in-None
+returns-in_ok-enter_new-in-None c = λ knows. name_new c.args.self.now c.enter_new.new.self c.args.name c.in-None.ensures c.in_ok-enter_new-in-None.ensures.numbers c.in_ok-enter_new-in-None.ensures.keys knows

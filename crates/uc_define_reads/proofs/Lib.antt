@@ -1,0 +1,6 @@
+mod Tests
+mod Forms
+mod Adding
+mod Places
+mod Entering
+mod Naming
