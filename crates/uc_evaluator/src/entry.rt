@@ -1,7 +1,7 @@
 //! Expressions in a scope of a design.
 
 ghost use Rattle.std.specs.Prelude.{◌≡◌, IfOk};
-ghost use Rattle.uc_meaning.specs.Expressions.{value, reading, is_true, name};
+ghost use Rattle.uc_meaning.specs.Expressions.{value, reading, is_true, name as name_says};
 ghost use Rattle.uc_meaning.specs.Overflow.{met, name_met};
 ghost use Rattle.uc_operators.specs.Overflows.{first_wide, TellsWide};
 ghost use Rattle.uc_scopes.specs.Scopes.{scope_in};
@@ -72,7 +72,7 @@ pub fn name_reading(
     name: u32,
     is_primed: bool,
 ) -> Result<Said, EvalError>
-    ensures value { IfOk result (λ r. reading_of r ≡ name layout.now (reading layout.now) (scope_in scope.now) name is_primed) }
+    ensures value { IfOk result (λ r. reading_of r ≡ name_says layout.now (reading layout.now) (scope_in scope.now) name is_primed) }
     ensures wide { TellsWide (first_wide (name_met layout.now (met layout.now) (scope_in scope.now) name is_primed)) result }
 {
     named(alloc, layout, LONGEST_CHAIN + 1, scope, name, is_primed)

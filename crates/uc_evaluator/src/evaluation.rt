@@ -3,7 +3,7 @@
 ghost use Rattle.std.specs.Prelude.{◌≡◌, ◌++◌, [], map, IfOk};
 ghost use Rattle.std.specs.List.{flat_map};
 ghost use Rattle.uc_meaning.specs.Operators.{holds};
-ghost use Rattle.uc_meaning.specs.Expressions.{Reading, reads, name, reading_through, applied, applied_reading};
+ghost use Rattle.uc_meaning.specs.Expressions.{Reading, reads, name as name_says, reading_through, applied, applied_reading};
 ghost use Rattle.uc_meaning.specs.Overflow.{name_met, applied_met, met_through};
 ghost use Rattle.uc_operators.specs.Overflows.{first_wide, TellsWide};
 ghost use Rattle.uc_shapes.specs.Levels.{reading_at, type_at, value_at, met_at, chosen_at, chosen_met_at, select_at, select_all_at, selection_met_at, selections_met_at, head_reading, head_rest, head_met};
@@ -104,6 +104,7 @@ fn chosen(
 
 /// A primary with its selections.
 #[cycle(said)]
+#[tactic(none)]
 fn selected(
     alloc: Global,
     layout: &Layout,
@@ -243,7 +244,7 @@ pub(crate) fn named(
     name: u32,
     is_primed: bool,
 ) -> Result<Said, EvalError>
-    ensures value { IfOk result (λ r. reading_of r ≡ name layout.now (reading_through below layout.now) (scope_in scope.now) name is_primed) }
+    ensures value { IfOk result (λ r. reading_of r ≡ name_says layout.now (reading_through below layout.now) (scope_in scope.now) name is_primed) }
     ensures wide { TellsWide (first_wide (name_met layout.now (met_through below layout.now) (scope_in scope.now) name is_primed)) result }
 {
     let meant = meaning(alloc, layout, scope, name, is_primed)?;

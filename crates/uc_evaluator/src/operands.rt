@@ -50,8 +50,8 @@ pub(crate) fn chained(
     chain: Chain<'_>,
     operands: &Operands,
 ) -> Result<Said, EvalError>
-    ensures value { IfOk result (λ r. reading_of r ≡ chain_reading chain operands.now.types operands.now.values) }
-    ensures wide { TellsWide (first_wide (chain_operations chain operands.now.values)) result }
+    ensures value { IfOk result (λ r. reading_of r ≡ chain_reading chain.entry operands.now.types operands.now.values) }
+    ensures wide { TellsWide (first_wide (chain_operations chain.entry operands.now.values)) result }
 {
     let types = operands.types.as_slice();
     let values = operands.values.as_slice();

@@ -1,5 +1,4 @@
-use Rattle.std.proofs.Common.{◌≡◌, ◌<◌, length, ap, ◌∙◌, arith}
-use Rattle.uc_meaning.specs.declared.scope.Local.{Local}
+use Rattle.std.proofs.Common.{◌<◌, length, ap, ◌∙◌, arith}
 use Rattle.uc_meaning.specs.Types.{type_of_written}
 use Rattle.uc_sources.proofs.Bound.{bound_more, bound_end}
 use Rattle.uc_sources.proofs.applying.bound_locals.Goals as goal
