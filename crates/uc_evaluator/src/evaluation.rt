@@ -104,7 +104,6 @@ fn chosen(
 
 /// A primary with its selections.
 #[cycle(said)]
-#[tactic(none)]
 fn selected(
     alloc: Global,
     layout: &Layout,

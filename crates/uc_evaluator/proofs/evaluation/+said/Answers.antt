@@ -1,14 +1,16 @@
-use Rattle.std.proofs.Common.{◌≡◌, ◌<◌, ◌-◌, ◌++◌, [], List, length, map, Bool, true, false, None, ap, ◌∙◌, sym, subst, rules, arith}
-use Rattle.std.specs.Prelude.{Result, Ok, Err}
+use Rattle.std.proofs.Common.{◌≡◌, ◌-◌, ◌++◌, [], length, map, take, drop, true, false, ap, ◌∙◌, sym, subst, rules, arith}
+use Rattle.std.specs.Prelude.{Err}
 use Rattle.std.specs.List.{flat_map}
+use Rattle.std.proofs.lemmas.List.{take_rest}
 use Rattle.uc_values.specs.Arrays.{at, store}
 use Rattle.uc_meaning.specs.Operators.{holds}
-use Rattle.uc_meaning.specs.Expressions.{reads, element_type, name, reading_through, reached, applied, applied_reading, OfDefine, meaning_of}
+use Rattle.uc_meaning.specs.Expressions.{reads, element_type, name, reading_through, reached, applied, applied_reading, meaning_of}
 use Rattle.uc_meaning.specs.Overflow.{met_through, name_met, applied_met}
-use Rattle.uc_operators.specs.Overflows.{first_wide, TellsWide}
-use Rattle.uc_shapes.specs.Levels.{reading_at, type_at, value_at, met_at, select_at, selection_met_at, head_reading, head_met}
-use Rattle.uc_shapes.specs.Shapes.{size, sizes, branch_size, primary_size, selection_size}
-use Rattle.uc_scopes.specs.Scopes.{scope_in}
+use Rattle.uc_operators.specs.Overflows.{first_wide}
+use Rattle.uc_shapes.specs.Levels.{reading_at, type_at, value_at, met_at, select_at, selection_met_at, selections_met_at, head_reading, head_met}
+use Rattle.uc_shapes.specs.Shapes.{size, sizes, branch_size, primary_size, selection_size, selections_size}
+use Rattle.uc_lookup.specs.Parts.{system_in}
+use Rattle.uc_scopes.specs.Scopes.{scope_in, reached_scope}
 use Rattle.uc_readings.specs.declared.said.Said.{Said}
 use Rattle.uc_readings.specs.Readings.{reading_of, on_bits_said}
 use Rattle.uc_sources.specs.Sources.{StandsFor, Applies, with_locals}
@@ -16,8 +18,8 @@ use Rattle.uc_evaluator.specs.declared.operands.Operands.{Operands}
 use Rattle.uc_evaluator.proofs.Told.{told_first, told_as, told_second, told_all, none_both, gives_as}
 use Rattle.uc_evaluator.proofs.Bodies.{bodies}
 use Rattle.uc_evaluator.proofs.Levels.{body_reading, body_met, no_reading, none_met, below_left, left_within}
-use Rattle.uc_evaluator.proofs.Sizes.{part_size}
-use Rattle.uc_evaluator.proofs.Forms.{on_bits_are}
+use Rattle.uc_evaluator.proofs.Sizes.{part_size, rest_size}
+use Rattle.uc_evaluator.proofs.Forms.{on_bits_are, other_selected, other_selected_met, name_selected, name_selected_met}
 use Rattle.uc_evaluator.proofs.Turns.{all_more, all_told, all_end, mapped_more, mapped_end, chosen_more, chosen_taken, chosen_end, chosen_met_more, chosen_met_told, chosen_met_taken, chosen_met_end, after_more, after_end}
 use Rattle.uc_evaluator.proofs.Shaped.{chain_gives, chain_told, chain_tells, compared_gives, compared_left, compared_right, compared_none, applied_gives, applied_told, applied_tells}
 use Rattle.uc_evaluator.proofs.Named.{known_reading, known_none, bound_reading, bound_met, bound_size, result_reading, result_none, define_reading, define_met, define_size}
@@ -449,7 +451,6 @@ head-returns-in_ok-operands-in-Apply-clause-value t c =
 pub head-returns-in_ok-operands-in-Apply-clause-wide : goal.head-returns-in_ok-operands-in-Apply-clause-wide
 head-returns-in_ok-operands-in-Apply-clause-wide t c =
     let f = met_at c.args.below c.args.layout.now (scope_in c.args.scope.now) in
-
     let same = c.as_slice-in-Apply.ensures ∙ c.in_ok-operands-in-Apply.ensures.values ∙ ap (map (value_at c.args.below c.args.layout.now (scope_in c.args.scope.now))) c.as_slice.ensures in
     told_all _ _ c.called.result (ap (λ p. head_met c.args.below c.args.layout.now (scope_in c.args.scope.now) p []) (sym c.in-Apply.is))
     (told_second (flat_map f c.in-Apply.arguments) (applied_met (met_through c.args.below c.args.layout.now) (applied c.args.layout.now (scope_in c.args.scope.now) c.in-Apply.name (map (value_at c.args.below c.args.layout.now (scope_in c.args.scope.now)) c.in-Apply.arguments))) c.called.result
@@ -475,3 +476,61 @@ pub head-returns-in_ok-on_bits-in-OnBits-clause-wide : goal.head-returns-in_ok-o
 head-returns-in_ok-on_bits-in-OnBits-clause-wide t c =
     ap (λ p. first_wide (head_met c.args.below c.args.layout.now (scope_in c.args.scope.now) p [])) c.in-OnBits.is
     ∙ ap (λ xs. first_wide (flat_map (met_at c.args.below c.args.layout.now (scope_in c.args.scope.now)) xs)) (sym c.as_slice-in-OnBits.ensures) ∙ c.in_ok-operands-in-OnBits.ensures.wide
+
+-- primaries with their selections
+pub selected-named-requires : goal.selected-named-requires
+selected-named-requires t c = (omega (arith, c.decreases), tt)
+
+pub selected-head-requires : goal.selected-head-requires
+selected-head-requires t c = (omega (arith, c.decreases), tt)
+
+pub selected-after-requires : goal.selected-after-requires
+selected-after-requires t c =
+    let rest = rest_size selection_size c.args.selections.now c.in_ok-arrival.arrival.used in
+    let part = ap selections_size (take_rest c.args.selections.now c.in_ok-arrival.arrival.used) in
+    (omega (arith, c.decreases, rest, part), tt)
+
+pub selected-after-requires-2 : goal.selected-after-requires-2
+selected-after-requires-2 t c = (omega (arith, c.decreases), tt)
+
+pub selected-returns-in_err-head-clause-wide : goal.selected-returns-in_err-head-clause-wide
+selected-returns-in_err-head-clause-wide t c =
+    let told = told_as Said Said _ _ c.in_err-head.field-0.0
+    (name_selected_met c.args.below c.args.layout.now (scope_in c.args.scope.now) c.args.primary.now c.args.selections.now c.in-Name.name c.in-Name.is_primed c.in-Name.is (reached_scope (scope_in c.args.scope.now) c.in_ok-arrival.arrival) c.in_ok-arrival.arrival.name (drop c.in_ok-arrival.arrival.used c.args.selections.now)
+    (ap (λ q. reached q (scope_in c.args.scope.now) c.in-Name.name c.in-Name.is_primed c.args.selections.now) (sym c.system.ensures) ∙ c.in_ok-arrival.ensures.is)
+    (scope_in c.scope-there.result) (drop c.in_ok-arrival.arrival.used c.args.selections.now) c.scope-there.ensures (λ i. (drop c.in_ok-arrival.arrival.used c.args.selections.now)))
+    (told_first Said Said (name_met c.args.layout.now (met_through c.args.below c.args.layout.now) (scope_in c.scope-there.result) c.in_ok-arrival.arrival.name c.in-Name.is_primed) (selections_met_at c.args.below c.args.layout.now (scope_in c.args.scope.now) (drop c.in_ok-arrival.arrival.used c.args.selections.now)) c.in_err-head.field-0.0 c.in_err-head.ensures.wide) in
+    search (rules, told)
+
+pub selected-returns-in-Name-clause-value : goal.selected-returns-in-Name-clause-value
+selected-returns-in-Name-clause-value t c =
+    gives_as reading_of _ _ c.after.result
+    (name_selected c.args.below c.args.layout.now (scope_in c.args.scope.now) c.args.primary.now c.args.selections.now c.in-Name.name c.in-Name.is_primed c.in-Name.is (reached_scope (scope_in c.args.scope.now) c.in_ok-arrival.arrival) c.in_ok-arrival.arrival.name (drop c.in_ok-arrival.arrival.used c.args.selections.now)
+    (ap (λ q. reached q (scope_in c.args.scope.now) c.in-Name.name c.in-Name.is_primed c.args.selections.now) (sym c.system.ensures) ∙ c.in_ok-arrival.ensures.is)
+    (scope_in c.scope-there.result) (reading_of c.in_ok-head.head) (take (length c.args.selections.now - c.in_ok-arrival.arrival.used) (drop c.in_ok-arrival.arrival.used c.args.selections.now)) c.scope-there.ensures c.in_ok-head.ensures.value (take_rest c.args.selections.now c.in_ok-arrival.arrival.used))
+    c.after.ensures.value
+
+pub selected-returns-in-Name-clause-wide : goal.selected-returns-in-Name-clause-wide
+selected-returns-in-Name-clause-wide t c =
+    told_all _ _ c.after.result
+    (name_selected_met c.args.below c.args.layout.now (scope_in c.args.scope.now) c.args.primary.now c.args.selections.now c.in-Name.name c.in-Name.is_primed c.in-Name.is (reached_scope (scope_in c.args.scope.now) c.in_ok-arrival.arrival) c.in_ok-arrival.arrival.name (drop c.in_ok-arrival.arrival.used c.args.selections.now)
+    (ap (λ q. reached q (scope_in c.args.scope.now) c.in-Name.name c.in-Name.is_primed c.args.selections.now) (sym c.system.ensures) ∙ c.in_ok-arrival.ensures.is)
+    (scope_in c.scope-there.result) (take (length c.args.selections.now - c.in_ok-arrival.arrival.used) (drop c.in_ok-arrival.arrival.used c.args.selections.now)) c.scope-there.ensures (take_rest c.args.selections.now c.in_ok-arrival.arrival.used))
+    (told_second (name_met c.args.layout.now (met_through c.args.below c.args.layout.now) (scope_in c.scope-there.result) c.in_ok-arrival.arrival.name c.in-Name.is_primed) (selections_met_at c.args.below c.args.layout.now (scope_in c.args.scope.now) (take (length c.args.selections.now - c.in_ok-arrival.arrival.used) (drop c.in_ok-arrival.arrival.used c.args.selections.now))) c.after.result c.in_ok-head.ensures.wide c.after.ensures.wide)
+
+pub selected-returns-in_err-head-2 : goal.selected-returns-in_err-head-2
+selected-returns-in_err-head-2 t c =
+    let told = told_as Said Said _ _ c.in_err-head-2.field-0.0
+    (other_selected_met c.args.below c.args.layout.now (scope_in c.args.scope.now) c.args.primary.now c.args.selections.now c.in_default.not-Name c.args.selections.now (λ i. c.args.selections.now))
+    (told_first Said Said (head_met c.args.below c.args.layout.now (scope_in c.args.scope.now) c.args.primary.now []) (selections_met_at c.args.below c.args.layout.now (scope_in c.args.scope.now) c.args.selections.now) c.in_err-head-2.field-0.0 c.in_err-head-2.ensures.wide) in
+    record { value = search rules; wide = search (rules, told) }
+
+pub selected-returns : goal.selected-returns
+selected-returns t c = record {
+  value = gives_as reading_of _ _ c.after-2.result
+      (other_selected c.args.below c.args.layout.now (scope_in c.args.scope.now) c.args.primary.now c.args.selections.now c.in_default.not-Name (reading_of c.in_ok-head-2.head) c.args.selections.now c.in_ok-head-2.ensures.value (λ i. c.args.selections.now))
+      c.after-2.ensures.value;
+  wide = told_all _ _ c.after-2.result
+      (other_selected_met c.args.below c.args.layout.now (scope_in c.args.scope.now) c.args.primary.now c.args.selections.now c.in_default.not-Name c.args.selections.now (λ i. c.args.selections.now))
+      (told_second (head_met c.args.below c.args.layout.now (scope_in c.args.scope.now) c.args.primary.now []) (selections_met_at c.args.below c.args.layout.now (scope_in c.args.scope.now) c.args.selections.now) c.after-2.result c.in_ok-head-2.ensures.wide c.after-2.ensures.wide);
+}
