@@ -1,0 +1,5 @@
+//! Worked rows of single expressions, which only tests run.
+#![tactic(auto)]
+
+#[cfg(test)]
+mod expressions;
