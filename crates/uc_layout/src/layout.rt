@@ -13,12 +13,12 @@ use std::marker::Model;
 use uc_items::Items;
 use uc_lookup::SystemRef;
 use uc_syntax::{Design, Module};
+use uc_type_reader::Tables;
 
-/// A design with the number of its main module, and with lists of its cells, constants and functions.
+/// A design with the number of its main module, with the tables of its types, and with lists of its cells, constants and functions.
 #[derive(Drop)]
 pub struct Layout {
-    design: Design,
-    main: u32,
+    tables: Tables,
     cells: Items<CellName>,
     constants: Items<SymbolName>,
     functions: Items<SymbolName>,
@@ -36,9 +36,9 @@ impl Model for Layout {
 
     ghost coded = { Prim.hlevel (codes, types.the_row.coded, expressions.the_row.coded, statements.the_row.coded) };
 
-    ghost view = { λ o. record { names = o.design.names; files = o.design.files; modules = o.design.modules; main = o.main } };
+    ghost view = { λ o. o.tables };
 
-    ghost invariant = { λ o. AreTables (record { names = o.design.names; files = o.design.files; modules = o.design.modules; main = o.main }) o.cells o.constants o.functions };
+    ghost invariant = { λ o. AreTables o.tables o.cells o.constants o.functions };
 }
 
 impl Layout {
@@ -46,15 +46,14 @@ impl Layout {
     pub fn of(alloc: Global, design: Design, main: u32) -> Result<Layout, AllocError>
         ensures { IfOk result (λ l. l ≡ system_of design main) }
     {
-        let view = SystemRef::of(&design, main);
+        let tables = Tables::of(alloc, design, main)?;
+        let view = tables.system();
         let listing = list(alloc, &view)?;
-        let modules = design.modules().as_slice();
         let codes = listing.codes.as_slice();
-        let constants = list_symbols(alloc, SymbolKind::Constant, modules, codes)?;
-        let functions = list_symbols(alloc, SymbolKind::Function, modules, codes)?;
+        let constants = list_symbols(alloc, SymbolKind::Constant, view.modules, codes)?;
+        let functions = list_symbols(alloc, SymbolKind::Function, view.modules, codes)?;
         Ok(Layout {
-            design,
-            main,
+            tables,
             cells: listing.cells,
             constants,
             functions,
@@ -65,7 +64,14 @@ impl Layout {
     pub fn system(&self) -> SystemRef<'_>
         ensures { system_in result ≡ self.now }
     {
-        SystemRef::of(&self.design, self.main)
+        self.tables.system()
+    }
+
+    /// The tables of the design's types.
+    pub fn tables(&self) -> &Tables
+        ensures { result.now ≡ self.now }
+    {
+        &self.tables
     }
 
     /// The place of a name's cell in a state.

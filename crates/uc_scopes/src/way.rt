@@ -26,7 +26,7 @@ pub struct Arrival {
 
 impl Arrival {
     /// The scope in which the name is read, where it is reached from another one.
-    pub fn scope<'b>(&'b self, from: &ScopeRef<'b>) -> ScopeRef<'b>
+    pub fn scope<'b, 'f: 'b>(&'b self, from: &ScopeRef<'f>) -> ScopeRef<'b>
         ensures { scope_in result ≡ reached_scope (scope_in from.now) self.now }
     {
         let locals = if self.is_inside { &[] } else { from.locals };
