@@ -18,7 +18,7 @@ use Rattle.uc_flat_lines.specs.declared.line.FlatVerdict.{FlatVerdict}
 use Rattle.uc_flat_lines.specs.declared.line.FlatVerdict.TheVariants.{Passed, Failed, Undef}
 use Rattle.uc_flat_lines.specs.declared.line.FlatWhy.TheVariants.{Budget, Memory}
 use Rattle.uc_flat_lines.specs.Lines.{lines_below, free_bits, IsHonestVerdict, IsHonestLine as IsHonestFlat, AreFlatJudged}
-use Rattle.uc_flat_lines.proofs.Knowing.{no_constants}
+use Rattle.uc_obligations.proofs.Knowing.{no_constants}
 use Rattle.uc_symstep.specs.Known.{ReadsOwnTypes}
 use Rattle.uc_control.specs.declared.report.LineResult.{LineResult}
 use Rattle.uc_control.specs.Verdicts.{IsHonest}
