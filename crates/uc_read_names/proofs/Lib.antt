@@ -1,2 +1,4 @@
 mod KnownReads
 mod Turns
+mod Dropped
+mod Listed

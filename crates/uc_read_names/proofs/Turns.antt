@@ -5,7 +5,7 @@ use Rattle.std.specs.List.{find}
 use Rattle.std.proofs.lemmas.List.{take_all, take_more}
 use Rattle.std.proofs.lemmas.Grind.{reverse_onto}
 
-join_two : {A : Type 0} (xs : List A) (x : A) → reverse (xs ++ x ∷ []) ≡ x ∷ reverse xs
+pub join_two : {A : Type 0} (xs : List A) (x : A) → reverse (xs ++ x ∷ []) ≡ x ∷ reverse xs
 join_two [] x = refl
 join_two (y ∷ xs) x = reverse_onto (xs ++ x ∷ []) y [] ∙ ap (λ zs. zs ++ y ∷ []) (join_two xs x) ∙ ap (λ zs. x ∷ zs) (sym (reverse_onto xs y []))
 

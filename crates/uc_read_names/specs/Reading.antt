@@ -19,3 +19,7 @@ standing_meant ms Broken = BrokenMeant
 -- these names are those of the defines of a module that read state
 unfoldable pub KnowsReads : System → Module → List ℕ → Type 0
 KnowsReads s m reading = (f : ℕ) → names_one_of reading f ≡ define_reads s m f
+
+-- two lists have the same names
+unfoldable pub SameNames : List ℕ → List ℕ → Type 0
+SameNames names others = (x : ℕ) → names_one_of names x ≡ names_one_of others x

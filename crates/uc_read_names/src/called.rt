@@ -54,7 +54,8 @@ impl<'a, 'd> Scope<'a, 'd> {
         Ok(applied(gives, types.as_slice(), arguments))
     }
 
-    fn parameter_types(
+    /// The types of parameters or results.
+    pub fn parameter_types(
         &self,
         alloc: Global,
         parameters: &[Parameter<TypeExpr>],

@@ -1,7 +1,8 @@
 //! The names of the enclosing scopes.
 
-ghost use Rattle.std.specs.Prelude.{◌≡◌, ◌∷◌, [], nat_eq, OnErr, OnOk};
+ghost use Rattle.std.specs.Prelude.{◌≡◌, ◌-◌, ◌∷◌, [], drop, length, map, nat_eq, reverse, OnErr, OnOk};
 ghost use Rattle.std.specs.List.{find};
+ghost use Rattle.uc_rules.specs.Names.{names_one_of};
 ghost use Rattle.std.specs.Option.{option_copied};
 
 use std::alloc::{AllocError, Global};
@@ -53,6 +54,28 @@ impl Locals {
         None
     }
 
+    /// Whether there is such a name.
+    pub fn has(&self, name: u32) -> bool
+        ensures { result ≡ names_one_of (map (λ k. k.name) self.now) name }
+    {
+        self.named(name).is_some()
+    }
+
+    /// How many names there are.
+    pub fn len(&self) -> usize
+        ensures { result ≡ length self.now }
+    {
+        self.known.len()
+    }
+
+    /// Drops the innermost names, until at most so many are left.
+    pub fn truncate(&mut self, count: usize)
+        ensures { self.new ≡ drop (length self.old - count) self.old }
+    {
+        let surplus = self.known.len().saturating_sub(count);
+        drop_last(&mut self.known, surplus);
+    }
+
     /// Adds a name of a new innermost scope.
     pub fn push(&mut self, known: Known) -> Result<(), AllocError>
         ensures ok { OnOk result (self.new ≡ known ∷ self.old) }
@@ -60,5 +83,14 @@ impl Locals {
     {
         self.known.push(known)?;
         Ok(())
+    }
+}
+
+/// Drops so many of the last names.
+fn drop_last(known: &mut Items<Known>, count: usize)
+    ensures { reverse known.new ≡ drop count (reverse known.old) }
+{
+    for _turn in 0..count {
+        known.pop();
     }
 }

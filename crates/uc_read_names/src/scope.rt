@@ -1,26 +1,29 @@
 //! Where an expression stands.
 
-ghost use Rattle.std.specs.Prelude.{◌≡◌, ◌∷◌, true, Some, None, nat_eq, slice_get, IfOk, OnErr, OnOk};
+ghost use Rattle.std.specs.Prelude.{◌≡◌, ◌-◌, ◌∷◌, true, false, drop, length, Some, None, nat_eq, slice_get, IfOk, OnErr, OnOk};
 ghost use Rattle.std.specs.Option.{is_some, option_copied, option_map};
 ghost use Rattle.uc_lookup.specs.Parts.{instance_parts};
 ghost use Rattle.uc_meaning.specs.Lookup.{module_named};
 ghost use Rattle.uc_name_table.specs.Senses.{called_meant, module_in, value_meant};
 ghost use Rattle.uc_rules.specs.Declarations.{in_module};
 ghost use Rattle.uc_rules.specs.Expressions.{bound_named, enum_of};
-ghost use Rattle.uc_rules.specs.Names.{called_named, instance_named, value_named};
+ghost use Rattle.uc_rules.specs.Faults.{first_of};
+ghost use Rattle.uc_rules.specs.Names.{called_named, instance_named, is_name_of, names_one_of, procedure_named, value_named};
 ghost use Rattle.uc_rules.specs.Reads.{define_reads};
-ghost use Rattle.uc_rules.specs.Types.{type_of};
+ghost use Rattle.uc_rules.specs.Statements.{bound_names, may_modify};
+ghost use Rattle.uc_rules.specs.Types.{type_faults, type_of};
 ghost use Rattle.uc_read_names.specs.Reading.{KnowsReads};
 
+use crate::bit_functions::is_bit_function;
 use crate::locals::Locals;
+use crate::modified::Modified;
 use std::alloc::{AllocError, Global};
 use std::marker::Model;
 use uc_declared_types::KnownTypes;
-use uc_items::Items;
 use uc_lookup::InstanceParts;
 use uc_name_table::{Called, Value};
-use uc_rules::Known;
-use uc_syntax::TypeExpr;
+use uc_rules::{Fault, Known};
+use uc_syntax::{Procedure, TypeExpr};
 use uc_type_names::NameSet;
 use uc_values::Ty;
 
@@ -36,7 +39,7 @@ pub struct Scope<'a, 'd> {
     in_ensures: bool,
     in_axiom: bool,
     copies: Option<u128>,
-    modifies: Option<Items<u32>>,
+    modifies: Option<Modified>,
 }
 
 impl<'a, 'd> Model for Scope<'a, 'd> {
@@ -118,6 +121,30 @@ impl<'a, 'd> Scope<'a, 'd> {
         scope
     }
 
+    /// The same in the body of a procedure that may modify these names.
+    pub fn in_body(self, modified: Modified) -> Scope<'a, 'd>
+        ensures { result ≡ record self.entry { in_ensures = false; modifies = Some modified } }
+    {
+        let mut scope = self;
+        scope.in_ensures = false;
+        scope.modifies = Some(modified);
+        scope
+    }
+
+    /// How many names the enclosing scopes have.
+    pub fn depth(&self) -> usize
+        ensures { result ≡ length self.now.bound }
+    {
+        self.locals.len()
+    }
+
+    /// Leaves the innermost scopes, until at most so many names are left.
+    pub fn leave(&mut self, depth: usize)
+        ensures { self.new ≡ record self.old { bound = drop (length self.old.bound - depth) self.old.bound } }
+    {
+        self.locals.truncate(depth);
+    }
+
     /// Adds a name of a new innermost scope.
     pub fn bind(&mut self, known: Known) -> Result<(), AllocError>
         ensures ok { OnOk result (self.new ≡ record self.old { bound = known ∷ self.old.bound }) }
@@ -126,7 +153,8 @@ impl<'a, 'd> Scope<'a, 'd> {
         self.locals.push(known)
     }
 
-    pub(crate) fn is_in_next(&self) -> bool
+    /// Whether this is in a next block.
+    pub fn is_in_next(&self) -> bool
         ensures { result ≡ self.now.in_next }
     {
         self.in_next
@@ -157,15 +185,44 @@ impl<'a, 'd> Scope<'a, 'd> {
         self.locals.named(name)
     }
 
+    /// Whether a name is one of an enclosing scope.
+    pub fn has_local(&self, name: u32) -> bool
+        ensures { result ≡ names_one_of (bound_names self.now) name }
+    {
+        self.locals.has(name)
+    }
+
+    /// Whether a name is one of the module, or that of a function on bits.
+    pub fn has_name(&self, name: u32) -> bool
+        ensures { result ≡ is_name_of self.now.system self.now.home name }
+    {
+        let names = self.types.homes().design().system().names;
+        is_bit_function(names, name) || self.types.homes().has_name(self.home, name)
+    }
+
+    /// Whether the procedure around it may modify a name. Outside procedures every name may be modified.
+    pub fn may_modify(&self, name: u32) -> bool
+        ensures { result ≡ may_modify self.now.modifies name }
+    {
+        may_be_modified(&self.modifies, name)
+    }
+
+    /// The procedure of a name.
+    pub fn procedure(&self, name: u32) -> Option<&'d Procedure>
+        ensures { option_copied result ≡ procedure_named self.now.system self.now.home name }
+    {
+        self.types.homes().procedure(self.home, name)
+    }
+
     /// What a name of the module is as a value.
-    pub(crate) fn value(&self, name: u32) -> Option<Value<'d>>
+    pub fn value(&self, name: u32) -> Option<Value<'d>>
         ensures { option_map value_meant result ≡ value_named self.now.system self.now.home name }
     {
         self.types.homes().value(self.home, name)
     }
 
     /// The instance of a name.
-    pub(crate) fn instance(&self, name: u32) -> Option<InstanceParts<'d>>
+    pub fn instance(&self, name: u32) -> Option<InstanceParts<'d>>
         ensures { option_map instance_parts result ≡ instance_named self.now.system self.now.home name }
     {
         self.types.homes().instance(self.home, name)
@@ -186,10 +243,24 @@ impl<'a, 'd> Scope<'a, 'd> {
     }
 
     /// The type that a written type stands for.
-    pub(crate) fn type_of(&self, alloc: Global, ty: &TypeExpr) -> Result<Option<Ty>, AllocError>
+    pub fn type_of(&self, alloc: Global, ty: &TypeExpr) -> Result<Option<Ty>, AllocError>
         ensures { IfOk result (λ t. t ≡ type_of self.now.system self.now.home ty.now) }
     {
         let found = self.types.type_of(alloc, self.home, ty)?;
+        Ok(found)
+    }
+
+    /// The type that a written type stands for. Its faults are noted.
+    pub fn note_type(
+        &self,
+        alloc: Global,
+        ty: &TypeExpr,
+        first: &mut Option<Fault>,
+    ) -> Result<Option<Ty>, AllocError>
+        ensures ty { IfOk result (λ t. t ≡ type_of self.now.system self.now.home ty.now) }
+        ensures faults { OnOk result (first.new ≡ first_of first.old (type_faults self.now.system self.now.home ty.now)) }
+    {
+        let found = self.types.note_type(alloc, self.home, ty, first)?;
         Ok(found)
     }
 
@@ -202,28 +273,28 @@ impl<'a, 'd> Scope<'a, 'd> {
     }
 
     /// The module of a name, by its place among the modules.
-    pub(crate) fn module_named(&self, name: u32) -> Option<usize>
+    pub fn module_named(&self, name: u32) -> Option<usize>
         ensures { option_map (module_in self.now.system.modules) result ≡ module_named self.now.system name }
     {
         self.types.homes().design().module_named(name)
     }
 
     /// What a name of the module at a place is as a value.
-    pub(crate) fn value_in(&self, home: usize, name: u32) -> Option<Value<'d>>
+    pub fn value_in(&self, home: usize, name: u32) -> Option<Value<'d>>
         ensures { option_map value_meant result ≡ value_named self.now.system (module_in self.now.system.modules home) name }
     {
         self.types.homes().value(home, name)
     }
 
     /// The instance of a name in the module at a place.
-    pub(crate) fn instance_in(&self, home: usize, name: u32) -> Option<InstanceParts<'d>>
+    pub fn instance_in(&self, home: usize, name: u32) -> Option<InstanceParts<'d>>
         ensures { option_map instance_parts result ≡ instance_named self.now.system (module_in self.now.system.modules home) name }
     {
         self.types.homes().instance(home, name)
     }
 
     /// The type that a written type of the module at a place stands for.
-    pub(crate) fn type_in(
+    pub fn type_in(
         &self,
         alloc: Global,
         home: usize,
@@ -233,5 +304,14 @@ impl<'a, 'd> Scope<'a, 'd> {
     {
         let found = self.types.type_of(alloc, home, ty)?;
         Ok(found)
+    }
+}
+
+fn may_be_modified(modifies: &Option<Modified>, name: u32) -> bool
+    ensures { result ≡ may_modify modifies.now name }
+{
+    match modifies {
+        None => true,
+        Some(modified) => modified.contains(name),
     }
 }

@@ -64,7 +64,7 @@ impl Standing {
 }
 
 /// The same type again, where there is one.
-pub(crate) fn copy_type(alloc: Global, ty: &Option<Ty>) -> Result<Option<Ty>, AllocError>
+pub fn copy_type(alloc: Global, ty: &Option<Ty>) -> Result<Option<Ty>, AllocError>
     ensures { IfOk result (λ t. t ≡ ty.now) }
 {
     match ty {
