@@ -2,4 +2,10 @@
 #![tactic(auto)]
 
 #[cfg(test)]
+mod cycles;
+#[cfg(test)]
+mod formulas;
+#[cfg(test)]
+mod texts;
+#[cfg(test)]
 mod types;

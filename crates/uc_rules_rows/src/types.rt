@@ -1,25 +1,14 @@
+use crate::texts::{Answer, answer_of, parsed};
+use Answer::{Breaks, Kept, NotRead};
 use std::alloc::{AllocError, Global};
 use std::process::Abort;
 use std::test::Fail;
 use uc_declared_types::KnownTypes;
-use uc_lexer::{MAX_TEXT, tokens};
 use uc_lookup::SystemRef;
-use uc_parser::parse;
 use uc_rules::Fault;
 use uc_syntax::{Decl, Module, Names};
 
-/// What the types of variables and of aliases of the first module are judged to be.
-#[derive(Clone, Copy, Debug, PartialEq, Eq)]
-enum Answer {
-    Kept,
-    /// The number of the rule that is broken first, with its line and column.
-    Breaks(u32, u32, u32),
-    NotRead,
-    NoMemory,
-}
-
-use Answer::{Breaks, Kept, NoMemory, NotRead};
-
+/// What is noted first of the types of variables and of aliases of the first module.
 fn first_fault(
     alloc: Global,
     names: &Names,
@@ -49,20 +38,10 @@ fn first_fault(
 }
 
 fn judged(alloc: Global, text: &[u8]) -> Answer {
-    if text.len() > MAX_TEXT {
-        return NotRead;
-    }
-    let Ok(tokens) = tokens(alloc, 0, text) else {
-        return NotRead;
-    };
     let mut names = Names::new(alloc);
-    let Ok(modules) = parse(alloc, &mut names, 0, text, tokens.as_slice()) else {
-        return NotRead;
-    };
-    match first_fault(alloc, &names, modules.as_slice()) {
-        Ok(None) => Kept,
-        Ok(Some(fault)) => Breaks(fault.rule.number(), fault.place.line, fault.place.col),
-        Err(AllocError) => NoMemory,
+    match parsed(alloc, &mut names, text) {
+        None => NotRead,
+        Some(modules) => answer_of(first_fault(alloc, &names, modules.as_slice())),
     }
 }
 
