@@ -1,6 +1,6 @@
 //! A circuit: inputs and gates in one numbering, each gate over what stands before it.
 
-ghost use Rattle.std.specs.Prelude.{◌≡◌, ◌↔◌, ◌<◌, ◌≤◌, ◌+◌, ◌^◌, ◌∷◌, ◌++◌, ℕ, [], None, Some, length, slice_index_or, IsTrue, IfOk, OnErr, IfSome};
+ghost use Rattle.std.specs.Prelude.{◌≡◌, ◌↔◌, ◌<◌, ◌≤◌, ◌+◌, ◌^◌, ◌∷◌, ◌++◌, ℕ, [], None, Some, length, slice_index_or, IsTrue, IfOk, OnOk, OnErr, IfSome};
 ghost use Rattle.std.specs.Option.{option_copied};
 ghost use Rattle.uc_circuit.specs.Literals.{positive};
 ghost use Rattle.uc_circuit.specs.Gates.{DefineGate, OperandsBelow, clauses_of_gate};
@@ -154,7 +154,8 @@ fn evaluated(
     Ok(values)
 }
 
-fn clauses_of_gate(alloc: Global, number: u32, gate: Gate) -> Result<Vec<Clause>, AllocError>
+/// The clauses of the gate of this number. They take memory.
+pub fn clauses_of_gate(alloc: Global, number: u32, gate: Gate) -> Result<Vec<Clause>, AllocError>
     ensures { IfOk result (λ cs. cs.items ≡ clauses_of_gate number gate) }
 {
     let on = Lit::positive(number);
@@ -162,22 +163,33 @@ fn clauses_of_gate(alloc: Global, number: u32, gate: Gate) -> Result<Vec<Clause>
     let mut clauses = Vec::with_capacity(alloc, gate.clauses_count())?;
     match gate {
         Gate::And(left, right) => {
-            clauses.push(Clause::from_slice(alloc, &[off, left])?)?;
-            clauses.push(Clause::from_slice(alloc, &[off, right])?)?;
-            clauses.push(Clause::from_slice(alloc, &[on, left.negate(), right.negate()])?)?;
+            add_clause(alloc, &mut clauses, &[off, left])?;
+            add_clause(alloc, &mut clauses, &[off, right])?;
+            add_clause(alloc, &mut clauses, &[on, left.negate(), right.negate()])?;
         }
         Gate::Xor(left, right) => {
-            clauses.push(Clause::from_slice(alloc, &[off, left, right])?)?;
-            clauses.push(Clause::from_slice(alloc, &[off, left.negate(), right.negate()])?)?;
-            clauses.push(Clause::from_slice(alloc, &[on, left.negate(), right])?)?;
-            clauses.push(Clause::from_slice(alloc, &[on, left, right.negate()])?)?;
+            add_clause(alloc, &mut clauses, &[off, left, right])?;
+            add_clause(alloc, &mut clauses, &[off, left.negate(), right.negate()])?;
+            add_clause(alloc, &mut clauses, &[on, left.negate(), right])?;
+            add_clause(alloc, &mut clauses, &[on, left, right.negate()])?;
         }
         Gate::Mux(condition, then, other) => {
-            clauses.push(Clause::from_slice(alloc, &[condition.negate(), then.negate(), on])?)?;
-            clauses.push(Clause::from_slice(alloc, &[condition.negate(), then, off])?)?;
-            clauses.push(Clause::from_slice(alloc, &[condition, other.negate(), on])?)?;
-            clauses.push(Clause::from_slice(alloc, &[condition, other, off])?)?;
+            add_clause(
+                alloc,
+                &mut clauses,
+                &[condition.negate(), then.negate(), on],
+            )?;
+            add_clause(alloc, &mut clauses, &[condition.negate(), then, off])?;
+            add_clause(alloc, &mut clauses, &[condition, other.negate(), on])?;
+            add_clause(alloc, &mut clauses, &[condition, other, off])?;
         }
     }
     Ok(clauses)
+}
+
+fn add_clause(alloc: Global, clauses: &mut Vec<Clause>, literals: &[Lit]) -> Result<(), AllocError>
+    ensures { OnOk result (clauses.new.items ≡ clauses.old.items ++ literals.now ∷ []) }
+{
+    clauses.push(Clause::from_slice(alloc, literals)?)?;
+    Ok(())
 }

@@ -12,7 +12,7 @@ mod gate;
 mod laws;
 mod literal;
 
-pub use circuit::Circuit;
+pub use circuit::{Circuit, clauses_of_gate};
 pub use clause::Clause;
 pub use clause_state::{ClauseState, state_of};
 pub use gate::Gate;

@@ -5,7 +5,7 @@ use Rattle.std.specs.List.{flat_map}
 use Rattle.std.specs.Option.{option_map}
 use Rattle.std.proofs.lemmas.List.{append-nil, take_all, take_more}
 use Rattle.uc_syntax.specs.declared.declaration.Module.{Module}
-use Rattle.uc_alias_laws.specs.AliasLaw.{IsAmong}
+use Rattle.uc_way_laws.specs.AliasLaw.{IsAmong}
 use Rattle.uc_name_table.specs.Senses.{module_in}
 
 pub none_some : {A B : Type 0} (x : A) → None ≡ Some x → B

@@ -5,7 +5,7 @@ ghost use Rattle.std.specs.Option.{option_copied, option_map};
 ghost use Rattle.uc_rules.specs.Cycles.{alias_steps, alias_steps_in, entry_steps};
 ghost use Rattle.uc_name_table.specs.Senses.{declared_meant, entry_at, module_in};
 ghost use Rattle.uc_cycles.specs.Numbers.{EntersAliases, HasAliases, KnowsTypes, alias_of, alias_written, key_name, type_places};
-ghost use Rattle.uc_cycle_laws.specs.Names.{names_in};
+ghost use Rattle.uc_way_laws.specs.Names.{names_in};
 
 use crate::mentioned::{add_mentioned, name_of};
 use crate::types::{TypeKey, TypeNumbers};

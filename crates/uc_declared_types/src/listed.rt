@@ -1,7 +1,7 @@
 //! The aliases that a design declares.
 
 ghost use Rattle.std.specs.Prelude.{OnOk, IfOk};
-ghost use Rattle.uc_alias_laws.specs.AliasLaw.{IsAmong};
+ghost use Rattle.uc_way_laws.specs.AliasLaw.{IsAmong};
 ghost use Rattle.uc_declared_types.specs.Aliases.{HasAlias, HasAliases, IsAliasDeclaration, IsKept};
 
 use std::alloc::{AllocError, Global};

@@ -1,7 +1,7 @@
 //! Reading aliases until no more become known.
 
 ghost use Rattle.std.specs.Prelude.{◌≡◌, ◌⊎◌, ◌≤◌, length, nat_eq, IfOk, OnOk};
-ghost use Rattle.uc_alias_laws.specs.AliasLaw.{IsAmong};
+ghost use Rattle.uc_way_laws.specs.AliasLaw.{IsAmong};
 ghost use Rattle.uc_name_table.specs.declared.senses.DeclaredType.{DeclaredType};
 ghost use Rattle.uc_declared_types.specs.Aliases.{Agrees, Below, IsSettled, IsStuck, IsTaken, KeepsKnown, KnowsAliases, read_to_end};
 

@@ -1,2 +1,4 @@
-mod Forms
-mod Dots
+pub mod Forms
+pub mod Dots
+pub mod CallForms
+pub mod ExpressionForms

@@ -11,9 +11,9 @@ ghost use Rattle.uc_flat_code.specs.Walk.{behind, field_name};
 
 use std::alloc::{AllocError, Global};
 use uc_flat::Expression;
-use uc_flat_expressions::{FlatError, TypedExpression, equal_types};
+use uc_flat_expressions::{FlatError, TypedExpression};
 use uc_items::{Items, at};
-use uc_ops::Op;
+use uc_ops::{Op, equal_types};
 use uc_syntax::TargetPart;
 use uc_values::{Field, Ty, copy_ty};
 

@@ -21,10 +21,10 @@ use Rattle.uc_flat.specs.Flats.{cell_types}
 use Rattle.uc_flat.specs.Running.{Placed, run_all}
 use Rattle.uc_flat.specs.Executions.{FitAll, IsInitial as IsInitialOver, IsStep as IsStepOver}
 use Rattle.uc_flat_names.specs.Names.{StandsAlone, names_over_cells, types_of}
-use Rattle.uc_code_meaning.specs.Sequential.{running, placed, AreAt, EndAlike}
-use Rattle.uc_code_meaning.proofs.Sequential.{sequential_holds}
-use Rattle.uc_step_meaning.specs.Next.{step_code, IsAsked, IsReached, IsNextCode}
-use Rattle.uc_step_meaning.proofs.Steps.{found_holds, asks_holds, fits_hold}
+use Rattle.uc_flat_design.specs.Sequential.{running, placed, AreAt, EndAlike}
+use Rattle.uc_flat_design.proofs.Sequential.{sequential_holds}
+use Rattle.uc_flat_design.specs.Next.{step_code, IsAsked, IsReached, IsNextCode}
+use Rattle.uc_flat_design.proofs.Stepping.{found_holds, asks_holds, fits_hold}
 use Rattle.uc_flat_design.specs.Design.{flat_cell, IsFlatOf}
 use Rattle.uc_flat_design.specs.Laws.{IsInitialThere, IsInitialHere, InitialLaw, IsStepThere, IsStepHere, StepLaw}
 use Rattle.uc_flat_design.proofs.Tables.{fit_cells, fit_types, all_plain, no_instances, init_table, next_table}

@@ -1,2 +1,16 @@
+pub mod Options
+pub mod Turns
+pub mod Fields
+pub mod Replacing
+pub mod Sparing
+pub mod Sequential
+pub mod Effects
+pub mod Parts
+pub mod Equal
+pub mod Leaving
+pub mod Halves
+pub mod Told
+pub mod Settled
+pub mod Stepping
 pub mod Tables
 pub mod Laws

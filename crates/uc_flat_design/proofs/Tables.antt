@@ -42,9 +42,9 @@ use Rattle.uc_flat_meaning.proofs.Telling.{flat_says}
 use Rattle.uc_flat_names.specs.Names.{StandsAlone, of_label, of_cell_number, of_kind, of_variable, by_label, meant_in, counted, names_over_cells, types_of}
 use Rattle.uc_flat_names.proofs.Cells.{HasCells, cell_type}
 use Rattle.uc_flat_names.proofs.Meaning.{counted_at, mapped_at, name_in_cell, names_hold}
-use Rattle.uc_code_meaning.specs.Tables.{IsSaid, IsTable}
-use Rattle.uc_code_meaning.specs.Sequential.{now}
-use Rattle.uc_step_meaning.specs.Next.{between, IsNextTable}
+use Rattle.uc_flat_design.specs.Tables.{IsSaid, IsTable}
+use Rattle.uc_flat_design.specs.Sequential.{now}
+use Rattle.uc_flat_design.specs.Next.{between, IsNextTable}
 use Rattle.uc_same_values.specs.Same.{has_no_array, no_array_form}
 use Rattle.uc_same_values.proofs.Same.{no_array-Rec}
 use Rattle.uc_flat_design.specs.Design.{is_finite, is_finite_form, is_cell_type, is_built}

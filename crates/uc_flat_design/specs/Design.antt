@@ -23,10 +23,10 @@ use Rattle.uc_flat_expressions.specs.Types.{is_boolean}
 use Rattle.uc_flat_expressions.specs.Expressions.{flat_of}
 use Rattle.uc_flat_names.specs.Names.{names_over_cells, types_of}
 use Rattle.uc_flat_code.specs.Code.{code_of}
-use Rattle.uc_code_meaning.specs.Sequential.{plainly}
+use Rattle.uc_flat_design.specs.Sequential.{plainly}
 use Rattle.uc_flat_once.specs.declared.once.Part.{Part}
 use Rattle.uc_flat_once.specs.Once.{written_by}
-use Rattle.uc_step_meaning.specs.Next.{primed_behind, step_code}
+use Rattle.uc_flat_design.specs.Next.{primed_behind, step_code}
 
 abbrev pub is_finite_form : Ty-F Truth → Truth
 is_finite_form (record_type fields) = list_all (λ f. f.ty) fields

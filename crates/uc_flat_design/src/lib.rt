@@ -1,10 +1,32 @@
-//! The design over numbered cells of a design of one module, and the laws that both have the same initial states and steps and that their
-//! formulas say the same.
+//! The design over numbered cells of a design of one module, and the laws that both do the same: the code of its blocks, its initial states
+//! and its steps.
 #![tactic(auto)]
 
 ghost use Rattle.uc_flat_design.specs.Laws.{InitialLaw, StepLaw};
+ghost use Rattle.uc_flat_design.specs.Next.{StepFitsLaw, StepFoundLaw, StepIsLaw};
+ghost use Rattle.uc_flat_design.specs.Sequential.{SequentialLaw};
 
-/// Both have the same initial states, with the same choices.
+/// Init code of a design and its code over cells end alike.
+pub fn sequential_code()
+    ensures { SequentialLaw }
+{}
+
+/// Each step of a `next` block is one of its code over the cells of both states, run in order.
+pub fn next_found()
+    ensures { StepFoundLaw }
+{}
+
+/// Each step of that code over cells is one of the block, where no way through the block writes a part of a cell twice.
+pub fn next_asks()
+    ensures { StepIsLaw }
+{}
+
+/// That code over cells leads to fitting cells.
+pub fn next_fits()
+    ensures { StepFitsLaw }
+{}
+
+/// Both designs have the same initial states, with the same choices.
 pub fn initial_states()
     ensures { InitialLaw }
 {}

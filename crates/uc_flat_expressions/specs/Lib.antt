@@ -1,5 +1,6 @@
 pub mod Answers
 pub mod Types
 pub mod Names
+pub mod Fields
 pub mod Building
 pub mod Expressions

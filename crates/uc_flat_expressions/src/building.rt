@@ -1,17 +1,20 @@
 //! Operations on typed expressions, where they suit the types.
 
-ghost use Rattle.std.specs.Prelude.{◌≡◌, ◌<◌, ◌∷◌, [], nat_eq, length, map, IfOk};
+ghost use Rattle.std.specs.Prelude.{◌≡◌, ◌<◌, ◌∷◌, ◌&&◌, [], nat_eq, length, map, IfOk};
 ghost use Rattle.std.specs.List.{list_all, position_from};
 ghost use Rattle.uc_flat_expressions.specs.Answers.{IsAnswer};
 ghost use Rattle.uc_flat_expressions.specs.Building.{operation, constant, expressions_in, are_truths, negation, junction, implied_parts, implication, chain_op, starts, joined_type, concat_type, joined, chain_from, chain, sign_chain, sum_from, sum, bits_only, unary_of, ordered, equality, inequality, comparison, choice, field_selected, is_range, range_selected, extension, shift, on_bits};
+ghost use Rattle.uc_flat_expressions.specs.Fields.{named_field};
+ghost use Rattle.uc_ops.specs.Equality.{equal_types};
+ghost use Rattle.uc_ops.specs.declared.op.Op.TheVariants.{Ite};
 ghost use Rattle.uc_flat_expressions.specs.Types.{is_boolean, is_bits, are_same_bits};
 
 use crate::typed::{FlatError, TypedExpression};
-use crate::types::{are_same_bits, equal_types, is_bits, is_boolean};
+use crate::types::{are_same_bits, is_bits, is_boolean};
 use std::alloc::{AllocError, Global};
 use uc_flat::Expression;
 use uc_items::{Items, at};
-use uc_ops::Op;
+use uc_ops::{Op, equal_types};
 use uc_syntax::{BitFunction, Comparison, SumSign, UnaryOperator};
 use uc_values::{Field, Ty, copy_ty};
 
@@ -72,10 +75,16 @@ pub(crate) fn constant(alloc: Global, op: Op, ty: Ty) -> TypedExpression
 fn on_one(alloc: Global, op: Op, ty: Ty, a: TypedExpression) -> Result<TypedExpression, AllocError>
     ensures { IfOk result (λ t. t ≡ operation op ty (a ∷ [])) }
 {
-    let mut parts = Items::new(alloc);
-    parts.push(a)?;
-    let t = operation(alloc, op, ty, parts)?;
-    Ok(t)
+    let parts = one(alloc, a)?;
+    operation(alloc, op, ty, parts)
+}
+
+fn one<T: Drop>(alloc: Global, first: T) -> Result<Items<T>, AllocError>
+    ensures { IfOk result (λ items. items ≡ first ∷ []) }
+{
+    let mut items = Items::new(alloc);
+    items.push(first)?;
+    Ok(items)
 }
 
 fn on_two(
@@ -87,11 +96,16 @@ fn on_two(
 ) -> Result<TypedExpression, AllocError>
     ensures { IfOk result (λ t. t ≡ operation op ty (a ∷ b ∷ [])) }
 {
-    let mut parts = Items::new(alloc);
-    parts.push(a)?;
-    parts.push(b)?;
-    let t = operation(alloc, op, ty, parts)?;
-    Ok(t)
+    let parts = two(alloc, a, b)?;
+    operation(alloc, op, ty, parts)
+}
+
+fn two<T: Drop>(alloc: Global, first: T, second: T) -> Result<Items<T>, AllocError>
+    ensures { IfOk result (λ items. items ≡ first ∷ second ∷ []) }
+{
+    let mut items = one(alloc, first)?;
+    items.push(second)?;
+    Ok(items)
 }
 
 /// Whether there are parts, and all are truth values.
@@ -443,31 +457,40 @@ pub(crate) fn choice(
 ) -> Result<TypedExpression, FlatError>
     ensures { IsAnswer (choice condition a b) result }
 {
-    if !is_boolean(&condition.ty) {
+    if !may_choose(&condition.ty, &a.ty, &b.ty) {
         return Err(FlatError::NotBuilt);
     }
-    if !equal_types(&a.ty, &b.ty) {
-        return Err(FlatError::NotBuilt);
-    }
-    let ty = copy_ty(alloc, &a.ty)?;
-    let parts = three(alloc, condition, a, b)?;
-    let t = operation(alloc, Op::Ite, ty, parts)?;
+    let t = chosen(alloc, condition, a, b)?;
     Ok(t)
 }
 
-fn three(
+/// Whether one type is that of a condition, and two are one.
+fn may_choose(condition: &Ty, a: &Ty, b: &Ty) -> bool
+    ensures { result ≡ (is_boolean condition.now && equal_types a.now b.now) }
+{
+    is_boolean(condition) && equal_types(a, b)
+}
+
+/// The first value where the condition holds, else the second one.
+fn chosen(
     alloc: Global,
+    condition: TypedExpression,
     a: TypedExpression,
     b: TypedExpression,
-    c: TypedExpression,
-) -> Result<Items<TypedExpression>, AllocError>
-    ensures { IfOk result (λ ts. ts ≡ a ∷ b ∷ c ∷ []) }
+) -> Result<TypedExpression, AllocError>
+    ensures { IfOk result (λ t. t ≡ operation Ite a.ty (condition ∷ a ∷ b ∷ [])) }
 {
-    let mut parts = Items::new(alloc);
-    parts.push(a)?;
-    parts.push(b)?;
-    parts.push(c)?;
-    Ok(parts)
+    let ty = copy_ty(alloc, &a.ty)?;
+    let parts = three(alloc, condition, a, b)?;
+    operation(alloc, Op::Ite, ty, parts)
+}
+
+fn three<T: Drop>(alloc: Global, first: T, second: T, third: T) -> Result<Items<T>, AllocError>
+    ensures { IfOk result (λ items. items ≡ first ∷ second ∷ third ∷ []) }
+{
+    let mut items = two(alloc, first, second)?;
+    items.push(third)?;
+    Ok(items)
 }
 
 /// The first place of a field's name.
@@ -483,6 +506,7 @@ fn field_place(fields: &[Field<Ty>], name: u32) -> Option<usize>
 }
 
 /// A field of a record.
+#[tactic(auto, using(crate::proofs::Fields::field_of_none, crate::proofs::Fields::field_of_some))]
 pub(crate) fn field_selected(
     alloc: Global,
     a: TypedExpression,
@@ -490,7 +514,16 @@ pub(crate) fn field_selected(
 ) -> Result<TypedExpression, FlatError>
     ensures { IsAnswer (field_selected a name) result }
 {
-    let Ty::Rec(fields) = &a.ty else {
+    let (place, ty) = named_field(alloc, &a.ty, name)?;
+    let t = on_one(alloc, Op::GetField(place), ty, a)?;
+    Ok(t)
+}
+
+/// The first place of a record's field of a name, and its type.
+fn named_field(alloc: Global, whole: &Ty, name: u32) -> Result<(u32, Ty), FlatError>
+    ensures { IsAnswer (named_field whole.now name) result }
+{
+    let Ty::Rec(fields) = whole else {
         return Err(FlatError::NotBuilt);
     };
     let Some(place) = field_place(fields.as_slice(), name) else {
@@ -499,12 +532,11 @@ pub(crate) fn field_selected(
     let Some(field) = at(fields.as_slice(), place) else {
         return Err(FlatError::NotBuilt);
     };
-    let ty = copy_ty(alloc, &field.ty)?;
     let Ok(place) = u32::try_from(place) else {
         return Err(FlatError::NoMemory);
     };
-    let t = on_one(alloc, Op::GetField(place), ty, a)?;
-    Ok(t)
+    let ty = copy_ty(alloc, &field.ty)?;
+    Ok((place, ty))
 }
 
 /// Whether a bit-vector has bits from the high one down to the low one.
@@ -570,9 +602,21 @@ fn shift(
     if !are_same_bits(&amount.ty, &a.ty) {
         return Err(FlatError::NotBuilt);
     }
-    let ty = copy_ty(alloc, &a.ty)?;
-    let t = on_two(alloc, op, ty, a, amount)?;
+    let t = of_first_type(alloc, op, a, amount)?;
     Ok(t)
+}
+
+/// An operation that gives the type of its first part.
+fn of_first_type(
+    alloc: Global,
+    op: Op,
+    a: TypedExpression,
+    b: TypedExpression,
+) -> Result<TypedExpression, AllocError>
+    ensures { IfOk result (λ t. t ≡ operation op a.ty (a ∷ b ∷ [])) }
+{
+    let ty = copy_ty(alloc, &a.ty)?;
+    on_two(alloc, op, ty, a, b)
 }
 
 /// A function on bits: its number or amount, and the bits.

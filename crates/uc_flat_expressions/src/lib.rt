@@ -8,5 +8,5 @@ mod walking;
 
 pub use building::Chain;
 pub use typed::{FlatError, Meant, TypedArm, TypedExpression};
-pub use types::{equal_types, is_boolean};
+pub use types::is_boolean;
 pub use walking::flat_expression;

@@ -18,8 +18,8 @@ use Rattle.uc_flat_expressions.specs.declared.typed.FlatError.TheVariants.{NoMem
 use Rattle.uc_flat_expressions.specs.Answers.{IsAnswer}
 use Rattle.uc_flat_code.specs.Code.{code_of}
 use Rattle.uc_flat_names.specs.Names.{StandsAlone, names_over_cells, types_of}
-use Rattle.uc_code_meaning.specs.Sequential.{plainly}
-use Rattle.uc_step_meaning.specs.Next.{primed_behind}
+use Rattle.uc_flat_design.specs.Sequential.{plainly}
+use Rattle.uc_flat_design.specs.Next.{primed_behind}
 use Rattle.uc_flat_design.specs.Design.{is_built, is_cell_type, formulas_from, IsFlatOf}
 use Rattle.uc_flat_table.specs.declared.cells.OwnCell.{OwnCell}
 use Rattle.uc_flat_making.specs.Made.{IsMade, full, flat_over, next_once, made_over, made_typed, made, made_only, made_whole}

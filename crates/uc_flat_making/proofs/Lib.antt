@@ -1,2 +1,4 @@
+pub mod Forms
+pub mod ByKinds
 pub mod Lengths
 pub mod Answered

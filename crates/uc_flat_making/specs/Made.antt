@@ -14,8 +14,8 @@ use Rattle.uc_flat_expressions.specs.declared.typed.FlatError.{FlatError}
 use Rattle.uc_flat_expressions.specs.declared.typed.FlatError.TheVariants.{NoMemory, NotBuilt}
 use Rattle.uc_flat_code.specs.Code.{code_of}
 use Rattle.uc_flat_names.specs.Names.{names_over_cells, types_of}
-use Rattle.uc_code_meaning.specs.Sequential.{plainly}
-use Rattle.uc_step_meaning.specs.Next.{primed_behind, step_code}
+use Rattle.uc_flat_design.specs.Sequential.{plainly}
+use Rattle.uc_flat_design.specs.Next.{primed_behind, step_code}
 use Rattle.uc_flat_table.specs.declared.cells.OwnCell.{OwnCell}
 use Rattle.uc_flat_design.specs.Design.{is_built, is_cell_type, flat_cell, formulas_from, IsFlatOf}
 

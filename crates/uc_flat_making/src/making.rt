@@ -8,12 +8,12 @@ ghost use Rattle.uc_flat_names.specs.Names.{StandsAlone, names_over_cells};
 ghost use Rattle.uc_flat_design.specs.Design.{is_built};
 ghost use Rattle.uc_flat_making.specs.Made.{IsMade, made_over, made_typed, made, made_whole};
 
+use crate::parts::are_built;
 use crate::pieces::made_over;
+use crate::types::are_cell_types;
 use std::alloc::Global;
-use uc_cell_types::are_cell_types;
 use uc_flat::Flat;
 use uc_flat_expressions::FlatError;
-use uc_flat_parts::are_built;
 use uc_flat_table::{cell_types_of, names_table, own_cells};
 use uc_syntax::Module;
 use uc_type_reader::Tables;

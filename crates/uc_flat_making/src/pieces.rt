@@ -4,17 +4,17 @@ ghost use Rattle.std.specs.Prelude.{◌≡◌, ◌++◌, Some, map, length, IfOk
 ghost use Rattle.uc_meaning.specs.Lookup.{init_of};
 ghost use Rattle.uc_flat_expressions.specs.Answers.{IsAnswer};
 ghost use Rattle.uc_flat_code.specs.Code.{code_of};
-ghost use Rattle.uc_code_meaning.specs.Sequential.{plainly};
-ghost use Rattle.uc_step_meaning.specs.Next.{inputs_from, step_code};
+ghost use Rattle.uc_flat_design.specs.Sequential.{plainly};
+ghost use Rattle.uc_flat_design.specs.Next.{inputs_from, step_code};
 ghost use Rattle.uc_flat_design.specs.Design.{flat_cell};
 ghost use Rattle.uc_flat_making.specs.Made.{full, flat_over, next_once, made_over};
 
+use crate::blocks::{init_code, next_code};
+use crate::parts::{formulas, inputs};
 use std::alloc::{AllocError, Global};
 use uc_flat::{Cell, Flat, Formula, Statement};
-use uc_flat_blocks::{init_code, next_code};
 use uc_flat_code::Writing;
 use uc_flat_expressions::{FlatError, Meant};
-use uc_flat_parts::{formulas, inputs};
 use uc_flat_table::OwnCell;
 use uc_items::Items;
 use uc_syntax::{Module, VariableKind};

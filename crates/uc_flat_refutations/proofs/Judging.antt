@@ -30,10 +30,10 @@ use Rattle.uc_flat_names.proofs.Cells.{alone_instances}
 use Rattle.uc_flat_code.specs.declared.writing.Writing.{Writing}
 use Rattle.uc_flat_code.specs.declared.writing.FlatArm.{FlatArm}
 use Rattle.uc_flat_code.specs.Code.{MayBe, in_order, arm_with, arm_of, joined_arms, else_of, if_of, code_form, statement_of, code_of}
-use Rattle.uc_code_meaning.specs.Sequential.{plainly}
-use Rattle.uc_code_meaning.proofs.Options.{then_some, map_some, if_some, some_same}
-use Rattle.uc_code_meaning.proofs.Sequential.{arms_in, else_in}
-use Rattle.uc_step_meaning.specs.Next.{primed_behind}
+use Rattle.uc_flat_design.specs.Sequential.{plainly}
+use Rattle.uc_flat_design.proofs.Options.{then_some, map_some, if_some, some_same}
+use Rattle.uc_flat_design.proofs.Sequential.{arms_in, else_in}
+use Rattle.uc_flat_design.specs.Next.{primed_behind}
 use Rattle.uc_flat_design.specs.Design.{is_built, condition_of, formula_in, formulas_from, IsFlatOf}
 use Rattle.uc_flat_design.proofs.Laws.{main_is, alone_of}
 use Rattle.uc_flat_refutations.specs.Laws.{LinesLaw}

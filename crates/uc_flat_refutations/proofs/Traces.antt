@@ -42,8 +42,8 @@ use Rattle.uc_flat_expressions.specs.Expressions.{flat_of}
 use Rattle.uc_flat_names.specs.Names.{names_over_cells, types_of}
 use Rattle.uc_flat_names.proofs.Cells.{alone_instances}
 use Rattle.uc_flat_names.proofs.Meaning.{mapped_at}
-use Rattle.uc_code_meaning.proofs.Options.{then_some, map_some, if_some, some_same}
-use Rattle.uc_code_meaning.proofs.Sequential.{truth_holds}
+use Rattle.uc_flat_design.proofs.Options.{then_some, map_some, if_some, some_same}
+use Rattle.uc_flat_design.proofs.Sequential.{truth_holds}
 use Rattle.uc_flat_design.specs.Design.{is_built, condition_of, formula_in, formulas_from, IsFlatOf}
 use Rattle.uc_flat_design.proofs.Tables.{fit_cells, init_table}
 use Rattle.uc_flat_design.proofs.Laws.{main_is, alone_of, flat_types, initial_holds, step_holds}

@@ -30,9 +30,9 @@ use Rattle.uc_flat_fits.proofs.Conditions.{boolean_is}
 use Rattle.uc_flat_fits.proofs.Standing.{Everywhere, nowhere, both, one_havoc}
 use Rattle.uc_flat_fits.proofs.Suiting.{code_gives}
 use Rattle.uc_flat_fits.proofs.Laws.{fits_suited, reads_suited, sequential_holds, step_holds}
-use Rattle.uc_code_meaning.specs.Sequential.{plainly}
-use Rattle.uc_code_meaning.proofs.Options.{then_some, map_some, if_some, some_same}
-use Rattle.uc_step_meaning.specs.Next.{primed_behind, inputs_from, step_code}
+use Rattle.uc_flat_design.specs.Sequential.{plainly}
+use Rattle.uc_flat_design.proofs.Options.{then_some, map_some, if_some, some_same}
+use Rattle.uc_flat_design.specs.Next.{primed_behind, inputs_from, step_code}
 use Rattle.uc_flat_design.specs.Design.{condition_of, formula_in, formulas_from, IsFlatOf}
 use Rattle.uc_flat_design.proofs.Tables.{all_valid, says_at_zeros, init_table}
 use Rattle.uc_flat_design.proofs.Laws.{alone_of, flat_types}

@@ -21,7 +21,7 @@ use Rattle.uc_flat_names.specs.Names.{names_over_cells}
 use Rattle.uc_flat_lines.specs.declared.line.FlatVerdict.{FlatVerdict}
 use Rattle.uc_flat_lines.specs.declared.line.FlatVerdict.TheVariants.{Passed, Failed, Undef}
 use Rattle.uc_flat_lines.specs.Lines.{speaks_of_one, singles_below, step_lines, lines_below, IsFlatVerdict}
-use Rattle.uc_code_meaning.proofs.Options.{then_some, map_some, if_some, some_same}
+use Rattle.uc_flat_design.proofs.Options.{then_some, map_some, if_some, some_same}
 use Rattle.uc_flat_design.specs.Design.{condition_of, formula_in, formulas_from}
 use Rattle.uc_flat_refutations.proofs.Judging.{lines_hold}
 use Rattle.uc_flat_refutations.proofs.Traces.{found_holds, refuted_holds}

@@ -8,11 +8,14 @@ use Rattle.uc_front.specs.declared.error.FrontError.{FrontError}
 use Rattle.uc_front.specs.declared.error.FrontError.TheVariants.{NoMemory, ReadFault, Refused}
 use Rattle.uc_front.specs.declared.lexing.Source.{Source}
 use Rattle.uc_front.specs.declared.refusal.Refusal.{Refusal}
-use Rattle.uc_front.specs.declared.refusal.Refusal.TheVariants.{Syntax, TooDeep, TooManyNames, NoMain}
+use Rattle.uc_front.specs.declared.refusal.Refusal.TheVariants.{NoFile, TooLong, BadByte, BadNumber, OpenComment, Syntax, TooDeep, TooManyNames, NoMain, BreaksRule, NotBuilt}
 use Rattle.uc_front.specs.Sources.{AreTexts, AreSources, texts_of}
-use Rattle.uc_front.specs.Denotes.{names_of, AreSpelled, main_in}
+use Rattle.uc_syntax.specs.Contents.{Contents, design_of}
+use Rattle.uc_meaning.specs.Lookup.{system_of}
+use Rattle.uc_rules.specs.Declarations.{IsFirstFault}
+use Rattle.uc_front.specs.Denotes.{names_of, AreSpelled, main_in, main_name, IsDesignOf}
 use Rattle.uc_front.specs.Refused.{IsUnread, IsUnlexed, place_at, refusal_of, IsUnspelled, IsUnbuilt, IsRefused}
-use Rattle.uc_front.specs.Errors.{IsFrontError, IsTextError}
+use Rattle.uc_front.specs.Errors.{IsFrontError, IsTextError, IsRuleFault}
 
 unspelled : (files : List (List ℕ)) (sources : List Source) (r : Refusal) → IsUnspelled (names_of files sources) sources r → IsUnbuilt files sources r
 unspelled files sources r h = by h.3 h.7
@@ -36,6 +39,26 @@ pub no_main : (files : List (List ℕ)) (sources : List Source) (names : List (L
     IsUnbuilt files sources NoMain
 no_main files sources names modules same all none =
     (modules, subst (λ ns. AreSpelled ns sources modules) same all, ap (λ ns. main_in ns modules) (sym same) ∙ none)
+
+-- of the static rules
+pub by_rules : (files : List (List ℕ)) (sources : List Source) (d : Contents) (main : ℕ) (e : FrontError) → IsDesignOf files sources (system_of d main) → d ≡ design_of d.names d.files d.modules →
+    IsTextError (IsRuleFault d) e → IsTextError (IsUnbuilt files sources) e
+by_rules files sources d main NoMemory denoted whole h = tt
+by_rules files sources d main ReadFault denoted whole h = h
+by_rules files sources d main (Refused r) denoted whole h = by r h
+  where
+    by : (r : Refusal) → IsRuleFault d r → IsUnbuilt files sources r
+    by (BreaksRule fault) h = (system_of d main, denoted, subst (λ c. IsFirstFault c main_name fault) whole h)
+    by (NoFile n) h = absurd h
+    by (TooLong n) h = absurd h
+    by (BadByte p) h = absurd h
+    by (BadNumber p) h = absurd h
+    by (OpenComment p) h = absurd h
+    by (Syntax p) h = absurd h
+    by (TooDeep p) h = absurd h
+    by (TooManyNames p) h = absurd h
+    by NoMain h = absurd h
+    by (NotBuilt p) h = absurd h
 
 -- of reading a design
 pub by_reading : (held : List ℕ → Option (List ℕ)) (files : List (List ℕ)) (e : FrontError) → IsFrontError (IsUnread held files) e → IsFrontError (IsRefused held files) e

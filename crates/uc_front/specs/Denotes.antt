@@ -3,12 +3,14 @@ use Rattle.std.specs.Prelude.{◌≡◌, ℕ, Bool, codes, List, [], ◌∷◌, 
 use Rattle.std.specs.Str.{bytes_eq}
 use Rattle.std.specs.List.{position_from}
 use Rattle.uc_syntax.specs.declared.declaration.Module.{Module}
+use Rattle.uc_syntax.specs.Contents.{Contents, design_of}
 use Rattle.uc_syntax.specs.Numbering.{with_text}
 use Rattle.uc_forms.specs.Answer.{Answer, spelled, IsAnswer}
 use Rattle.uc_grammar.specs.declared.word.Word.{Word}
 use Rattle.uc_grammar.specs.Language.{grammar}
 use Rattle.uc_words.specs.Words.{AreWords, with_tokens}
 use Rattle.uc_meaning.specs.Lookup.{System}
+use Rattle.uc_rules.specs.Declarations.{KeepsRules}
 use Rattle.uc_runnable.specs.Runnable.{IsRunnable}
 use Rattle.uc_front.specs.declared.lexing.Source.{Source}
 use Rattle.uc_front.specs.Sources.{AreSources}
@@ -40,9 +42,13 @@ AreSpelled names [] modules = modules ≡ []
 AreSpelled names (source ∷ sources) modules =
     (first : List Module) × (others : List Module) × HasAnswer names source (spelled first) × AreSpelled names sources others × (modules ≡ first ++ others)
 
--- whether a module is called `main`
+-- the name of the module that is judged
+abbrev pub main_name : List ℕ
+main_name = codes "main"
+
+-- whether a module has it
 abbrev pub is_main : List (List ℕ) → Module → Bool
-is_main names m = bytes_eq (unwrap_or (slice_get names m.name) []) (codes "main")
+is_main names m = bytes_eq (unwrap_or (slice_get names m.name) []) main_name
 
 -- the number of the first module that is called so
 abbrev pub main_in : List (List ℕ) → List Module → Option ℕ
@@ -61,6 +67,14 @@ pub record Denotes (held : List ℕ → Option (List ℕ)) (files : List (List �
   pub are_sources : AreSources held files sources
   pub is_design : IsDesignOf files sources system
 
--- It denotes one that runs today.
+-- what a design holds, whichever module is main
+abbrev pub contents_of : System → Contents
+contents_of system = design_of system.names system.files system.modules
+
+-- the design keeps the static rules
+abbrev pub IsKept : System → Type 0
+IsKept system = KeepsRules (contents_of system) main_name
+
+-- It denotes one that keeps the static rules and runs today.
 abbrev pub IsAccepted : (List ℕ → Option (List ℕ)) → List (List ℕ) → System → Type 0
-IsAccepted held files system = Denotes held files system × IsRunnable system
+IsAccepted held files system = Denotes held files system × IsKept system × IsRunnable system

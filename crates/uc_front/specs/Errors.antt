@@ -1,9 +1,12 @@
 -- What the errors of this crate say.
 use Rattle.std.specs.Prelude.{◌≡◌, ℕ, ◌<◌, List, length, Option, None, IsSomeAnd}
+use Rattle.uc_syntax.specs.Contents.{Contents}
+use Rattle.uc_rules.specs.Declarations.{IsFirstFault}
 use Rattle.uc_front.specs.declared.error.FrontError.{FrontError}
 use Rattle.uc_front.specs.declared.error.FrontError.TheVariants.{NoMemory, ReadFault, Refused}
 use Rattle.uc_front.specs.declared.refusal.Refusal.{Refusal}
-use Rattle.uc_front.specs.declared.refusal.Refusal.TheVariants.{NoFile, TooLong}
+use Rattle.uc_front.specs.declared.refusal.Refusal.TheVariants.{NoFile, TooLong, BreaksRule}
+use Rattle.uc_front.specs.Denotes.{main_name}
 
 -- a refusal is right
 abbrev pub IsFrontError : (Refusal → Type 0) → FrontError → Type 0
@@ -21,3 +24,8 @@ abbrev pub IsUnreadFile : Option (List ℕ) → ℕ → ℕ → Refusal → Type
 IsUnreadFile held file room (NoFile n) = (n ≡ file) × (held ≡ None)
 IsUnreadFile held file room (TooLong n) = (n ≡ file) × IsSomeAnd held (λ text. room < length text)
 IsUnreadFile held file room other = ⊥
+
+-- a design is refused for the first fault of the static rules
+abbrev pub IsRuleFault : Contents → Refusal → Type 0
+IsRuleFault d (BreaksRule fault) = IsFirstFault d main_name fault
+IsRuleFault d other = ⊥

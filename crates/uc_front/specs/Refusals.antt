@@ -1,8 +1,9 @@
 -- The numbers and places of refusals.
 use Rattle.std.specs.Prelude.{ℕ}
 use Rattle.uc_lexer.specs.declared.place.Place.{Place}
+use Rattle.uc_rules.specs.Faults.{number_of as rule_number}
 use Rattle.uc_front.specs.declared.refusal.Refusal.{Refusal}
-use Rattle.uc_front.specs.declared.refusal.Refusal.TheVariants.{NoFile, TooLong, BadByte, BadNumber, OpenComment, Syntax, TooDeep, TooManyNames, NoMain, NotBuilt}
+use Rattle.uc_front.specs.declared.refusal.Refusal.TheVariants.{NoFile, TooLong, BadByte, BadNumber, OpenComment, Syntax, TooDeep, TooManyNames, NoMain, BreaksRule, NotBuilt}
 
 -- the front of the file of this number
 abbrev pub front : ℕ → Place
@@ -17,10 +18,11 @@ number_of (Syntax p) = 6
 number_of (TooDeep p) = 7
 number_of (NoFile file) = 8
 number_of NoMain = 10
+number_of (BreaksRule fault) = rule_number fault.rule
 number_of (TooManyNames p) = 32
 number_of (NotBuilt p) = 33
 
--- the place of the token at fault; where it is none, the front of the file at fault, or of the first
+-- the place of the token at fault, or of the broken rule; where it is none, the front of the file at fault, or of the first
 abbrev pub place_of : Refusal → Place
 place_of (NoFile file) = front file
 place_of (TooLong file) = front file
@@ -32,3 +34,4 @@ place_of (TooDeep p) = p
 place_of (TooManyNames p) = p
 place_of (NotBuilt p) = p
 place_of NoMain = front 0
+place_of (BreaksRule fault) = fault.place

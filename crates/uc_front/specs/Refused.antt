@@ -13,14 +13,15 @@ use Rattle.uc_grammar.specs.declared.word.Word.{Word}
 use Rattle.uc_words.specs.Words.{AreWords}
 use Rattle.uc_built.specs.Outside.{left_at}
 use Rattle.uc_meaning.specs.Lookup.{System, or_else}
-use Rattle.uc_unfit.specs.Unfit.{unfit_of}
+use Rattle.uc_rules.specs.Declarations.{IsFirstFault as IsFirstBroken}
+use Rattle.uc_runnable.specs.Unfit.{unfit_of}
 use Rattle.uc_runnable.specs.Runnable.{IsRunnable}
 use Rattle.uc_front.specs.declared.lexing.Source.{Source}
 use Rattle.uc_front.specs.declared.refusal.Refusal.{Refusal}
-use Rattle.uc_front.specs.declared.refusal.Refusal.TheVariants.{NoFile, TooLong, BadByte, BadNumber, OpenComment, Syntax, TooDeep, TooManyNames, NoMain, NotBuilt}
+use Rattle.uc_front.specs.declared.refusal.Refusal.TheVariants.{NoFile, TooLong, BadByte, BadNumber, OpenComment, Syntax, TooDeep, TooManyNames, NoMain, BreaksRule, NotBuilt}
 use Rattle.uc_front.specs.Sources.{AreTexts, AreLexed, AreSources, texts_of}
 use Rattle.uc_front.specs.Refusals.{front}
-use Rattle.uc_front.specs.Denotes.{names_of, HasAnswer, AreSpelled, main_in, IsDesignOf}
+use Rattle.uc_front.specs.Denotes.{names_of, HasAnswer, AreSpelled, main_in, IsDesignOf, main_name, contents_of, IsKept}
 
 -- Reading refuses: no text has the name of the file of this number; or its text and those before it pass the limit.
 abbrev pub IsUnread : (List ℕ → Option (List ℕ)) → List (List ℕ) → Refusal → Type 0
@@ -69,13 +70,16 @@ AreJoined names (source ∷ sources) ws =
 abbrev pub IsLeftAt : List (List ℕ) → List Source → System → Place → Type 0
 IsLeftAt names sources system p = (ws : List Word) × AreJoined names sources ws × (p ≡ unwrap_or (or_else (left_at false ws) (unfit_of system)) (front 0))
 
--- The passes behind lexing refuse: parsing; no module is called `main`; or the design is none that runs today.
+-- The passes behind lexing refuse: parsing; no module is called `main`; the design breaks a static rule, and this is the first fault, by its place and then by its
+-- number; or it keeps the rules and is none that runs today.
 abbrev pub IsUnbuilt : List (List ℕ) → List Source → Refusal → Type 0
 IsUnbuilt files sources (Syntax p) = IsUnspelled (names_of files sources) sources (Syntax p)
 IsUnbuilt files sources (TooDeep p) = IsUnspelled (names_of files sources) sources (TooDeep p)
 IsUnbuilt files sources (TooManyNames p) = IsUnspelled (names_of files sources) sources (TooManyNames p)
 IsUnbuilt files sources NoMain = (modules : List Module) × AreSpelled (names_of files sources) sources modules × (main_in (names_of files sources) modules ≡ None)
-IsUnbuilt files sources (NotBuilt p) = (system : System) × IsDesignOf files sources system × (IsRunnable system → ⊥) × IsLeftAt (names_of files sources) sources system p
+IsUnbuilt files sources (BreaksRule fault) = (system : System) × IsDesignOf files sources system × IsFirstBroken (contents_of system) main_name fault
+IsUnbuilt files sources (NotBuilt p) =
+    (system : System) × IsDesignOf files sources system × IsKept system × (IsRunnable system → ⊥) × IsLeftAt (names_of files sources) sources system p
 IsUnbuilt files sources other = ⊥
 
 -- Which refusals are right for what is held under the files' names: a pass refuses with it, and the passes before accept all files.

@@ -1,11 +1,13 @@
 //! From the sources of all files to their design.
 
-ghost use Rattle.std.specs.Prelude.{◌≡◌, ◌∷◌, [], ◌≤◌, ◌<◌, codes, length, map, slice_get, unwrap_or, Some, IfOk, IfErr};
+ghost use Rattle.std.specs.Prelude.{◌≡◌, ◌∷◌, [], ◌≤◌, ◌<◌, codes, length, map, slice_get, unwrap_or, Some, IsOk, IfOk, IfErr};
 ghost use Rattle.std.specs.List.{concat, position_from};
 ghost use Rattle.std.specs.Str.{bytes_eq};
 ghost use Rattle.uc_runnable.specs.Runnable.{IsRunnable};
-ghost use Rattle.uc_front.specs.Denotes.{AreSpelled, IsDesignOf, names_of, is_main, main_in};
-ghost use Rattle.uc_front.specs.Errors.{IsTextError};
+ghost use Rattle.uc_rules.specs.Declarations.{KeepsRules};
+ghost use Rattle.uc_syntax.specs.Contents.{design_of};
+ghost use Rattle.uc_front.specs.Denotes.{AreSpelled, IsDesignOf, IsKept, names_of, is_main, main_in, main_name};
+ghost use Rattle.uc_front.specs.Errors.{IsRuleFault, IsTextError};
 ghost use Rattle.uc_front.specs.Refused.{IsUnbuilt, IsUnspelled};
 ghost use Rattle.uc_front.specs.Sources.{words_of, AreLexed, texts_of};
 
@@ -19,8 +21,9 @@ use std::alloc::Global;
 use uc_lexer::MAX_TEXT;
 use uc_runnable::{NotRunnable, Runnable};
 use uc_syntax::{Design, Module, Names};
+use uc_types::{TypeError, check};
 
-/// The design that the sources of these files spell, if it runs today.
+/// The design that the sources of these files spell, if it keeps the static rules and runs today.
 pub(crate) fn design_of(
     alloc: Global,
     files: &[&str],
@@ -31,6 +34,7 @@ pub(crate) fn design_of(
     requires within { length (concat (texts_of sources.now)) ≤ MAX_TEXT }
     requires lexed { AreLexed 0 sources.now }
     ensures denotes { IfOk result (IsDesignOf (words_of files.now) sources.now) }
+    ensures kept { IfOk result IsKept }
     ensures runs { IfOk result IsRunnable }
     ensures refused { IfErr result (IsTextError (IsUnbuilt (words_of files.now) sources.now)) }
 {
@@ -41,7 +45,8 @@ pub(crate) fn design_of(
     let Ok(main) = u32::try_from(main) else {
         return Err(FrontError::NoMemory);
     };
-    match Runnable::of(alloc, design, main) {
+    let kept = checked(alloc, design)?;
+    match Runnable::of(alloc, kept, main) {
         Ok(runnable) => {
             runnable.keeps();
             Ok(runnable)
@@ -63,12 +68,29 @@ fn spelled(alloc: Global, files: &[&str], sources: &[Source]) -> Result<Design, 
     ensures names { IfOk result (λ d. d.names ≡ names_of (words_of files.now) sources.now) }
     ensures files { IfOk result (λ d. map (slice_get d.names) d.files ≡ map (λ f. Some f) (words_of files.now)) }
     ensures modules { IfOk result (λ d. AreSpelled d.names sources.now d.modules) }
+    ensures whole { IfOk result (λ d. d ≡ design_of d.names d.files d.modules) }
     ensures refused { IfErr result (IsTextError (IsUnspelled (names_of (words_of files.now) sources.now) sources.now)) }
 {
     let mut names = Names::new(alloc);
     let files = intern_all(alloc, &mut names, files)?;
     let modules = parse_all(alloc, &mut names, sources)?;
     Ok(Design::of(alloc, names, files, modules)?)
+}
+
+/// The same design, if it keeps the static rules.
+fn checked(alloc: Global, design: Design) -> Result<Design, FrontError>
+    ensures same { IfOk result (λ d. d ≡ design) }
+    ensures kept { IsOk result → KeepsRules design main_name }
+    ensures refused { IfErr result (IsTextError (IsRuleFault design)) }
+{
+    match check(alloc, design, "main") {
+        Ok(typed) => {
+            let (design, _) = typed.parts();
+            Ok(design)
+        }
+        Err(TypeError::NoMemory) => Err(FrontError::NoMemory),
+        Err(TypeError::Fault(fault)) => Err(FrontError::Refused(Refusal::BreaksRule(fault))),
+    }
 }
 
 /// The number of the first module that is called `main`.

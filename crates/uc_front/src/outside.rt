@@ -4,7 +4,7 @@ ghost use Rattle.std.specs.Prelude.{◌≡◌, ◌≤◌, length, fold, IfOk, On
 ghost use Rattle.std.specs.List.{concat};
 ghost use Rattle.uc_front.specs.Denotes.{names_of, with_source};
 ghost use Rattle.uc_meaning.specs.Lookup.{System};
-ghost use Rattle.uc_unfit.specs.Unfit.{unfit_of};
+ghost use Rattle.uc_runnable.specs.Unfit.{unfit_of};
 ghost use Rattle.uc_front.specs.Refused.{AreJoined, IsLeftAt};
 ghost use Rattle.uc_front.specs.Sources.{words_of, AreLexed, texts_of};
 

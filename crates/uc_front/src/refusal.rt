@@ -4,6 +4,7 @@ ghost use Rattle.std.specs.Prelude.{◌≡◌};
 ghost use Rattle.uc_front.specs.Refusals.{front, number_of, place_of};
 
 use uc_lexer::Place;
+use uc_rules::Fault;
 
 /// Why the texts are not accepted. Each has a number for users. Files are numbered from 0, by their places.
 #[derive(Clone, Copy, Debug, PartialEq, Eq)]
@@ -26,14 +27,16 @@ pub enum Refusal {
     TooManyNames(Place),
     /// No module is called `main`.
     NoMain,
-    /// The design is none of those that run today: at this token the texts name the first form that does not run. Where they name
+    /// The design breaks a static rule. This is the fault at the first place, and there the one of the least number.
+    BreaksRule(Fault),
+    /// The design keeps the static rules and is none of those that run today: at this token the texts name the first form that does not run. Where they name
     /// none, it is the first declaration or statement that has no form over cells, or else the front of the first file.
     NotBuilt(Place),
 }
 
 impl Refusal {
     /// The number that the error line gives.
-    pub fn number(self) -> u8
+    pub fn number(self) -> u32
         ensures { result ≡ number_of self }
     {
         match self {
@@ -45,12 +48,13 @@ impl Refusal {
             Refusal::TooDeep(_) => 7,
             Refusal::NoFile(_) => 8,
             Refusal::NoMain => 10,
+            Refusal::BreaksRule(fault) => fault.rule.number(),
             Refusal::TooManyNames(_) => 32,
             Refusal::NotBuilt(_) => 33,
         }
     }
 
-    /// Where the texts are at fault: the front of the file at fault, or of the first, where no token is.
+    /// Where the texts are at fault: the token, or the front of the file at fault, or of the first, where no token is.
     pub fn place(self) -> Place
         ensures { result ≡ place_of self }
     {
@@ -64,6 +68,7 @@ impl Refusal {
             | Refusal::NotBuilt(place) => place,
             Refusal::NoFile(file) | Refusal::TooLong(file) => front(file),
             Refusal::NoMain => front(0),
+            Refusal::BreaksRule(fault) => fault.place,
         }
     }
 }

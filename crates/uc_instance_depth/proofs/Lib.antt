@@ -1,1 +1,2 @@
-mod Nodes
+pub mod Rounds
+pub mod Nodes

@@ -4,8 +4,8 @@ ghost use Rattle.std.specs.Prelude.{◌≡◌, false, slice_index_or, IfOk};
 ghost use Rattle.uc_order_rules.specs.Sizes.{has_deep_module};
 
 use crate::graph::{instance_graph, node_of};
+use crate::ways::long_ways;
 use std::alloc::{AllocError, Global};
-use uc_long_ways::long_ways;
 use uc_module_names::DesignNames;
 
 /// The most modules that a chain of instances may have.

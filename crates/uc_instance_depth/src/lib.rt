@@ -1,7 +1,9 @@
-//! Chains of instances with too many modules.
+//! Chains of instances with too many modules, and the nodes of a graph at which a long way begins.
 #![tactic(auto)]
 
 mod depth;
 mod graph;
+mod ways;
 
 pub use depth::has_deep_module;
+pub use ways::long_ways;

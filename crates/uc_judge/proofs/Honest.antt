@@ -10,8 +10,8 @@ use Rattle.uc_flat.specs.declared.flat.Flat.{Flat}
 use Rattle.uc_flat.specs.Flats.{IsSound}
 use Rattle.uc_flat_code.specs.Code.{code_of}
 use Rattle.uc_flat_names.specs.Names.{names_over_cells}
-use Rattle.uc_code_meaning.specs.Sequential.{plainly}
-use Rattle.uc_step_meaning.specs.Next.{primed_behind}
+use Rattle.uc_flat_design.specs.Sequential.{plainly}
+use Rattle.uc_flat_design.specs.Next.{primed_behind}
 use Rattle.uc_flat_design.specs.Design.{formulas_from, flat_with, IsFlatOf}
 use Rattle.uc_flat_lines.specs.declared.line.FlatLine.{FlatLine}
 use Rattle.uc_flat_lines.specs.declared.line.FlatVerdict.{FlatVerdict}

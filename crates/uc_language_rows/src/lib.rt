@@ -1,13 +1,14 @@
-//! Worked rows of the front end's parts and of the report's text, which only tests run.
+//! Worked rows of the front end's parts, of the operators on values and of the report's text, which only tests run.
 #![tactic(auto)]
 
-#[cfg(test)]
 #[cfg(test)]
 mod io;
 #[cfg(test)]
 mod lexer;
 #[cfg(test)]
 mod names;
+#[cfg(test)]
+mod operators;
 #[cfg(test)]
 mod parser;
 #[cfg(test)]

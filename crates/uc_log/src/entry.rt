@@ -1,13 +1,12 @@
 //! The entries of a log.
 
 ghost use Rattle.std.specs.Prelude.{◌≡◌, ◌↔◌, ◌++◌, ◌∷◌, [], IsTrue, IfOk, length};
-ghost use Rattle.uc_circuit.specs.Gates.{clauses_of_gate};
 ghost use Rattle.uc_log.specs.Entries.{Known, given, added_nodes};
 ghost use Rattle.uc_log.specs.Room.{hints_of};
 
 use crate::Atom;
 use std::alloc::{AllocError, Global};
-use uc_circuit::{Clause, Gate, Lit};
+use uc_circuit::{Clause, Gate, Lit, clauses_of_gate};
 use uc_items::Items;
 
 #[derive(Drop)]
@@ -39,7 +38,7 @@ impl Entry {
         ensures { IfOk result (λ cs. (k : Known) → length k.circuit ≡ variables → cs.items ≡ given k self.now) }
     {
         match self {
-            Entry::Gate(gate) => gate_clauses(alloc, variables, *gate),
+            Entry::Gate(gate) => clauses_of_gate(alloc, variables, *gate),
             Entry::Atom(_) => Ok(Vec::new(alloc)),
             Entry::Learnt(clause, _) => one_clause(alloc, clause.as_slice()),
         }
@@ -102,33 +101,5 @@ pub(crate) fn one_clause(alloc: Global, literals: &[Lit]) -> Result<Vec<Clause>,
 {
     let mut clauses = Vec::new(alloc);
     clauses.push(Clause::from_slice(alloc, literals)?)?;
-    Ok(clauses)
-}
-
-fn gate_clauses(alloc: Global, number: u32, gate: Gate) -> Result<Vec<Clause>, AllocError>
-    ensures { IfOk result (λ cs. cs.items ≡ clauses_of_gate number gate) }
-{
-    let on = Lit::positive(number);
-    let off = on.negate();
-    let mut clauses = Vec::with_capacity(alloc, gate.clauses_count())?;
-    match gate {
-        Gate::And(left, right) => {
-            clauses.push(Clause::from_slice(alloc, &[off, left])?)?;
-            clauses.push(Clause::from_slice(alloc, &[off, right])?)?;
-            clauses.push(Clause::from_slice(alloc, &[on, left.negate(), right.negate()])?)?;
-        }
-        Gate::Xor(left, right) => {
-            clauses.push(Clause::from_slice(alloc, &[off, left, right])?)?;
-            clauses.push(Clause::from_slice(alloc, &[off, left.negate(), right.negate()])?)?;
-            clauses.push(Clause::from_slice(alloc, &[on, left.negate(), right])?)?;
-            clauses.push(Clause::from_slice(alloc, &[on, left, right.negate()])?)?;
-        }
-        Gate::Mux(condition, then, other) => {
-            clauses.push(Clause::from_slice(alloc, &[condition.negate(), then.negate(), on])?)?;
-            clauses.push(Clause::from_slice(alloc, &[condition.negate(), then, off])?)?;
-            clauses.push(Clause::from_slice(alloc, &[condition, other.negate(), on])?)?;
-            clauses.push(Clause::from_slice(alloc, &[condition, other, off])?)?;
-        }
-    }
     Ok(clauses)
 }

@@ -5,7 +5,6 @@
 #![tactic(auto)]
 
 mod build;
-mod copying;
 mod fields;
 mod lowering;
 mod nodes;

@@ -8,10 +8,10 @@ ghost use Rattle.uc_lower.specs.Made.{Grows};
 ghost use Rattle.uc_lower.specs.Steps.{lows, part_lows, joined_lows, IsInner, IsPlain, IsBitsType, IsReady, IsLowerable, IsLowOf};
 
 use crate::build::{chosen, equality, made};
-use crate::copying::copy_op;
 use crate::fields::{label, label_width, low_field};
 use std::alloc::{AllocError, Global};
 use uc_items::{Items, at};
+use uc_ops::copy_op;
 use uc_terms::{Op, TermId, Terms};
 use uc_values::{Ty, Value};
 

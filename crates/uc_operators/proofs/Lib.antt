@@ -1,3 +1,2 @@
 pub mod Chains
 pub mod Extensions
-pub mod Pairs

@@ -8,8 +8,6 @@ mod arithmetic;
 mod bits;
 mod comparison;
 mod error;
-#[cfg(test)]
-mod tests;
 mod truth;
 
 pub use arithmetic::{multiplied, summed, unary};

@@ -130,8 +130,9 @@ pub(crate) fn equal_held(a: &Op, b: &Op) -> bool
     }
 }
 
+/// Whether two types are one. It takes no memory.
 #[cycle(equal_types)]
-fn equal_types(a: &Ty, b: &Ty) -> bool
+pub fn equal_types(a: &Ty, b: &Ty) -> bool
     ensures { result ≡ equal_types a.now b.now }
 {
     match a {

@@ -4,6 +4,7 @@
 mod application;
 mod bitwise;
 mod built;
+mod copying;
 mod difference;
 mod equality;
 mod model;
@@ -15,6 +16,8 @@ mod truth;
 mod typing;
 
 pub use application::apply;
+pub use copying::copy_op;
+pub use equality::equal_types;
 pub use model::{Model, SymbolMap};
 pub use node::Node;
 pub use op::Op;

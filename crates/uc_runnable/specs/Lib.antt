@@ -1,2 +1,3 @@
+pub mod Unfit
 pub mod Runnable
 pub mod Only

@@ -9,6 +9,7 @@ ghost use Rattle.uc_lookup.specs.Parts.{system_in};
 ghost use Rattle.uc_runnable.specs.Runnable.{RunsOver, IsRunnable, IsNoneFor};
 ghost use Rattle.uc_runnable.specs.Only.{IsOnlyPlain, IsFault};
 
+use crate::declarations::unfit_place;
 use std::alloc::{AllocError, Global};
 use std::marker::Model;
 use uc_flat::Flat;
@@ -19,7 +20,6 @@ use uc_items::Items;
 use uc_lookup::SystemRef;
 use uc_syntax::{Decl, Design, Module, Place};
 use uc_type_reader::Tables;
-use uc_unfit::unfit_place;
 
 /// A design that runs today, with the number of main and with the design over numbered cells.
 #[derive(Drop)]

@@ -15,7 +15,7 @@ use crate::building::put;
 use std::alloc::{AllocError, Global};
 use uc_items::Items;
 use uc_linear::difference;
-use uc_simplify_steps::copy_op;
+use uc_ops::copy_op;
 use uc_simplify_sums::{difference_form, multiple_form, sum_form};
 use uc_terms::{Op, TermId, Terms};
 use uc_values::{Ty, Value};

@@ -11,7 +11,7 @@ ghost use Rattle.uc_simplify.specs.Walking.{PartsAnswered, AllAnswered};
 
 use crate::rebuild::rebuild;
 use std::alloc::{AllocError, Global};
-use uc_simplify_steps::copy_op;
+use uc_ops::copy_op;
 use uc_terms::{TermId, Terms, subterms};
 
 /// A term that is equal under every model. Each term below `t` is met once, in the order of their numbers.

@@ -5,7 +5,6 @@
 //! the rules in turn, and again on what a rule gives. The rules stand on the page of the simplifier, `uc_simplify`.
 #![tactic(auto)]
 
-mod copying;
 mod extracts;
 mod folding;
 mod gathering;
@@ -19,6 +18,5 @@ mod sums;
 mod truths;
 mod words;
 
-pub use copying::copy_op;
 pub use settling::settle;
 pub use step::Step;

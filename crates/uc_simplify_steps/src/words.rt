@@ -8,11 +8,11 @@ ghost use Rattle.uc_ops.specs.Typing.{Suits, type_at};
 ghost use Rattle.uc_simplify_steps.specs.Steps.{IsRight, is_ones, is_neutral, is_absorbing, fills_with_zero, is_idempotent, cancels, is_commutative};
 ghost use Rattle.uc_simplify_steps.specs.declared.step.Step.TheVariants.{Other};
 
-use crate::copying::copy_op;
 use crate::pairs::is_constant;
 use crate::step::{Step, constant};
 use std::alloc::{AllocError, Global};
 use uc_items::Items;
+use uc_ops::copy_op;
 use uc_terms::{Op, TermId, Terms};
 use uc_values::word::complement;
 use uc_values::{Ty, Value};

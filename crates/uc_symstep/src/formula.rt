@@ -8,10 +8,10 @@ ghost use Rattle.uc_flat.specs.Fine.{IsTyped};
 ghost use Rattle.uc_symstep.specs.Growing.{Grows, IsTerm, AreTerms, AreCells};
 ghost use Rattle.uc_symstep.specs.Known.{IsKnown, ReadsTyped};
 
-use crate::copying::copy_op;
 use std::alloc::{AllocError, Global};
 use uc_flat::Expression;
 use uc_items::{Items, at};
+use uc_ops::copy_op;
 use uc_terms::{TermId, Terms};
 use uc_values::Ty;
 

@@ -4,7 +4,6 @@
 mod branch;
 mod build;
 mod code;
-mod copying;
 mod design;
 mod formula;
 mod goal;

@@ -55,9 +55,17 @@ pub(crate) fn of_one(alloc: Global, op: Op, first: Ty, model: &Model) -> Result<
     requires suits { Suits op (first ∷ []) }
 {
     let mut terms = Terms::new(alloc)?;
-    let a = symbol(&mut terms, alloc, 0, first)?;
-    let t = made(&mut terms, alloc, op, &[a])?;
+    let t = on_one(&mut terms, alloc, op, first)?;
     eval(alloc, &terms, t, model)
+}
+
+fn on_one(terms: &mut Terms, alloc: Global, op: Op, first: Ty) -> Result<TermId, AllocError>
+    requires first { Valid first }
+    requires suits { Suits op (first ∷ []) }
+    ensures { IfOk result (λ t. t < length terms.new) }
+{
+    let a = symbol(terms, alloc, 0, first)?;
+    made(terms, alloc, op, &[a])
 }
 
 /// The value of an operation on the first two symbols.
@@ -73,10 +81,25 @@ pub(crate) fn of_two(
     requires suits { Suits op (first ∷ second ∷ []) }
 {
     let mut terms = Terms::new(alloc)?;
-    let a = symbol(&mut terms, alloc, 0, first)?;
-    let b = symbol(&mut terms, alloc, 1, second)?;
-    let t = made(&mut terms, alloc, op, &[a, b])?;
+    let t = on_two(&mut terms, alloc, op, first, second)?;
     eval(alloc, &terms, t, model)
+}
+
+fn on_two(
+    terms: &mut Terms,
+    alloc: Global,
+    op: Op,
+    first: Ty,
+    second: Ty,
+) -> Result<TermId, AllocError>
+    requires first { Valid first }
+    requires second { Valid second }
+    requires suits { Suits op (first ∷ second ∷ []) }
+    ensures { IfOk result (λ t. t < length terms.new) }
+{
+    let a = symbol(terms, alloc, 0, first)?;
+    let b = symbol(terms, alloc, 1, second)?;
+    made(terms, alloc, op, &[a, b])
 }
 
 /// The value of an operation on the first three symbols.
@@ -94,9 +117,26 @@ pub(crate) fn of_three(
     requires suits { Suits op (first ∷ second ∷ third ∷ []) }
 {
     let mut terms = Terms::new(alloc)?;
-    let a = symbol(&mut terms, alloc, 0, first)?;
-    let b = symbol(&mut terms, alloc, 1, second)?;
-    let c = symbol(&mut terms, alloc, 2, third)?;
-    let t = made(&mut terms, alloc, op, &[a, b, c])?;
+    let t = on_three(&mut terms, alloc, op, first, second, third)?;
     eval(alloc, &terms, t, model)
+}
+
+fn on_three(
+    terms: &mut Terms,
+    alloc: Global,
+    op: Op,
+    first: Ty,
+    second: Ty,
+    third: Ty,
+) -> Result<TermId, AllocError>
+    requires first { Valid first }
+    requires second { Valid second }
+    requires third { Valid third }
+    requires suits { Suits op (first ∷ second ∷ third ∷ []) }
+    ensures { IfOk result (λ t. t < length terms.new) }
+{
+    let a = symbol(terms, alloc, 0, first)?;
+    let b = symbol(terms, alloc, 1, second)?;
+    let c = symbol(terms, alloc, 2, third)?;
+    made(terms, alloc, op, &[a, b, c])
 }

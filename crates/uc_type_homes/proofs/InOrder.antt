@@ -15,8 +15,8 @@ use Rattle.uc_name_table.specs.declared.table.NameTable.{NameTable}
 use Rattle.uc_name_table.specs.Senses.{declared_meant, module_in, no_module}
 use Rattle.uc_name_table.specs.Tables.{Holds}
 use Rattle.uc_module_names.proofs.Forms.{module_missing}
-use Rattle.uc_opaque_numbers.specs.declared.numbers.OpaqueNumbers.{OpaqueNumbers}
-use Rattle.uc_opaque_numbers.specs.Numbers.{KnowsOpaques}
+use Rattle.uc_type_homes.specs.declared.numbers.OpaqueNumbers.{OpaqueNumbers}
+use Rattle.uc_type_homes.specs.Numbers.{KnowsOpaques}
 use Rattle.uc_type_homes.specs.Homes.{AllOf, EachFrom, HoldsNames, HoldsOwn}
 
 -- the tables of the first modules

@@ -1,1 +1,3 @@
+pub mod OwnDeclared
+pub mod OpaquePlaces
 pub mod InOrder

@@ -9,8 +9,8 @@ use Rattle.uc_name_table.specs.declared.senses.DeclaredType.{DeclaredType}
 use Rattle.uc_name_table.specs.declared.table.NameTable.{NameTable}
 use Rattle.uc_name_table.specs.Senses.{declared_meant, module_in}
 use Rattle.uc_name_table.specs.Tables.{Holds}
-use Rattle.uc_opaque_numbers.specs.declared.numbers.OpaqueNumbers.{OpaqueNumbers}
-use Rattle.uc_opaque_numbers.specs.Numbers.{KnowsOpaques}
+use Rattle.uc_type_homes.specs.declared.numbers.OpaqueNumbers.{OpaqueNumbers}
+use Rattle.uc_type_homes.specs.Numbers.{KnowsOpaques}
 
 -- each of a list, by its place from k on
 unfoldable pub EachFrom : {A : Type 0} → (ℕ → A → Type 0) → ℕ → List A → Type 0

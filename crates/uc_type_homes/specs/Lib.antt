@@ -1,1 +1,4 @@
+pub mod OwnTypes
+pub mod Opaques
+pub mod Numbers
 pub mod Homes

@@ -9,13 +9,13 @@ ghost use Rattle.uc_lookup.specs.Parts.{instance_parts, system_in};
 ghost use Rattle.uc_name_table.specs.Senses.{called_meant, declared_meant, module_in, value_meant};
 
 use crate::lists::{all_names, all_own};
+use crate::numbers::OpaqueNumbers;
 use std::alloc::{AllocError, Global};
 use std::marker::Model;
 use uc_items::Items;
 use uc_lookup::{InstanceParts, SystemRef};
 use uc_module_names::DesignNames;
 use uc_name_table::{Called, DeclaredType, Firsts, NameTable, Value};
-use uc_opaque_numbers::OpaqueNumbers;
 use uc_syntax::Procedure;
 
 /// A design with the tables of its modules.

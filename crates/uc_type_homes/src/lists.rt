@@ -3,11 +3,11 @@
 ghost use Rattle.std.specs.Prelude.{IfOk};
 ghost use Rattle.uc_type_homes.specs.Homes.{AllOf, HoldsNames, HoldsOwn};
 
+use crate::own::own_types;
 use std::alloc::{AllocError, Global};
 use uc_items::Items;
 use uc_module_names::{DesignNames, table_of};
 use uc_name_table::{DeclaredType, Firsts, NameTable};
-use uc_own_types::own_types;
 
 /// The names of the first so many modules of a design.
 pub(crate) fn all_names<'a>(

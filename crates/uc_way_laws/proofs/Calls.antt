@@ -19,9 +19,9 @@ use Rattle.uc_syntax.specs.WrittenTypes.{types_in, enums_of_module}
 use Rattle.uc_meaning.specs.Lookup.{System, Defined, Signature, first_some, is_named, module_named, or_else, some_if}
 use Rattle.uc_meaning.specs.Types.{enum_number}
 use Rattle.uc_rules.specs.Names.{Called, CalledFunction, CalledDefine, Entry, SenseVariable, as_called, called_named, enters, first_fitting, is_entry, labels_brought, labels_form, labels_from, labels_in, name_at, names_in, names_of, only_if, type_brought, types_brought}
-use Rattle.uc_alias_laws.specs.AliasLaw.{IsAmong}
-use Rattle.uc_alias_laws.proofs.Among.{Every, every_append, every_flat, every_map, every_none}
-use Rattle.uc_alias_laws.proofs.Declared.{each_parameter, map_record}
+use Rattle.uc_way_laws.specs.AliasLaw.{IsAmong}
+use Rattle.uc_way_laws.proofs.Among.{Every, every_append, every_flat, every_map, every_none}
+use Rattle.uc_way_laws.proofs.Declared.{each_parameter, map_record}
 use Rattle.uc_way_laws.specs.WayLaws.{CallsAreDeclared, called_in}
 
 -- an entry that takes no arguments

@@ -5,7 +5,7 @@ use Rattle.uc_syntax.specs.declared.declaration.Module.{Module}
 use Rattle.uc_meaning.specs.Lookup.{System, Defined}
 use Rattle.uc_rules.specs.Names.{Called, CalledFunction, CalledDefine, called_named}
 use Rattle.uc_rules.specs.Reads.{body_reads, define_reads, parameter_names, reads_through}
-use Rattle.uc_alias_laws.specs.AliasLaw.{IsAmong}
+use Rattle.uc_way_laws.specs.AliasLaw.{IsAmong}
 use Rattle.uc_way_laws.specs.WayLaws.{DefinesAreFollowed}
 use Rattle.uc_way_laws.proofs.Rounds.{Rounds, settled}
 use Rattle.uc_way_laws.proofs.Calls.{call_declared, define_among, defined_names, names_most}

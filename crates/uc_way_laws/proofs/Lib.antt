@@ -1,4 +1,12 @@
+pub mod Among
+pub mod Declared
+pub mod Growing
+pub mod Stable
 pub mod Rounds
 pub mod Calls
 pub mod Bodies
 pub mod Followed
+pub mod Along
+pub mod Following
+pub mod Aliases
+pub mod Instances

@@ -1,6 +1,6 @@
 -- Rounds in which ever more things pass, all of them of one list: after as many rounds as the list is long no more pass.
 use Rattle.std.proofs.Common.{◌≡◌, ℕ, zero, suc, ◌+◌, ◌<◌, ◌≤◌, Bool, true, false, List, [], ◌∷◌, length, refl, ap, sym, ◌∙◌, arith, ◌⊎◌, inl, inr, ⊎_elim}
-use Rattle.uc_alias_laws.specs.AliasLaw.{IsAmong}
+use Rattle.uc_way_laws.specs.AliasLaw.{IsAmong}
 
 one_if : Bool → ℕ
 one_if true = 1

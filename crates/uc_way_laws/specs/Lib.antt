@@ -1,1 +1,4 @@
+pub mod AliasLaw
 pub mod WayLaws
+pub mod CycleLaws
+pub mod Names

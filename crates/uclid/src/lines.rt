@@ -53,7 +53,7 @@ fn error_line(alloc: Global, file: &[u8], refusal: Refusal) -> Result<Vec<u8>, A
     let place = refusal.place();
     let mut line = Vec::new(alloc);
     put(&mut line, b"error ")?;
-    put_number(&mut line, u32::from(refusal.number()))?;
+    put_number(&mut line, refusal.number())?;
     put(&mut line, b" in ")?;
     put(&mut line, file)?;
     put(&mut line, b" at line ")?;

@@ -14,13 +14,16 @@ use Rattle.uc_forms.proofs.Every.{one_answer}
 use Rattle.uc_grammar.specs.declared.word.Word.{Word}
 use Rattle.uc_grammar.specs.Language.{grammar}
 use Rattle.uc_words.proofs.TokenByToken.{one_list}
+use Rattle.uc_rules.specs.declared.fault.Fault.{Fault}
+use Rattle.uc_rules.specs.Faults.{IsFirst, IsIn}
+use Rattle.uc_rules.specs.Declarations.{design_faults, KeepsRules}
 use Rattle.uc_meaning.specs.Lookup.{System}
 use Rattle.uc_runnable.specs.Runnable.{IsRunnable}
 use Rattle.uc_front.specs.declared.lexing.Source.{Source}
 use Rattle.uc_front.specs.declared.refusal.Refusal.{Refusal}
-use Rattle.uc_front.specs.declared.refusal.Refusal.TheVariants.{NoFile, TooLong, BadByte, BadNumber, OpenComment, Syntax, TooDeep, TooManyNames, NoMain, NotBuilt}
+use Rattle.uc_front.specs.declared.refusal.Refusal.TheVariants.{NoFile, TooLong, BadByte, BadNumber, OpenComment, Syntax, TooDeep, TooManyNames, NoMain, BreaksRule, NotBuilt}
 use Rattle.uc_front.specs.Sources.{AreTexts, AreLexed, AreSources, texts_of}
-use Rattle.uc_front.specs.Denotes.{most_levels, most_names, names_of, HasAnswer, AreSpelled, main_in, IsDesignOf}
+use Rattle.uc_front.specs.Denotes.{most_levels, most_names, names_of, HasAnswer, AreSpelled, main_in, main_name, contents_of, IsDesignOf, IsKept}
 use Rattle.uc_front.specs.Refused.{IsUnread, IsFirstFault, IsUnlexed, refusal_of, IsUnspelled, IsUnbuilt}
 use Rattle.uclid_laws.specs.Laws.{OneDesign, NeverBoth}
 use Rattle.uclid_laws.proofs.Distinct.{names_distinct}
@@ -81,6 +84,7 @@ never_unread held files texts (Syntax p) a h = h
 never_unread held files texts (TooDeep p) a h = h
 never_unread held files texts (TooManyNames p) a h = h
 never_unread held files texts NoMain a h = h
+never_unread held files texts (BreaksRule fault) a h = h
 never_unread held files texts (NotBuilt p) a h = h
 
 -- ---- lexing
@@ -133,6 +137,7 @@ never_unlexed sources (Syntax p) a h = h
 never_unlexed sources (TooDeep p) a h = h
 never_unlexed sources (TooManyNames p) a h = h
 never_unlexed sources NoMain a h = h
+never_unlexed sources (BreaksRule fault) a h = h
 never_unlexed sources (NotBuilt p) a h = h
 
 -- ---- parsing
@@ -214,8 +219,13 @@ one_design held files a b h k =
 
 -- ---- both
 
-never_unbuilt : (files : List (List ℕ)) (sources : List Source) (system : System) (r : Refusal) → IsDesignOf files sources system → IsRunnable system → IsUnbuilt files sources r → ⊥
-never_unbuilt files sources system r d runs h = by r h
+-- a list without faults has no first one
+no_first : (fault : Fault) (fs : List Fault) → fs ≡ [] → IsFirst fault fs → ⊥
+unfolding IsIn
+no_first fault fs none first = (subst (IsFirst fault) none first).0
+
+never_unbuilt : (files : List (List ℕ)) (sources : List Source) (system : System) (r : Refusal) → IsDesignOf files sources system → IsKept system → IsRunnable system → IsUnbuilt files sources r → ⊥
+never_unbuilt files sources system r d keeps runs h = by r h
   where
     distinct : AreDistinct (names_of files sources)
     distinct = names_distinct files sources
@@ -231,7 +241,10 @@ never_unbuilt files sources system r d runs h = by r h
         let modules = one_spelled (names_of files sources) sources system.modules h.0 distinct all h.1 in
         let e : Some system.main ≡ None = sym d.main_is ∙ (λ i. main_in (d.names_are i) (modules i)) ∙ h.2 in
         cc e
-    by (NotBuilt p) h = h.2 (subst IsRunnable (one_of_sources files sources system h.0 d h.1) runs)
+    by (BreaksRule fault) h =
+        let same : KeepsRules (contents_of h.0) main_name = subst IsKept (one_of_sources files sources system h.0 d h.1) keeps in
+        no_first fault (design_faults (contents_of h.0) main_name) same h.2
+    by (NotBuilt p) h = h.3 (subst IsRunnable (one_of_sources files sources system h.0 d h.1) runs)
     by (NoFile n) h = h
     by (TooLong n) h = h
     by (BadByte p) h = h
@@ -245,4 +258,4 @@ never_both held files system r a (inr (inl h)) =
     never_unlexed a.0.sources r a.0.are_sources.are_lexed (subst (λ ts. IsUnlexed ts r) same h.2)
 never_both held files system r a (inr (inr h)) =
     let same = one_sources held files h.0 a.0.sources h.1 a.0.are_sources in
-    never_unbuilt files a.0.sources system r a.0.is_design a.1 (subst (λ ss. IsUnbuilt files ss r) same h.2)
+    never_unbuilt files a.0.sources system r a.0.is_design a.1 a.2 (subst (λ ss. IsUnbuilt files ss r) same h.2)

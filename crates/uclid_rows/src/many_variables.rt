@@ -1,6 +1,6 @@
 //! Designs of many free variables, whose texts are made.
 
-use crate::tests::finish;
+use crate::faults::finish;
 use std::alloc::{AllocError, Global};
 use std::process::Abort;
 use std::test::Fail;

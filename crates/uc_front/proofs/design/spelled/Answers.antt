@@ -1,5 +1,5 @@
-use Rattle.std.proofs.Common.{◌≡◌, length, map, slice_get, Some, sym, subst, ◌∙◌}
-use Rattle.uc_syntax.specs.Contents.{Contents}
+use Rattle.std.proofs.Common.{◌≡◌, length, map, slice_get, Some, refl, sym, subst, ◌∙◌}
+use Rattle.uc_syntax.specs.Contents.{Contents, design_of}
 use Rattle.std.proofs.lemmas.List.{length-map}
 use Rattle.uc_front.specs.Sources.{words_of}
 use Rattle.uc_front.proofs.Names.{kept_to_end, numbers_stay, numbers_below, numbers_count}
@@ -25,3 +25,6 @@ returns-clause-files c =
     let kept = kept_to_end c.intern_all.new.names c.parse_all.new.names c.args.sources.now (sym c.in_ok-modules.ensures.names) in
     let stays = numbers_stay c.intern_all.new.names c.parse_all.new.names c.in_ok-files.files (words_of c.args.files.now) kept c.in_ok-files.ensures.numbers in
     subst (λ (d : Contents). map (slice_get d.names) d.files ≡ map (λ f. Some f) (words_of c.args.files.now)) (sym c.in_ok-of.ensures) stays
+
+pub returns-clause-whole : goal.returns-clause-whole
+returns-clause-whole c = subst (λ (d : Contents). d ≡ design_of d.names d.files d.modules) (sym c.in_ok-of.ensures) refl

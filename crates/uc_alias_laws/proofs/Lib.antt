@@ -1,4 +1,0 @@
-pub mod Among
-pub mod Declared
-pub mod Growing
-pub mod Stable

@@ -1,2 +1,0 @@
-mod CallForms
-mod ExpressionForms

@@ -1,4 +1,0 @@
-pub mod Along
-pub mod Following
-pub mod Aliases
-pub mod Instances

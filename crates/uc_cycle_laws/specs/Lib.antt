@@ -1,2 +1,0 @@
-pub mod CycleLaws
-pub mod Names

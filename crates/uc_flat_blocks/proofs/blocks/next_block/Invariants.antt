@@ -1,7 +1,0 @@
-use Rattle.std.proofs.Common.{[]}
-use Rattle.uc_syntax.proofs.Added.{AddedUpTo}
-use Rattle.uc_meaning.specs.Lookup.{next_in}
-use Rattle.uc_flat_blocks.proofs.blocks.next_block.Given as goal
-
-abbrev pub invariant-loop-decl : goal.invariant-loop-decl
-invariant-loop-decl l = AddedUpTo next_in l.decls [] l.decl-index l.all

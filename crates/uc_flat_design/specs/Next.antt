@@ -1,0 +1,108 @@
+-- A next block and its code over the cells of the old and of the new state.
+use Rattle.std.specs.Prelude.{◌≡◌, ℕ, ◌+◌, true, false, if◌then◌else◌, List, [], ◌∷◌, ◌++◌, map, length, drop, Option, Some, slice_get, All}
+use Rattle.uc_syntax.specs.declared.expression.Expr.{Expr}
+use Rattle.uc_syntax.specs.declared.statement.Stmt.{Stmt}
+use Rattle.uc_values.specs.declared.ty.Ty.{Ty}
+use Rattle.uc_values.specs.declared.value.Value.{Value}
+use Rattle.uc_meaning.specs.declared.scope.Interp.{Interp}
+use Rattle.uc_meaning.specs.declared.scope.Site.{Site}
+use Rattle.uc_meaning.specs.Lookup.{System}
+use Rattle.uc_meaning.specs.Cells.{Cell}
+use Rattle.uc_meaning.specs.Expressions.{reads, reading, name}
+use Rattle.uc_meaning.specs.Steps.{Watched, Kept, Blocks, AllKeep, check_by, is_input, state_of, step_scope, watched_first}
+use Rattle.uc_ops.specs.declared.model.Model.{Model}
+use Rattle.uc_ops.specs.Meaning.{part}
+use Rattle.uc_flat.specs.declared.statement.Statement.{Statement}
+use Rattle.uc_flat.specs.declared.statement.Statement.TheVariants.{Havoc}
+use Rattle.uc_flat.specs.Executions.{FitAll}
+use Rattle.uc_flat.specs.Fine.{IsTyped}
+use Rattle.uc_flat.specs.Running.{run_all}
+use Rattle.uc_flat_expressions.specs.declared.typed.TypedExpression.{TypedExpression}
+use Rattle.uc_flat_expressions.specs.declared.typed.Meant.{Meant}
+use Rattle.uc_flat_expressions.specs.declared.typed.Meant.TheVariants.{Cell as CellOf}
+use Rattle.uc_flat_expressions.specs.Expressions.{flat_of}
+use Rattle.uc_flat_code.specs.declared.writing.Writing.{Writing}
+use Rattle.uc_flat_code.specs.Code.{code_of}
+use Rattle.uc_flat_design.specs.Tables.{Scopes, IsTable}
+use Rattle.uc_same_values.specs.Same.{has_no_array}
+use Rattle.uc_flat_once.specs.declared.once.Part.{Part}
+use Rattle.uc_flat_once.specs.Once.{written_by}
+
+-- in main, between an old and a new state
+abbrev pub between : Interp → List Value → Scopes
+between i new old = step_scope i (state_of old) (state_of new)
+
+-- targets have primes, and write the cells of the new state, which stand behind those of the old one
+abbrev pub primed_behind : ℕ → Writing
+primed_behind n = record { primed = true; shift = n }
+
+-- A table for next blocks: names are read in the old state, whatever the new one is, and primed names of cells are those of the new state.
+pub record IsNextTable (system : System) (m : Model) (types : List Ty) (names : List Meant) (i : Interp) : Type 0 where
+  pub table : (new : List Value) → FitAll types new → IsTable system m types names (between i new)
+  pub primes : (x k : ℕ) (o : Option ℕ) (ty : Ty) → slice_get names x ≡ Some (CellOf k o ty) → (old new : List Value) → FitAll types old → FitAll types new
+      → name system (reading system) (between i new old) x true ≡ reads ty (part new k)
+  pub typed : (e : Expr) (t : TypedExpression) → flat_of names e ≡ Some t → IsTyped types t.expression
+
+abbrev pub types_in : List Cell → List Ty
+types_in cells = map (λ c. c.type) cells
+
+-- in each step the inputs have any values, which are no choices
+unfoldable pub inputs_from : ℕ → List Cell → List Statement
+inputs_from n [] = []
+inputs_from n (c ∷ cells) = (if is_input c.kind then Havoc n false ∷ [] else []) ++ inputs_from (n + 1) cells
+
+-- the code over cells of a step: the inputs, and then the next block
+abbrev pub step_code : List Cell → List Statement → List Statement
+step_code cells flat = inputs_from (length cells) cells ++ flat
+
+-- What a next block asks of two states holds, it uses these choices and lists these sites, and what it does not write stays.
+pub record IsAsked (system : System) (blocks : Blocks) (i : Interp) (cells : List Cell) (code : List Stmt) (old new choices : List Value) (sites : List Site) : Type 0 where
+  pub seen : Watched
+  pub holds : check_by system blocks code (watched_first i (state_of old) (state_of new) choices) ≡ Kept seen
+  pub uses_all : seen.left ≡ []
+  pub lists : seen.sites ≡ sites
+  pub keeps : AllKeep seen.written 0 cells old new
+
+-- From the old cells and the same values as new cells, the code ends with these new cells, uses the choices and lists these sites.
+pub record IsReached (m : Model) (types : List Ty) (code : List Statement) (old new choices : List Value) (sites : List ℕ) : Type 0 where
+  pub others : List Value
+  pub last : List Value
+  pub ends : run_all m (types ++ types) code (record { cells = old ++ old; left = choices; others = others; sites = [] })
+      ≡ Some (record { cells = last; left = []; others = []; sites = sites })
+  pub reaches : drop (length types) last ≡ new
+
+-- the types have no arrays, and the code is that of the next block over cells
+pub record IsNextCode (system : System) (m : Model) (names : List Meant) (i : Interp) (cells : List Cell) (code : List Stmt) (flat : List Statement) : Type 0 where
+  pub table : IsNextTable system m (types_in cells) names i
+  pub plain : All (λ ty. has_no_array ty ≡ true) (types_in cells)
+  pub is : code_of names (primed_behind (length cells)) code ≡ Some flat
+
+-- Where the next block holds between two states, with no choices and no sites, its code over cells leads from the one to the other.
+pub record IsFound (m : Model) (cells : List Cell) (flat : List Statement) (old new choices : List Value) (sites : List Site) : Type 0 where
+  pub no_choices : choices ≡ []
+  pub no_sites : sites ≡ []
+  pub reached : IsReached m (types_in cells) (step_code cells flat) old new [] []
+
+abbrev pub StepFoundLaw : Type 0
+StepFoundLaw =
+    (system : System) (blocks : Blocks) (i : Interp) (m : Model) (names : List Meant) (cells : List Cell) (code : List Stmt) (flat : List Statement) (old new choices : List Value) (sites : List Site)
+    → IsNextCode system m names i cells code flat → FitAll (types_in cells) old → FitAll (types_in cells) new
+    → IsAsked system blocks i cells code old new choices sites → IsFound m cells flat old new choices sites
+
+-- Where the code over cells leads from one state to another, and no way through the next block writes a part of a cell twice, the next block holds between the two, with no choices and no sites.
+pub record IsStepThere (system : System) (blocks : Blocks) (i : Interp) (cells : List Cell) (code : List Stmt) (old new choices : List Value) (sites : List ℕ) : Type 0 where
+  pub no_choices : choices ≡ []
+  pub no_sites : sites ≡ []
+  pub asked : IsAsked system blocks i cells code old new [] []
+
+abbrev pub StepIsLaw : Type 0
+StepIsLaw =
+    (system : System) (blocks : Blocks) (i : Interp) (m : Model) (names : List Meant) (cells : List Cell) (code : List Stmt) (flat : List Statement) (old new choices : List Value) (sites : List ℕ) (after : List Part)
+    → IsNextCode system m names i cells code flat → written_by names code [] ≡ Some after → FitAll (types_in cells) old → FitAll (types_in cells) new
+    → IsReached m (types_in cells) (step_code cells flat) old new choices sites → IsStepThere system blocks i cells code old new choices sites
+
+-- The code over cells leads from fitting cells to fitting cells.
+abbrev pub StepFitsLaw : Type 0
+StepFitsLaw =
+    (system : System) (blocks : Blocks) (i : Interp) (m : Model) (names : List Meant) (cells : List Cell) (code : List Stmt) (flat : List Statement) (old new choices : List Value) (sites : List ℕ)
+    → IsNextCode system m names i cells code flat → FitAll (types_in cells) old → IsReached m (types_in cells) (step_code cells flat) old new choices sites → FitAll (types_in cells) new

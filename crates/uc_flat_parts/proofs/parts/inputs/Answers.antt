@@ -1,5 +1,0 @@
-use Rattle.uc_flat_parts.proofs.ByKinds.{inputs_answer}
-use Rattle.uc_flat_parts.proofs.parts.inputs.Goals as goal
-
-pub returns : goal.returns
-returns c = inputs_answer c.args.shift c.args.kinds.now c.inputs_by.result c.inputs_by.ensures

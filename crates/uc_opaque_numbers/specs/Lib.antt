@@ -1,2 +1,0 @@
-pub mod Opaques
-pub mod Numbers

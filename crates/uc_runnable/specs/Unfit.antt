@@ -1,0 +1,121 @@
+-- Where a module that does not run is at fault: its first declaration, or statement of a block, that has no form over cells.
+use Rattle.std.specs.Prelude.{ℕ, Bool, ◌&&◌, nat_eq, nat_le, if◌then◌else◌, List, [], ◌∷◌, length, Option, Some, None}
+use Rattle.std.specs.Option.{option_and_then}
+use Rattle.std.specs.List.{list_all}
+use Rattle.uc_lexer.specs.declared.place.Place.{Place}
+use Rattle.uc_syntax.specs.declared.type_expression.TypeExpr.{TypeExpr}
+use Rattle.uc_syntax.specs.declared.expression.Expr.{Expr}
+use Rattle.uc_syntax.specs.declared.statement.Stmt.{Stmt}
+use Rattle.uc_syntax.specs.declared.statement.Stmt.TheOpen.{Stmt-F}
+use Rattle.uc_syntax.specs.declared.statement.Stmt.TheOpen.Stmt-F.{Local, Skip, Block, Assert, Assume, Havoc, Assign, If, Case, For, Call, Next as NextStatement}
+use Rattle.uc_syntax.specs.declared.statement.Stmt.TheFolds.{fold-Stmt}
+use Rattle.uc_syntax.specs.declared.place.Identifier.{Identifier}
+use Rattle.uc_syntax.specs.declared.declaration.WrittenRun.TheVariants.{Unroll}
+use Rattle.uc_syntax.specs.declared.declaration.Command.{Command}
+use Rattle.uc_syntax.specs.declared.declaration.Command.TheVariants.{Run, Check, PrintResults, PrintCounterexamples}
+use Rattle.uc_syntax.specs.declared.declaration.Decl.{Decl}
+use Rattle.uc_syntax.specs.declared.declaration.Decl.TheVariants.{OpaqueType, TypeAlias, TypeImport, Variables, Init, Next, Invariant, Control}
+use Rattle.uc_syntax.specs.declared.declaration.Module.{Module}
+use Rattle.uc_meaning.specs.Lookup.{System, or_else, first_some}
+use Rattle.uc_meaning.specs.Types.{type_of_written}
+use Rattle.uc_meaning.specs.Cells.{cells_of}
+use Rattle.uc_meaning.specs.Fragment.{most_steps}
+use Rattle.uc_flat_expressions.specs.declared.typed.Meant.{Meant}
+use Rattle.uc_flat_expressions.specs.Expressions.{flat_of}
+use Rattle.uc_flat_code.specs.declared.writing.Writing.{Writing}
+use Rattle.uc_flat_code.specs.Code.{code_of}
+use Rattle.uc_flat_once.specs.Once.{code_once}
+use Rattle.uc_flat_names.specs.Names.{names_over_cells}
+use Rattle.uc_flat_design.specs.Sequential.{plainly}
+use Rattle.uc_flat_design.specs.Next.{primed_behind}
+use Rattle.uc_flat_design.specs.Design.{is_built, is_cell_type, condition_of}
+use Rattle.uc_fragment.specs.Plain.{with_variables, is_print, unknown_type}
+
+-- the place of a part, where nothing came of it
+abbrev pub unless_there : {A : Type 0} → Place → Option A → Option Place
+unless_there place None = Some place
+unless_there place (Some x) = None
+
+-- ---- statements
+
+-- the place where a statement begins
+abbrev pub place_in : Stmt-F Place → Place
+place_in (Local p xs type) = p
+place_in (Skip p) = p
+place_in (Block p block) = p
+place_in (Assert p label e) = p
+place_in (Assume p e) = p
+place_in (Havoc p x primed) = p
+place_in (Assign p targets sources) = p
+place_in (If p arms otherwise) = p
+place_in (Case p arms otherwise) = p
+place_in (For p x type from to block) = p
+place_in (Call p targets f arguments) = p
+place_in (NextStatement p i) = p
+
+unfoldable pub begins_at : Stmt → Place
+begins_at = fold-Stmt Place place_in
+
+abbrev pub unfit_statement : List Meant → Writing → Stmt → Option Place
+unfit_statement names w s = unless_there (begins_at s) (code_of names w (s ∷ []))
+
+-- the first statement of a block that has no code over cells
+abbrev pub unfit_block : List Meant → Writing → List Stmt → Option Place
+unfit_block names w block = first_some (unfit_statement names w) block
+
+-- the same of a next block; then the block itself, where it writes a part of a cell twice on one way
+abbrev pub unfit_next : List Meant → Writing → Place → List Stmt → Option Place
+unfit_next names w place block = or_else (unfit_block names w block) (unless_there place (code_once names w block))
+
+-- ---- declarations
+
+abbrev pub unfit_type : System → Module → Place → TypeExpr → Option Place
+unfit_type system m place type = if is_cell_type (type_of_written system m type) then None else Some place
+
+abbrev pub unfit_condition : List Meant → Place → Expr → Option Place
+unfit_condition names place e = unless_there place (option_and_then (condition_of 0) (flat_of names e))
+
+-- the place where a command begins
+abbrev pub command_at : Command → Place
+command_at (Run p name run) = p
+command_at (Check p) = p
+command_at (PrintResults p) = p
+command_at (PrintCounterexamples p f paths) = p
+
+abbrev pub unfit_print : List ℕ → Option Identifier → Command → Option Place
+unfit_print cells name c = if is_print cells name c then None else Some (command_at c)
+
+-- the first command that is no `check` and then prints, behind a command of a name; the block itself, where there is none
+abbrev pub unfit_behind : List ℕ → Place → Option Identifier → List Command → Option Place
+unfit_behind cells block name [] = Some block
+unfit_behind cells block name (Check p ∷ prints) = first_some (unfit_print cells name) prints
+unfit_behind cells block name (c ∷ cs) = Some (command_at c)
+
+-- The first command that is not as in `unroll(N); check;` and then prints; the block itself, where `check` is missing.
+abbrev pub unfit_commands : List ℕ → Place → List Command → Option Place
+unfit_commands cells block [] = None
+unfit_commands cells block (Run p name (Unroll n) ∷ cs) = if nat_le n most_steps then unfit_behind cells block name cs else Some p
+unfit_commands cells block (c ∷ cs) = Some (command_at c)
+
+-- A type that is not finite, a block with a statement that has no code, an invariant that is no truth value over cells, or a command that does not run.
+abbrev pub unfit : System → Module → List Meant → List ℕ → ℕ → Decl → Option Place
+unfit system m names cells count (OpaqueType place i) = Some place
+unfit system m names cells count (TypeImport place n) = Some place
+unfit system m names cells count (TypeAlias place i type) = unfit_type system m place type
+unfit system m names cells count (Variables place kind is type) = unfit_type system m place type
+unfit system m names cells count (Init place block) = unfit_block names plainly block
+unfit system m names cells count (Next place block) = unfit_next names (primed_behind count) place block
+unfit system m names cells count (Invariant place i e) = unfit_condition names place e
+unfit system m names cells count (Control place commands) = unfit_commands cells place commands
+unfit system m names cells count other = None
+
+abbrev pub unfit_in : System → Module → Option Place
+unfit_in system m = or_else (unknown_type [] m.decls) (first_some (unfit system m (names_over_cells system m) (with_variables [] m.decls) (length (cells_of system))) m.decls)
+
+abbrev pub unfit_only : System → List Module → Option Place
+unfit_only system (m ∷ []) = if list_all is_built m.decls then unfit_in system m else None
+unfit_only system other = None
+
+-- where the one module of a design is at fault, if there
+abbrev pub unfit_of : System → Option Place
+unfit_of system = if nat_eq system.main 0 then unfit_only system system.modules else None

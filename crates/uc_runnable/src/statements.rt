@@ -1,0 +1,105 @@
+//! Statements that have no code over cells.
+
+ghost use Rattle.std.specs.Prelude.{◌≡◌, ◌∷◌, [], IfOk};
+ghost use Rattle.std.specs.Option.{is_some};
+ghost use Rattle.uc_flat_code.specs.Code.{code_of};
+ghost use Rattle.uc_flat_once.specs.Once.{code_once};
+ghost use Rattle.uc_runnable.specs.Unfit.{begins_at, unless_there, unfit_statement, unfit_block, unfit_next};
+
+use std::alloc::{AllocError, Global};
+use uc_flat_code::{Writing, flat_code};
+use uc_flat_expressions::{FlatError, Meant};
+use uc_flat_once::code_once;
+use uc_syntax::{Place, Stmt};
+
+/// The place where a statement begins.
+#[tactic(auto, using(crate::proofs::Begins::begins_local, crate::proofs::Begins::begins_skip, crate::proofs::Begins::begins_block, crate::proofs::Begins::begins_assert, crate::proofs::Begins::begins_assume, crate::proofs::Begins::begins_havoc, crate::proofs::Begins::begins_assign, crate::proofs::Begins::begins_if, crate::proofs::Begins::begins_case, crate::proofs::Begins::begins_for, crate::proofs::Begins::begins_call, crate::proofs::Begins::begins_next))]
+fn begins_at(statement: &Stmt) -> Place
+    ensures { result ≡ begins_at statement.now }
+{
+    match statement {
+        Stmt::Local(place, _, _) => *place,
+        Stmt::Skip(place) => *place,
+        Stmt::Block(place, _) => *place,
+        Stmt::Assert(place, _, _) => *place,
+        Stmt::Assume(place, _) => *place,
+        Stmt::Havoc(place, _, _) => *place,
+        Stmt::Assign(place, _, _) => *place,
+        Stmt::If(place, _, _) => *place,
+        Stmt::Case(place, _, _) => *place,
+        Stmt::For(place, _, _, _, _, _) => *place,
+        Stmt::Call(place, _, _, _) => *place,
+        Stmt::Next(place, _) => *place,
+    }
+}
+
+/// Whether code has code over cells.
+#[tactic(auto, using(crate::proofs::Answers::there, crate::proofs::Answers::not_there))]
+fn has_code(
+    alloc: Global,
+    names: &[Meant],
+    writing: Writing,
+    block: &[Stmt],
+) -> Result<bool, AllocError>
+    ensures { IfOk result (λ b. b ≡ is_some (code_of names.now writing block.now)) }
+{
+    match flat_code(alloc, names, writing, block) {
+        Ok(_) => Ok(true),
+        Err(FlatError::NotBuilt) => Ok(false),
+        Err(FlatError::NoMemory) => Err(AllocError),
+    }
+}
+
+/// Whether a next block has code over cells, and writes no part of a cell twice on one way.
+#[tactic(auto, using(crate::proofs::Answers::there, crate::proofs::Answers::not_there))]
+fn has_code_once(
+    alloc: Global,
+    names: &[Meant],
+    writing: Writing,
+    block: &[Stmt],
+) -> Result<bool, AllocError>
+    ensures { IfOk result (λ b. b ≡ is_some (code_once names.now writing block.now)) }
+{
+    match code_once(alloc, names, writing, block) {
+        Ok(_) => Ok(true),
+        Err(FlatError::NotBuilt) => Ok(false),
+        Err(FlatError::NoMemory) => Err(AllocError),
+    }
+}
+
+/// The place of the first statement of a block that has no code over cells.
+#[tactic(auto, unfolding(uc_meaning::specs::Lookup::first_some))]
+pub(crate) fn unfit_block(
+    alloc: Global,
+    names: &[Meant],
+    writing: Writing,
+    block: &[Stmt],
+) -> Result<Option<Place>, AllocError>
+    ensures { IfOk result (λ p. p ≡ unfit_block names.now writing block.now) }
+{
+    for k in 0..block.len() {
+        if !has_code(alloc, names, writing, &block[k..k + 1])? {
+            return Ok(Some(begins_at(&block[k])));
+        }
+    }
+    Ok(None)
+}
+
+/// The same of a next block that begins at a place; then the block itself, where it writes a part of a cell twice on one way.
+pub(crate) fn unfit_next(
+    alloc: Global,
+    names: &[Meant],
+    writing: Writing,
+    place: Place,
+    block: &[Stmt],
+) -> Result<Option<Place>, AllocError>
+    ensures { IfOk result (λ p. p ≡ unfit_next names.now writing place block.now) }
+{
+    if let Some(found) = unfit_block(alloc, names, writing, block)? {
+        return Ok(Some(found));
+    }
+    if !has_code_once(alloc, names, writing, block)? {
+        return Ok(Some(place));
+    }
+    Ok(None)
+}

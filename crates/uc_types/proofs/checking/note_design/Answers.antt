@@ -1,0 +1,13 @@
+use Rattle.std.proofs.Common.{◌∙◌}
+use Rattle.uc_lookup.specs.Parts.{system_in}
+use Rattle.uc_types.proofs.Checked.{design_of_parts, modules_are}
+use Rattle.uc_types.proofs.checking.note_design.Goals as goal
+
+pub note_modules-requires : goal.note_modules-requires
+note_modules-requires c =
+    modules_are c.args.design.now c.args.main c.as_slice-modules.result.now (system_in c.of.result) c.in_ok-types.types (c.as_slice-modules.ensures ∙ c.modules.ensures.value) c.of.ensures c.in_ok-types.ensures
+
+pub returns : goal.returns
+returns c =
+    design_of_parts c.args.design.now c.args.main c.as_slice-modules.result.now (system_in c.of.result) c.in_ok-types.types c.args.first.now c.note_repeated_modules.new.first c.note_modules.new.first
+    (c.as_slice-modules.ensures ∙ c.modules.ensures.value) c.of.ensures c.in_ok-types.ensures c.in_ok-note_repeated_modules.ensures c.in_ok-note_modules.ensures

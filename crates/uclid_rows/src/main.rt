@@ -1,0 +1,44 @@
+//! Worked rows of the whole verifier. Each line of the file `rows` has the words of one command line, which name files beside it. What each
+//! run writes, and its status, are printed, and the gate compares them with what is wanted.
+#![tactic(auto)]
+
+#[cfg(test)]
+mod budgets;
+#[cfg(test)]
+mod faults;
+#[cfg(test)]
+mod many_variables;
+
+use std::alloc::{AllocError, Global};
+use std::{fs, io};
+use uc_files::{FileTexts, WriterSink};
+use uc_log::CountMeter;
+use uclid::run;
+
+fn main(rt: HostRuntime) -> io::Result<()> {
+    let rows = fs::read_to_string(&rt, "rows")?;
+    for row in rows.lines() {
+        println!(rt; "$ uclid {row}")?;
+        let status = status_of(&rt, row)?;
+        println!(rt; "status {status}")?;
+    }
+    Ok(())
+}
+
+/// Runs the verifier on the words of a row, and answers its status.
+fn status_of(rt: &HostRuntime, row: &str) -> Result<u8, AllocError> {
+    let words = words_of(rt.alloc(), row)?;
+    let mut texts = FileTexts::new(rt);
+    let mut out = WriterSink::new(io::writer(rt));
+    let mut meter = CountMeter::new();
+    let outcome = run(rt.alloc(), &words, &mut texts, &mut out, &mut meter);
+    Ok(outcome.status)
+}
+
+fn words_of(alloc: Global, row: &str) -> Result<Vec<&str>, AllocError> {
+    let mut words = Vec::new(alloc);
+    for word in row.split_whitespace() {
+        words.push(word)?;
+    }
+    Ok(words)
+}
