@@ -1,16 +1,17 @@
 //! Statements and blocks.
 
 ghost use Rattle.std.specs.Prelude.{◌≡◌, ◌∷◌, []};
-ghost use Rattle.uc_forms.specs.Form.{until, word};
+ghost use Rattle.uc_forms.specs.Form.{after, both, deep, until, word};
 ghost use Rattle.uc_forms.specs.Reading.{is_at};
 ghost use Rattle.uc_counted.specs.Counted.{with_head};
 ghost use Rattle.uc_counted.specs.Gives.{Counts};
 ghost use Rattle.uc_grammar.specs.Code.{code_of};
-ghost use Rattle.uc_grammar.specs.declared.word.Kind.TheVariants.{RightBrace, KwDefault, KwEsac};
-ghost use Rattle.uc_grammar.specs.Syntax.{words, block, statements, statement, arm, if_statement, case_statement, for_statement};
+ghost use Rattle.uc_grammar.specs.declared.word.Kind.TheVariants.{RightBrace, Colon, KwIn, KwDefault, KwEsac, Range};
+ghost use Rattle.uc_grammar.specs.Syntax.{words, block, statements, statement, arm, if_statement, case_statement, for_statement, range_bounds};
 ghost use Rattle.uc_parse_statements.specs.Parts.{nested_block, conditions, branching, else_branches, case_arm, case_arms, default_arm, loop_variable};
 ghost use Rattle.uc_reader.specs.Reading.{state, form, nested};
 
+use crate::behind::beside;
 use crate::bounds::range_bounds;
 use crate::simple::{assertion, assumption, changes, havoc, local, skip};
 use uc_forms::Stop;
@@ -19,7 +20,7 @@ use uc_items::Items;
 use uc_parse_expressions::expr;
 use uc_parse_types::typed_name;
 use uc_reader::Reader;
-use uc_syntax::{Arm, Identifier, Place, Stmt, TypeExpr};
+use uc_syntax::{Arm, Identifier, Place, RangeBound, Stmt, TypeExpr};
 
 const RANGE: Kind = Kind::Range(0);
 
@@ -135,7 +136,7 @@ fn arm(reader: &mut Reader<'_>, levels: u8) -> Result<Arm<Stmt>, Stop>
     ensures { Counts result (state reader.new) (form levels arm (state reader.old)) }
 {
     let condition = expr(reader, levels)?;
-    let body = statements(reader, levels)?;
+    let (condition, body) = beside(condition, statements(reader, levels))?;
     Ok(Arm { condition, body })
 }
 
@@ -204,9 +205,18 @@ fn case_arm(reader: &mut Reader<'_>, levels: u8) -> Result<Arm<Stmt>, Stop>
     ensures { Counts result (state reader.new) (form levels case_arm (state reader.old)) }
 {
     let condition = expr(reader, levels)?;
+    let (condition, body) = beside(condition, case_body(reader, levels))?;
+    Ok(Arm { condition, body })
+}
+
+/// The block behind the colon of an arm.
+#[cycle(statements)]
+fn case_body(reader: &mut Reader<'_>, levels: u8) -> Result<Items<Stmt>, Stop>
+    ensures { Counts result (state reader.new) (form levels (after Colon statements) (state reader.old)) }
+{
     reader.take(Kind::Colon)?;
     let body = statements(reader, levels)?;
-    Ok(Arm { condition, body })
+    Ok(body)
 }
 
 /// The block of `default`, if there is one, and `esac`.
@@ -216,8 +226,7 @@ fn default_arm(reader: &mut Reader<'_>, levels: u8) -> Result<Option<Items<Stmt>
 {
     if reader.is_at(Kind::KwDefault) {
         reader.take(Kind::KwDefault)?;
-        reader.take(Kind::Colon)?;
-        let body = statements(reader, levels)?;
+        let body = case_body(reader, levels)?;
         reader.take(Kind::KwEsac)?;
         return Ok(Some(body));
     }
@@ -232,11 +241,23 @@ fn for_statement(reader: &mut Reader<'_>, levels: u8) -> Result<Stmt, Stop>
 {
     let word = reader.take(Kind::KwFor)?;
     let (variable, ty) = loop_variable(reader, levels)?;
+    let (ty, ((low, high), body)) = beside(ty, loop_body(reader, levels))?;
+    Ok(Stmt::For(word.place, variable, ty, low, high, body))
+}
+
+/// The bounds of a loop and its block.
+#[cycle(statements)]
+fn loop_body(
+    reader: &mut Reader<'_>,
+    levels: u8,
+) -> Result<((RangeBound, RangeBound), Items<Stmt>), Stop>
+    ensures { Counts result (state reader.new) (form levels (after KwIn (after (Range 0) (both (deep range_bounds) statements))) (state reader.old)) }
+{
     reader.take(Kind::KwIn)?;
     reader.take(RANGE)?;
-    let (low, high) = range_bounds(reader, levels)?;
+    let bounds = range_bounds(reader, levels)?;
     let body = statements(reader, levels)?;
-    Ok(Stmt::For(word.place, variable, ty, low, high, body))
+    Ok((bounds, body))
 }
 
 /// The variable of a loop, with its type if it is written. It is declared.

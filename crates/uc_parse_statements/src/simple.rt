@@ -6,12 +6,13 @@ ghost use Rattle.uc_grammar.specs.Syntax.{call_statement, called_targets, place_
 ghost use Rattle.uc_parse_statements.specs.Parts.{local, skip, assertion, assumption, havoc, instance_step, assignment, written_targets, changes};
 ghost use Rattle.uc_reader.specs.Reading.{state, form};
 
+use crate::behind::{beside, expr_before};
 use crate::targets::{call_targets, is_there, optional_prime, targets};
 use std::alloc::Global;
 use uc_forms::Stop;
 use uc_grammar::Kind;
 use uc_items::Items;
-use uc_parse_expressions::{arguments, expr, expressions, in_name};
+use uc_parse_expressions::{arguments, expressions, in_name};
 use uc_parse_types::{new_ids, ty};
 use uc_reader::{Reader, name_of};
 use uc_syntax::{Identifier, Place, Stmt, Target};
@@ -24,7 +25,7 @@ pub(crate) fn local(reader: &mut Reader<'_>, levels: u8) -> Result<Stmt, Stop>
     let names = new_ids(reader, levels)?;
     reader.take(Kind::Colon)?;
     let ty = ty(reader, levels)?;
-    reader.take(Kind::Semicolon)?;
+    let (ty, _) = beside(ty, reader.take(Kind::Semicolon))?;
     Ok(Stmt::Local(word.place, names, ty))
 }
 
@@ -45,16 +46,14 @@ pub(crate) fn assertion(reader: &mut Reader<'_>, levels: u8) -> Result<Stmt, Sto
     if reader.is_at_label() {
         let name = reader.take_name()?;
         reader.take(Kind::Colon)?;
-        let condition = expr(reader, levels)?;
-        reader.take(Kind::Semicolon)?;
+        let condition = expr_before(reader, levels, Kind::Semicolon)?;
         let label = Identifier {
             place: name.place,
             name: name_of(name.kind),
         };
         return Ok(Stmt::Assert(word.place, Some(label), condition));
     }
-    let condition = expr(reader, levels)?;
-    reader.take(Kind::Semicolon)?;
+    let condition = expr_before(reader, levels, Kind::Semicolon)?;
     Ok(Stmt::Assert(word.place, None, condition))
 }
 
@@ -63,8 +62,7 @@ pub(crate) fn assumption(reader: &mut Reader<'_>, levels: u8) -> Result<Stmt, St
     ensures { Counts result (state reader.new) (form levels assumption (state reader.old)) }
 {
     let word = reader.take(Kind::KwAssume)?;
-    let condition = expr(reader, levels)?;
-    reader.take(Kind::Semicolon)?;
+    let condition = expr_before(reader, levels, Kind::Semicolon)?;
     Ok(Stmt::Assume(word.place, condition))
 }
 

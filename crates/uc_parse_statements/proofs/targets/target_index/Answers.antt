@@ -13,8 +13,5 @@ returns-in_err-bracket c = rw (one_deeper c.args.levels target_index (state c.ar
 pub returns-in_err-index : goal.returns-in_err-index
 returns-in_err-index c = rw (one_deeper c.args.levels target_index (state c.args.reader.now) (omega arith)) (search rules)
 
-pub returns-in_err-take : goal.returns-in_err-take
-returns-in_err-take c = rw (one_deeper c.args.levels target_index (state c.args.reader.now) (omega arith)) (search rules)
-
 pub returns : goal.returns
 returns c = rw (one_deeper c.args.levels target_index (state c.args.reader.now) (omega arith)) (search rules)
