@@ -2,14 +2,15 @@
 
 ghost use Rattle.std.specs.Prelude.{◌≡◌, IfOk};
 
+use crate::beside::beside;
 use crate::expression::Expr;
 use crate::place::{Identifier, Place};
-use crate::statement::{Stmt, copy_block};
+use crate::statement::{Stmt, copy_block, copy_named};
 use crate::type_expression::{Parameter, TypeExpr, copy_parameters};
 use std::alloc::{AllocError, Global};
 use uc_items::Items;
 
-#[derive(Clone, Copy, Debug, PartialEq, Eq)]
+#[derive(Clone, Copy, PartialEq, Eq)]
 pub enum VariableKind {
     Variable,
     Input,
@@ -40,7 +41,7 @@ pub struct Binding {
     pub expression: Expr,
 }
 
-#[derive(Clone, Copy, Debug, PartialEq, Eq)]
+#[derive(Clone, Copy, PartialEq, Eq)]
 pub enum WrittenRun {
     Unroll(u128),
     Induction(Option<u128>),
@@ -207,6 +208,33 @@ fn copy_commands(alloc: Global, commands: &[Command]) -> Result<Items<Command>, 
     Ok(copies)
 }
 
+// The parameters of a function and the type of its result.
+fn copy_signature(
+    alloc: Global,
+    parameters: &Items<Parameter<TypeExpr>>,
+    ty: &TypeExpr,
+) -> Result<(Items<Parameter<TypeExpr>>, TypeExpr), AllocError>
+    ensures { IfOk result (λ signature. (signature.0 ≡ parameters.now) × (signature.1 ≡ ty.now)) }
+{
+    let parameters = copy_parameters(alloc, parameters.as_slice())?;
+    let ty = ty.copy(alloc)?;
+    Ok((parameters, ty))
+}
+
+// The parameters of a define, its type and its body.
+fn copy_define(
+    alloc: Global,
+    parameters: &Items<Parameter<TypeExpr>>,
+    ty: &TypeExpr,
+    body: &Expr,
+) -> Result<(Items<Parameter<TypeExpr>>, TypeExpr, Expr), AllocError>
+    ensures { IfOk result (λ define. (define.0 ≡ parameters.now) × (define.1 ≡ ty.now) × (define.2 ≡ body.now)) }
+{
+    let (parameters, ty) = copy_signature(alloc, parameters, ty)?;
+    let (ty, body) = beside(ty, body.copy(alloc))?;
+    Ok((parameters, ty, body))
+}
+
 impl Decl {
     /// The same declaration again.
     pub fn copy(&self, alloc: Global) -> Result<Decl, AllocError>
@@ -220,19 +248,15 @@ impl Decl {
             }
             Decl::TypeImport(place, module) => Ok(Decl::TypeImport(*place, *module)),
             Decl::Variables(place, kind, names, ty) => {
-                let names = Items::from_slice(alloc, names.as_slice())?;
-                let ty = ty.copy(alloc)?;
+                let (names, ty) = copy_named(alloc, names, ty)?;
                 Ok(Decl::Variables(*place, *kind, names, ty))
             }
             Decl::Function(place, name, parameters, ty) => {
-                let parameters = copy_parameters(alloc, parameters.as_slice())?;
-                let ty = ty.copy(alloc)?;
+                let (parameters, ty) = copy_signature(alloc, parameters, ty)?;
                 Ok(Decl::Function(*place, *name, parameters, ty))
             }
             Decl::Define(place, name, parameters, ty, body) => {
-                let parameters = copy_parameters(alloc, parameters.as_slice())?;
-                let ty = ty.copy(alloc)?;
-                let body = body.copy(alloc)?;
+                let (parameters, ty, body) = copy_define(alloc, parameters, ty, body)?;
                 Ok(Decl::Define(*place, *name, parameters, ty, body))
             }
             Decl::Procedure(place, procedure) => {

@@ -2,11 +2,12 @@
 
 ghost use Rattle.std.specs.Prelude.{◌≡◌, IfOk};
 
+use crate::beside::beside;
 use crate::place::{Identifier, Place};
 use std::alloc::{AllocError, Global};
 use uc_items::{Boxed, Items};
 
-#[derive(Clone, Copy, Debug, PartialEq, Eq)]
+#[derive(Clone, Copy, PartialEq, Eq)]
 pub enum UnaryOperator {
     /// `!`
     Not,
@@ -16,7 +17,7 @@ pub enum UnaryOperator {
     Complement,
 }
 
-#[derive(Clone, Copy, Debug, PartialEq, Eq)]
+#[derive(Clone, Copy, PartialEq, Eq)]
 pub enum Comparison {
     Equal,
     Unequal,
@@ -31,7 +32,7 @@ pub enum Comparison {
 }
 
 /// `+` or `-` between two operands of a sum.
-#[derive(Clone, Copy, Debug, PartialEq, Eq)]
+#[derive(Clone, Copy, PartialEq, Eq)]
 pub struct SumSign {
     pub place: Place,
     pub is_minus: bool,
@@ -127,23 +128,19 @@ impl Expr {
                 Ok(Expr::If(*place, branches, otherwise))
             }
             Expr::Iff(place, operands, marks) => {
-                let operands = copy_expressions(alloc, operands.as_slice())?;
-                let marks = Items::from_slice(alloc, marks.as_slice())?;
+                let (operands, marks) = copy_chain(alloc, operands, marks)?;
                 Ok(Expr::Iff(*place, operands, marks))
             }
             Expr::Implies(place, operands, marks) => {
-                let operands = copy_expressions(alloc, operands.as_slice())?;
-                let marks = Items::from_slice(alloc, marks.as_slice())?;
+                let (operands, marks) = copy_chain(alloc, operands, marks)?;
                 Ok(Expr::Implies(*place, operands, marks))
             }
             Expr::Or(place, operands, marks) => {
-                let operands = copy_expressions(alloc, operands.as_slice())?;
-                let marks = Items::from_slice(alloc, marks.as_slice())?;
+                let (operands, marks) = copy_chain(alloc, operands, marks)?;
                 Ok(Expr::Or(*place, operands, marks))
             }
             Expr::And(place, operands, marks) => {
-                let operands = copy_expressions(alloc, operands.as_slice())?;
-                let marks = Items::from_slice(alloc, marks.as_slice())?;
+                let (operands, marks) = copy_chain(alloc, operands, marks)?;
                 Ok(Expr::And(*place, operands, marks))
             }
             Expr::Compare(place, comparison, mark, left, right) => {
@@ -152,23 +149,19 @@ impl Expr {
                 Ok(Expr::Compare(*place, *comparison, *mark, left, right))
             }
             Expr::BitOr(place, operands, marks) => {
-                let operands = copy_expressions(alloc, operands.as_slice())?;
-                let marks = Items::from_slice(alloc, marks.as_slice())?;
+                let (operands, marks) = copy_chain(alloc, operands, marks)?;
                 Ok(Expr::BitOr(*place, operands, marks))
             }
             Expr::BitXor(place, operands, marks) => {
-                let operands = copy_expressions(alloc, operands.as_slice())?;
-                let marks = Items::from_slice(alloc, marks.as_slice())?;
+                let (operands, marks) = copy_chain(alloc, operands, marks)?;
                 Ok(Expr::BitXor(*place, operands, marks))
             }
             Expr::BitAnd(place, operands, marks) => {
-                let operands = copy_expressions(alloc, operands.as_slice())?;
-                let marks = Items::from_slice(alloc, marks.as_slice())?;
+                let (operands, marks) = copy_chain(alloc, operands, marks)?;
                 Ok(Expr::BitAnd(*place, operands, marks))
             }
             Expr::Concat(place, operands, marks) => {
-                let operands = copy_expressions(alloc, operands.as_slice())?;
-                let marks = Items::from_slice(alloc, marks.as_slice())?;
+                let (operands, marks) = copy_chain(alloc, operands, marks)?;
                 Ok(Expr::Concat(*place, operands, marks))
             }
             Expr::Sum(place, operands, marks) => {
@@ -177,8 +170,7 @@ impl Expr {
                 Ok(Expr::Sum(*place, operands, marks))
             }
             Expr::Product(place, operands, marks) => {
-                let operands = copy_expressions(alloc, operands.as_slice())?;
-                let marks = Items::from_slice(alloc, marks.as_slice())?;
+                let (operands, marks) = copy_chain(alloc, operands, marks)?;
                 Ok(Expr::Product(*place, operands, marks))
             }
             Expr::Unary(place, operator, operand) => {
@@ -186,26 +178,11 @@ impl Expr {
                 Ok(Expr::Unary(*place, *operator, operand))
             }
             Expr::Selected(place, primary, selections) => {
-                let primary = match primary {
-                    Primary::Truth(truth) => Primary::Truth(*truth),
-                    Primary::Number(number) => Primary::Number(*number),
-                    Primary::BitsLiteral(value, width) => Primary::BitsLiteral(*value, *width),
-                    Primary::Name(name, is_primed) => Primary::Name(*name, *is_primed),
-                    Primary::Apply(name, arguments) => {
-                        let arguments = copy_expressions(alloc, arguments.as_slice())?;
-                        Primary::Apply(*name, arguments)
-                    }
-                    Primary::OnBits(function, arguments) => {
-                        let arguments = copy_expressions(alloc, arguments.as_slice())?;
-                        Primary::OnBits(*function, arguments)
-                    }
-                    Primary::Old(name) => Primary::Old(*name),
-                    Primary::Grouped(expression) => {
-                        let expression = copy_boxed(alloc, expression)?;
-                        Primary::Grouped(expression)
-                    }
-                };
-                let selections = copy_selections(alloc, selections.as_slice())?;
+                let primary = copy_primary(alloc, primary)?;
+                let (primary, selections) = beside(
+                    primary,
+                    copy_selections(alloc, selections.as_slice()),
+                )?;
                 Ok(Expr::Selected(*place, primary, selections))
             }
         }
@@ -225,6 +202,45 @@ pub fn copy_expressions(alloc: Global, expressions: &[Expr]) -> Result<Items<Exp
     Ok(copies)
 }
 
+// The operands of a chain, and the places of its operators.
+#[cycle(copy_expressions)]
+fn copy_chain(
+    alloc: Global,
+    operands: &Items<Expr>,
+    marks: &Items<Place>,
+) -> Result<(Items<Expr>, Items<Place>), AllocError>
+    ensures { IfOk result (λ chain. (chain.0 ≡ operands.now) × (chain.1 ≡ marks.now)) }
+{
+    let operands = copy_expressions(alloc, operands.as_slice())?;
+    let marks = Items::from_slice(alloc, marks.as_slice())?;
+    Ok((operands, marks))
+}
+
+#[cycle(copy_expressions)]
+fn copy_primary(alloc: Global, primary: &Primary<Expr>) -> Result<Primary<Expr>, AllocError>
+    ensures { IfOk result (λ p. p ≡ primary.now) }
+{
+    match primary {
+        Primary::Truth(truth) => Ok(Primary::Truth(*truth)),
+        Primary::Number(number) => Ok(Primary::Number(*number)),
+        Primary::BitsLiteral(value, width) => Ok(Primary::BitsLiteral(*value, *width)),
+        Primary::Name(name, is_primed) => Ok(Primary::Name(*name, *is_primed)),
+        Primary::Apply(name, arguments) => {
+            let arguments = copy_expressions(alloc, arguments.as_slice())?;
+            Ok(Primary::Apply(*name, arguments))
+        }
+        Primary::OnBits(function, arguments) => {
+            let arguments = copy_expressions(alloc, arguments.as_slice())?;
+            Ok(Primary::OnBits(*function, arguments))
+        }
+        Primary::Old(name) => Ok(Primary::Old(*name)),
+        Primary::Grouped(expression) => {
+            let expression = copy_boxed(alloc, expression)?;
+            Ok(Primary::Grouped(expression))
+        }
+    }
+}
+
 #[cycle(copy_expressions)]
 fn copy_branches(
     alloc: Global,
@@ -235,7 +251,7 @@ fn copy_branches(
     let mut copies = Items::new(alloc);
     for branch in branches {
         let condition = branch.condition.copy(alloc)?;
-        let value = branch.value.copy(alloc)?;
+        let (condition, value) = beside(condition, branch.value.copy(alloc))?;
         copies.push(Branch {
             place: branch.place,
             condition,
@@ -272,7 +288,7 @@ fn copy_selections(
             }
             Selection::Update(place, index, value) => {
                 let index = index.copy(alloc)?;
-                let value = value.copy(alloc)?;
+                let (index, value) = beside(index, value.copy(alloc))?;
                 Selection::Update(*place, index, value)
             }
             Selection::Extract(place, high, low) => Selection::Extract(*place, *high, *low),

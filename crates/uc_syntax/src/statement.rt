@@ -2,6 +2,7 @@
 
 ghost use Rattle.std.specs.Prelude.{◌≡◌, IfOk};
 
+use crate::beside::beside;
 use crate::expression::{Expr, copy_expressions};
 use crate::place::{Identifier, Place};
 use crate::type_expression::TypeExpr;
@@ -33,7 +34,7 @@ pub struct Arm<S> {
 }
 
 /// A bound of `range`: whether it has a minus and its number, or a bit-vector literal by value and width.
-#[derive(Clone, Copy, Debug, PartialEq, Eq)]
+#[derive(Clone, Copy, PartialEq, Eq)]
 pub enum RangeBound {
     Number(Place, bool, u128),
     BitsLiteral(Place, u128, u32),
@@ -113,6 +114,32 @@ pub fn copy_targets(alloc: Global, targets: &[Target]) -> Result<Items<Target>, 
     Ok(copies)
 }
 
+// The targets of an assignment or a call, and the expressions beside them.
+fn copy_written(
+    alloc: Global,
+    targets: &Items<Target>,
+    expressions: &Items<Expr>,
+) -> Result<(Items<Target>, Items<Expr>), AllocError>
+    ensures { IfOk result (λ written. (written.0 ≡ targets.now) × (written.1 ≡ expressions.now)) }
+{
+    let targets = copy_targets(alloc, targets.as_slice())?;
+    let expressions = copy_expressions(alloc, expressions.as_slice())?;
+    Ok((targets, expressions))
+}
+
+// The names that are declared together, and their type.
+pub(crate) fn copy_named(
+    alloc: Global,
+    names: &Items<Identifier>,
+    ty: &TypeExpr,
+) -> Result<(Items<Identifier>, TypeExpr), AllocError>
+    ensures { IfOk result (λ named. (named.0 ≡ names.now) × (named.1 ≡ ty.now)) }
+{
+    let names = Items::from_slice(alloc, names.as_slice())?;
+    let ty = ty.copy(alloc)?;
+    Ok((names, ty))
+}
+
 fn copy_optional_type(alloc: Global, ty: &Option<TypeExpr>) -> Result<Option<TypeExpr>, AllocError>
     ensures { IfOk result (λ t. t ≡ ty.now) }
 {
@@ -133,8 +160,7 @@ impl Stmt {
     {
         match self {
             Stmt::Local(place, names, ty) => {
-                let names = Items::from_slice(alloc, names.as_slice())?;
-                let ty = ty.copy(alloc)?;
+                let (names, ty) = copy_named(alloc, names, ty)?;
                 Ok(Stmt::Local(*place, names, ty))
             }
             Stmt::Skip(place) => Ok(Stmt::Skip(*place)),
@@ -152,34 +178,26 @@ impl Stmt {
             }
             Stmt::Havoc(place, name, is_primed) => Ok(Stmt::Havoc(*place, *name, *is_primed)),
             Stmt::Assign(place, targets, sources) => {
-                let targets = copy_targets(alloc, targets.as_slice())?;
-                let sources = copy_expressions(alloc, sources.as_slice())?;
+                let (targets, sources) = copy_written(alloc, targets, sources)?;
                 Ok(Stmt::Assign(*place, targets, sources))
             }
             Stmt::If(place, arms, otherwise) => {
                 let arms = copy_arms(alloc, arms.as_slice())?;
-                let otherwise = match otherwise {
-                    None => None,
-                    Some(block) => Some(copy_block(alloc, block.as_slice())?),
-                };
+                let otherwise = copy_optional_block(alloc, otherwise)?;
                 Ok(Stmt::If(*place, arms, otherwise))
             }
             Stmt::Case(place, arms, otherwise) => {
                 let arms = copy_arms(alloc, arms.as_slice())?;
-                let otherwise = match otherwise {
-                    None => None,
-                    Some(block) => Some(copy_block(alloc, block.as_slice())?),
-                };
+                let otherwise = copy_optional_block(alloc, otherwise)?;
                 Ok(Stmt::Case(*place, arms, otherwise))
             }
             Stmt::For(place, variable, ty, from, to, body) => {
                 let ty = copy_optional_type(alloc, ty)?;
-                let body = copy_block(alloc, body.as_slice())?;
+                let (ty, body) = beside(ty, copy_block(alloc, body.as_slice()))?;
                 Ok(Stmt::For(*place, *variable, ty, *from, *to, body))
             }
             Stmt::Call(place, targets, procedure, arguments) => {
-                let targets = copy_targets(alloc, targets.as_slice())?;
-                let arguments = copy_expressions(alloc, arguments.as_slice())?;
+                let (targets, arguments) = copy_written(alloc, targets, arguments)?;
                 Ok(Stmt::Call(*place, targets, *procedure, arguments))
             }
             Stmt::Next(place, instance) => Ok(Stmt::Next(*place, *instance)),
@@ -201,17 +219,28 @@ pub fn copy_block(alloc: Global, block: &[Stmt]) -> Result<Items<Stmt>, AllocErr
 }
 
 #[cycle(copy_statements)]
+fn copy_optional_block(
+    alloc: Global,
+    block: &Option<Items<Stmt>>,
+) -> Result<Option<Items<Stmt>>, AllocError>
+    ensures { IfOk result (λ b. b ≡ block.now) }
+{
+    match block {
+        None => Ok(None),
+        Some(block) => {
+            let block = copy_block(alloc, block.as_slice())?;
+            Ok(Some(block))
+        }
+    }
+}
+
+#[cycle(copy_statements)]
 fn copy_arms(alloc: Global, arms: &[Arm<Stmt>]) -> Result<Items<Arm<Stmt>>, AllocError>
     ensures { IfOk result (λ rs. rs ≡ arms.now) }
 {
     let mut copies = Items::new(alloc);
     for arm in arms {
-        let block = arm.body.as_slice();
-        let mut body = Items::new(alloc);
-        for statement in block {
-            let statement = statement.copy(alloc)?;
-            body.push(statement)?;
-        }
+        let body = copy_block(alloc, arm.body.as_slice())?;
         let condition = arm.condition.copy(alloc)?;
         copies.push(Arm { condition, body })?;
     }
