@@ -25,7 +25,7 @@ use Rattle.uc_rules.specs.Expressions.{Context, Judged, Own, Standing, branch_fa
 use Rattle.uc_rules.proofs.Chains.{first_of_append}
 use Rattle.uc_expression_rules.specs.declared.branches.JudgedBranch.{JudgedBranch}
 use Rattle.uc_expression_rules.specs.Parts.{branch_parts, primary_parts, selections_parts}
-use Rattle.uc_expression_rules.specs.Judging.{Finds, FindsOutcome, FindsOwn, Judges, JudgesAll, JudgesBranches, JudgesChain, JudgesFromRight, JudgesOnBits, JudgesProduct, JudgesSelections, JudgesTold, behind, bits_outcome, branch_judged, own_of_branch, own_with, parts_judged}
+use Rattle.uc_expression_rules.specs.Judging.{Finds, FindsOutcome, FindsOwn, Judges, JudgesAll, JudgesBranches, JudgesChain, JudgesFromRight, JudgesOnBits, JudgesPrimary, JudgesProduct, JudgesSelections, JudgesTold, behind, bits_outcome, branch_judged, own_of_branch, own_with, parts_judged}
 use Rattle.uc_expression_rules.proofs.Forms.{all_parts, judged_compare, judged_if, judged_unary}
 use Rattle.uc_expression_rules.proofs.Selected.{judged_selected}
 
@@ -104,6 +104,11 @@ if_of_parts c place bs bs' e x js old m1 m2 new t u bs-is x-is first second o =
     (subst (λ w. FindsOwn m2 new u w) (branches_with c bs' (judged x c))
     (subst (λ ks. FindsOwn m2 new u (own_with ks (record { faults = []; type = (judged x c).type }))) first.parts
     (subst (λ p. FindsOwn m2 new u (own_with js (record { faults = []; type = p }))) second.type o))))))
+
+-- what a primary stands for, by its parts
+pub primary_found : {c : Context} {begin : Place} {p q : Primary Expr} {old new : Option Fault} {before : Standing} → p ≡ q →
+    before ≡ primary_standing c begin (primary_parts q) → new ≡ first_of old (primary_inner c (primary_parts q)) → JudgesPrimary c begin p old new before
+primary_found {c} {begin} {p} {q} {old} {new} {before} is stands found = subst (λ x. JudgesPrimary c begin x old new before) (sym is) (record { stands = stands; found = found })
 
 -- the faults of a primary's parts, of the primary, and then of its selections
 pub selected_of_parts : (c : Context) (place : Place) (primary : Primary Expr) (ss : List (Selection Expr)) (before : Standing) (old mid new : Option Fault) (t : Option Ty) →

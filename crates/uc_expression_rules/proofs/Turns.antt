@@ -1,7 +1,7 @@
 -- The turns of loops over parts, arms and selections.
 use Rattle.std.proofs.Common.{◌≡◌, ℕ, ◌+◌, ◌<◌, ◌≤◌, List, [], ◌∷◌, ◌++◌, length, map, take, drop, get_or, reverse, Option, Some, None, refl, ap, ◌∙◌, sym, subst, arith}
 use Rattle.std.specs.List.{flat_map}
-use Rattle.std.specs.Prelude.{Result, IfOk}
+use Rattle.std.specs.Prelude.{Result, Ok, Err, IfOk}
 use Rattle.uc_syntax.specs.declared.declaration.Module.{Module}
 use Rattle.uc_read_names.specs.Reading.{standing_meant}
 use Rattle.uc_read_names.specs.declared.standing.Standing.{Standing as Stood}
@@ -24,7 +24,7 @@ use Rattle.uc_rules.proofs.Chains.{first_of_append}
 use Rattle.uc_rules.proofs.Lists.{drop_turn, take_turn}
 use Rattle.uc_expression_rules.specs.declared.branches.JudgedBranch.{JudgedBranch}
 use Rattle.uc_expression_rules.specs.Parts.{branch_parts, selection_parts, selections_parts}
-use Rattle.uc_expression_rules.specs.Judging.{Finds, FindsOutcome, FindsOwn, Judges, JudgesAll, JudgesBranches, JudgesSelections, Selects, behind, branch_judged, on_value, own_of_branch, own_with, parts_judged}
+use Rattle.uc_expression_rules.specs.Judging.{Finds, FindsOutcome, FindsOwn, Judges, JudgesAll, JudgesBranches, JudgesSelection, Selects, behind, branch_judged, on_value, own_of_branch, own_with, parts_judged}
 
 -- ---- parts
 
@@ -297,5 +297,12 @@ told_type Broken = refl
 pub type_told : (s after : Standing) (t : Option Ty) → t ≡ standing_type after → after ≡ told s → t ≡ standing_type s
 type_told s after t t-is is = t-is ∙ ap standing_type is ∙ told_type s
 
-pub selects_on : {c : Context} {begin : Place} {before after after' : Standing} {p : Selection Part} {old new new' : Option Fault} → after' ≡ after → new' ≡ new → Selects c begin before p old new after → Selects c begin before p old new' after'
-selects_on is news held = record { told_after = is ∙ held.told_after; found = news ∙ held.found }
+-- a selection, by its parts
+pub selection_found : {c : Context} {begin : Place} {before after : Standing} {s d : Selection Expr} {mid new : Option Fault} (old : Option Fault) → s ≡ d →
+    mid ≡ first_of old (selection_inner c (selection_parts d)) → Selects c begin before (selection_parts d) mid new after → JudgesSelection c begin before s old new after
+selection_found {c} {begin} {before} {after} {s} {d} {mid} {new} old is mid-is held =
+    subst (λ x. JudgesSelection c begin before x old new after) (sym is) (subst (λ m. Selects c begin before (selection_parts d) m new after) mid-is held)
+
+pub if_ok : {A E : Type 0} {P Q : A → Type 0} (r : Result A E) → ((a : A) → P a → Q a) → IfOk r P → IfOk r Q
+if_ok (Ok a) more held = more a held
+if_ok (Err e) more held = held

@@ -3,6 +3,7 @@ use Rattle.std.specs.Prelude.{◌≡◌, ℕ, List, [], ◌∷◌, ◌++◌, map
 use Rattle.uc_lexer.specs.declared.place.Place.{Place}
 use Rattle.uc_syntax.specs.declared.expression.Expr.{Expr}
 use Rattle.uc_syntax.specs.declared.expression.Branch.{Branch}
+use Rattle.uc_syntax.specs.declared.expression.Primary.{Primary}
 use Rattle.uc_syntax.specs.declared.expression.Selection.{Selection}
 use Rattle.uc_syntax.specs.declared.expression.BitFunction.{BitFunction}
 use Rattle.uc_values.specs.declared.ty.Ty.{Ty}
@@ -15,9 +16,9 @@ use Rattle.uc_rules.specs.declared.rows.Chain.TheVariants.{Boolean, Number, Bits
 use Rattle.uc_rules.specs.Faults.{first_of}
 use Rattle.uc_rules.specs.Outcomes.{type_in, faults_in}
 use Rattle.uc_rules.specs.Rows.{condition, pair, same_outcome}
-use Rattle.uc_rules.specs.Expressions.{Context, Judged, Own, Part, Standing, ValueOf, branch_faults, chained, extended, faults_of, is_extension, judged, judged_all, kept_where, on_bits_inner, on_bits_outcome, product_own, select, selections_faults, selections_type, standing, standing_faults, told, types_of}
+use Rattle.uc_rules.specs.Expressions.{Context, Judged, Own, Part, Standing, ValueOf, branch_faults, chained, extended, faults_of, is_extension, judged, judged_all, kept_where, on_bits_inner, on_bits_outcome, primary_inner, primary_standing, product_own, select, selection_inner, selections_faults, selections_type, standing, standing_faults, told, types_of}
 use Rattle.uc_expression_rules.specs.declared.branches.JudgedBranch.{JudgedBranch}
-use Rattle.uc_expression_rules.specs.Parts.{branch_parts, selections_parts}
+use Rattle.uc_expression_rules.specs.Parts.{branch_parts, primary_parts, selection_parts, selections_parts}
 
 -- this type, and the first of what was noted before and of these faults
 pub record Finds (old new : Option Fault) (t : Option Ty) (fs : List Fault) (u : Option Ty) : Type 0 where
@@ -103,9 +104,18 @@ pub record Selects (c : Context) (begin : Place) (before : Standing) (s : Select
   pub told_after : after ≡ told (select c begin before s)
   pub found : new ≡ first_of old (standing_faults (select c begin before s))
 
+-- what stands behind a selection, whose parts are judged first
+abbrev pub JudgesSelection : Context → Place → Standing → Selection Expr → Option Fault → Option Fault → Standing → Type 0
+JudgesSelection c begin before s old new after = Selects c begin before (selection_parts s) (first_of old (selection_inner c (selection_parts s))) new after
+
 -- what is found of selections
 abbrev pub JudgesSelections : Context → Place → Standing → List (Selection Expr) → Option Fault → Option Fault → Option Ty → Type 0
 JudgesSelections c begin before ss old new t = Finds old new t (selections_faults c begin before (selections_parts ss)) (selections_type c begin before (selections_parts ss))
+
+-- what a primary stands for, and the first of what was noted before and of the faults of its parts
+pub record JudgesPrimary (c : Context) (begin : Place) (primary : Primary Expr) (old new : Option Fault) (before : Standing) : Type 0 where
+  pub stands : before ≡ primary_standing c begin (primary_parts primary)
+  pub found : new ≡ first_of old (primary_inner c (primary_parts primary))
 
 -- what is found of what stands before selections, and then of them
 abbrev pub JudgesTold : Context → Place → Standing → List (Selection Expr) → Option Fault → Option Fault → Option Ty → Type 0

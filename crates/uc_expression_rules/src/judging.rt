@@ -5,7 +5,7 @@ ghost use Rattle.std.specs.Prelude.{List};
 ghost use Rattle.uc_rules.specs.Expressions.{condition_faults, judged};
 ghost use Rattle.uc_rules.specs.Faults.{first_of};
 ghost use Rattle.uc_read_names.specs.Reading.{standing_meant};
-ghost use Rattle.uc_expression_rules.specs.Judging.{Judges, JudgesAll, JudgesBranches, JudgesChain, JudgesFromRight, JudgesOnBits, JudgesProduct, JudgesSelections, JudgesTold, behind};
+ghost use Rattle.uc_expression_rules.specs.Judging.{Judges, JudgesAll, JudgesBranches, JudgesChain, JudgesFromRight, JudgesOnBits, JudgesPrimary, JudgesProduct, JudgesSelection, JudgesSelections, JudgesTold, behind};
 
 use crate::about::{is_plain, number_of, place_of};
 use crate::branches::{JudgedBranch, conditional};
@@ -78,52 +78,10 @@ pub fn judge(
             let operand = judge(alloc, scope, operand.get(), first)?;
             Ok(signed(*place, *operator, operand, first))
         }
-        Expr::Selected(place, primary, selections) => match primary {
-            Primary::Truth(_) => {
-                let standing = Standing::Value(Some(Ty::Bool));
-                let ty = judge_selected(alloc, scope, *place, standing, selections, first)?;
-                Ok(ty)
-            }
-            Primary::Number(number) => {
-                let standing = Standing::of_outcome(*place, number_literal(*number));
-                let ty = judge_selected(alloc, scope, *place, standing, selections, first)?;
-                Ok(ty)
-            }
-            Primary::BitsLiteral(number, width) => {
-                let standing = Standing::of_outcome(*place, bits_literal(*number, *width));
-                let ty = judge_selected(alloc, scope, *place, standing, selections, first)?;
-                Ok(ty)
-            }
-            Primary::Name(name, primed) => {
-                let standing = scope.name_standing(alloc, *place, *name, *primed)?;
-                let ty = judge_selected(alloc, scope, *place, standing, selections, first)?;
-                Ok(ty)
-            }
-            Primary::Old(name) => {
-                let standing = scope.old_standing(alloc, *place, *name)?;
-                let ty = judge_selected(alloc, scope, *place, standing, selections, first)?;
-                Ok(ty)
-            }
-            Primary::Apply(name, arguments) => {
-                let types = judge_all(alloc, scope, arguments.as_slice(), first)?;
-                let outcome = scope.called_outcome(alloc, *name, types.as_slice())?;
-                let standing = Standing::of_outcome(*place, outcome);
-                let ty = judge_selected(alloc, scope, *place, standing, selections, first)?;
-                Ok(ty)
-            }
-            Primary::OnBits(function, arguments) => {
-                let outcome = judge_on_bits(alloc, scope, *function, arguments.as_slice(), first)?;
-                let standing = Standing::of_outcome(*place, outcome);
-                let ty = judge_selected(alloc, scope, *place, standing, selections, first)?;
-                Ok(ty)
-            }
-            Primary::Grouped(inner) => {
-                let inner = judge(alloc, scope, inner.get(), first)?;
-                let standing = Standing::Value(inner);
-                let ty = judge_selected(alloc, scope, *place, standing, selections, first)?;
-                Ok(ty)
-            }
-        },
+        Expr::Selected(place, primary, selections) => {
+            let start = judge_primary(alloc, scope, *place, primary, first)?;
+            judge_selected(alloc, scope, *place, start, selections, first)
+        }
     }
 }
 
@@ -295,8 +253,42 @@ fn judge_selected(
     ensures { IfOk result (λ t. JudgesTold scope.now begin (standing_meant scope.now.system.modules start) selections.now first.old first.new t) }
 {
     let start = note_standing(start, first);
-    let ty = judge_selections(alloc, scope, begin, start, selections.as_slice(), first)?;
-    Ok(ty)
+    judge_selections(alloc, scope, begin, start, selections.as_slice(), first)
+}
+
+/// What a primary stands for.
+#[cycle(judge)]
+fn judge_primary(
+    alloc: Global,
+    scope: &Scope<'_, '_>,
+    begin: Place,
+    primary: &Primary<Expr>,
+    first: &mut Option<Fault>,
+) -> Result<Standing, AllocError>
+    ensures { IfOk result (λ s. JudgesPrimary scope.now begin primary.now first.old first.new (standing_meant scope.now.system.modules s)) }
+{
+    match primary {
+        Primary::Truth(_) => Ok(Standing::Value(Some(Ty::Bool))),
+        Primary::Number(number) => Ok(Standing::of_outcome(begin, number_literal(*number))),
+        Primary::BitsLiteral(number, width) => {
+            Ok(Standing::of_outcome(begin, bits_literal(*number, *width)))
+        }
+        Primary::Name(name, primed) => scope.name_standing(alloc, begin, *name, *primed),
+        Primary::Old(name) => scope.old_standing(alloc, begin, *name),
+        Primary::Apply(name, arguments) => {
+            let types = judge_all(alloc, scope, arguments.as_slice(), first)?;
+            let outcome = scope.called_outcome(alloc, *name, types.as_slice())?;
+            Ok(Standing::of_outcome(begin, outcome))
+        }
+        Primary::OnBits(function, arguments) => {
+            let outcome = judge_on_bits(alloc, scope, *function, arguments.as_slice(), first)?;
+            Ok(Standing::of_outcome(begin, outcome))
+        }
+        Primary::Grouped(inner) => {
+            let ty = judge(alloc, scope, inner.get(), first)?;
+            Ok(Standing::Value(ty))
+        }
+    }
 }
 
 /// The type of a value after its selections.
@@ -313,30 +305,45 @@ fn judge_selections(
 {
     let mut before = start;
     for selection in selections {
-        match selection {
-            Selection::Field(place, name) => {
-                before = after_field(alloc, scope, begin, before, *place, *name, first)?;
-            }
-            Selection::Copy(place, number) => {
-                before = after_copy(scope, begin, before, *place, *number, first);
-            }
-            Selection::Element(place, index) => {
-                let index = judge(alloc, scope, index, first)?;
-                before = after_element(alloc, scope, begin, before, *place, index, first)?;
-            }
-            Selection::Update(place, index, value) => {
-                let index = judge(alloc, scope, index, first)?;
-                let value = judge(alloc, scope, value, first)?;
-                before = after_update(alloc, scope, begin, before, *place, index, value, first)?;
-            }
-            Selection::Extract(place, high, low) => {
-                before = after_extract(scope, begin, before, *place, *high, *low, first);
-            }
-        }
+        before = judge_selection(alloc, scope, begin, before, selection, first)?;
     }
     let read = scope.read(begin, before);
     let told = note_standing(read, first);
     Ok(told.into_type())
+}
+
+/// What stands behind a selection.
+#[cycle(judge)]
+fn judge_selection(
+    alloc: Global,
+    scope: &Scope<'_, '_>,
+    begin: Place,
+    before: Standing,
+    selection: &Selection<Expr>,
+    first: &mut Option<Fault>,
+) -> Result<Standing, AllocError>
+    ensures { IfOk result (λ s. JudgesSelection scope.now begin (standing_meant scope.now.system.modules before) selection.now first.old first.new (standing_meant scope.now.system.modules s)) }
+{
+    match selection {
+        Selection::Field(place, name) => {
+            after_field(alloc, scope, begin, before, *place, *name, first)
+        }
+        Selection::Copy(place, number) => {
+            Ok(after_copy(scope, begin, before, *place, *number, first))
+        }
+        Selection::Element(place, index) => {
+            let index = judge(alloc, scope, index, first)?;
+            after_element(alloc, scope, begin, before, *place, index, first)
+        }
+        Selection::Update(place, index, value) => {
+            let index = judge(alloc, scope, index, first)?;
+            let value = judge(alloc, scope, value, first)?;
+            after_update(alloc, scope, begin, before, *place, index, value, first)
+        }
+        Selection::Extract(place, high, low) => {
+            Ok(after_extract(scope, begin, before, *place, *high, *low, first))
+        }
+    }
 }
 
 /// Notes the faults of a condition or a formula: those of the expression, and that it is no boolean, at its first token.

@@ -104,13 +104,13 @@ fn select_element(
     alloc: Global,
     read: Standing,
     place: Place,
-    index: Option<Ty>,
+    index: &Option<Ty>,
 ) -> Result<Standing, AllocError>
-    ensures { (ms : List Module) → IfOk result (λ s. standing_meant ms s ≡ on_value place (λ t. element_on t index) (standing_meant ms read)) }
+    ensures { (ms : List Module) → IfOk result (λ s. standing_meant ms s ≡ on_value place (λ t. element_on t index.now) (standing_meant ms read)) }
 {
     match read {
         Standing::Value(ty) => {
-            let outcome = element_on(alloc, &ty, &index)?;
+            let outcome = element_on(alloc, &ty, index)?;
             Ok(Standing::of_outcome(place, outcome))
         }
         other => Ok(other),
@@ -122,14 +122,14 @@ fn select_update(
     alloc: Global,
     read: Standing,
     place: Place,
-    index: Option<Ty>,
-    value: Option<Ty>,
+    index: &Option<Ty>,
+    value: &Option<Ty>,
 ) -> Result<Standing, AllocError>
-    ensures { (ms : List Module) → IfOk result (λ s. standing_meant ms s ≡ on_value place (λ t. update_on t index value) (standing_meant ms read)) }
+    ensures { (ms : List Module) → IfOk result (λ s. standing_meant ms s ≡ on_value place (λ t. update_on t index.now value.now) (standing_meant ms read)) }
 {
     match read {
         Standing::Value(ty) => {
-            let outcome = update_on(alloc, &ty, &index, &value)?;
+            let outcome = update_on(alloc, &ty, index, value)?;
             Ok(Standing::of_outcome(place, outcome))
         }
         other => Ok(other),
@@ -190,7 +190,7 @@ pub(crate) fn after_element(
     ensures { IfOk result (λ s. (i : Part) → index ≡ (i scope.now).type → Selects scope.now begin (standing_meant scope.now.system.modules before) (Element place i) first.old first.new (standing_meant scope.now.system.modules s)) }
 {
     let read = scope.read(begin, before);
-    let selected = select_element(alloc, read, place, index)?;
+    let selected = select_element(alloc, read, place, &index)?;
     Ok(note_standing(selected, first))
 }
 
@@ -208,7 +208,7 @@ pub(crate) fn after_update(
     ensures { IfOk result (λ s. (i v : Part) → index ≡ (i scope.now).type → value ≡ (v scope.now).type → Selects scope.now begin (standing_meant scope.now.system.modules before) (Update place i v) first.old first.new (standing_meant scope.now.system.modules s)) }
 {
     let read = scope.read(begin, before);
-    let selected = select_update(alloc, read, place, index, value)?;
+    let selected = select_update(alloc, read, place, &index, &value)?;
     Ok(note_standing(selected, first))
 }
 

@@ -1,20 +1,16 @@
-use Rattle.std.proofs.Common.{◌≡◌, [], ◌∷◌, ◌++◌, map, reverse, refl, ap, sym, subst, ◌∙◌}
-use Rattle.uc_syntax.specs.declared.expression.Expr.TheViews.{Selected}
-use Rattle.uc_syntax.specs.declared.expression.Primary.TheVariants.{Truth, Number, BitsLiteral, Name, Apply, OnBits, Old, Grouped}
-use Rattle.uc_syntax.specs.declared.expression.Selection.TheVariants.{Field, Copy, Element, Update, Extract}
+use Rattle.std.proofs.Common.{[], map, reverse, refl, ap, sym, subst, ◌∙◌}
+use Rattle.std.specs.Prelude.{IfOk}
 use Rattle.uc_rules.specs.Faults.{first_of}
 use Rattle.uc_rules.specs.Names.{called_named}
-use Rattle.uc_rules.specs.Expressions.{Standing, ValueOf, called_outcome, faults_of, judged, judged_all, on_bits_inner, on_bits_outcome, read, select, standing, types_of}
-use Rattle.uc_rules.specs.Rows.{element_on, update_on}
+use Rattle.uc_rules.specs.Expressions.{ValueOf, called_outcome, faults_of, judged, judged_all, on_bits_inner, on_bits_outcome, selection_inner, standing, types_of}
 use Rattle.uc_rules.proofs.Chains.{first_of_append}
 use Rattle.uc_read_names.specs.Reading.{standing_meant}
-use Rattle.uc_expression_rules.specs.Judging.{Judges, JudgesAll, JudgesBranches, JudgesSelections, on_value, parts_judged}
+use Rattle.uc_expression_rules.specs.Judging.{Judges, JudgesAll, JudgesBranches, parts_judged}
 use Rattle.uc_expression_rules.specs.Parts.{selection_parts}
 use Rattle.uc_expression_rules.proofs.Forms.{all_parts}
-use Rattle.uc_expression_rules.proofs.Joined.{chain_of_parts, comparison_of_parts, if_of_parts, none_of, on_bits_alone, on_bits_none, on_bits_noted, product_of_parts, right_of_parts, selected_of_parts, selected_told, unary_of_part}
-use Rattle.uc_expression_rules.proofs.Turns.{all_begin, all_more, behind_all, behind_none, branches_begin, branches_more, selects_begin, selects_end, selects_more, selects_on, type_told}
+use Rattle.uc_expression_rules.proofs.Joined.{chain_of_parts, comparison_of_parts, if_of_parts, none_of, on_bits_alone, on_bits_none, on_bits_noted, primary_found, product_of_parts, right_of_parts, selected_of_parts, selected_told, unary_of_part}
+use Rattle.uc_expression_rules.proofs.Turns.{all_begin, all_more, behind_all, behind_none, branches_begin, branches_more, if_ok, selection_found, selects_begin, selects_end, selects_more, type_told}
 use Rattle.uc_expression_rules.proofs.judging.+judge.Goals as goal
-use Rattle.uc_expression_rules.proofs.judging.+judge.Goals.{judge_selections-in-Field+in_ok-before-in-Field, judge_selections-in-Copy, judge_selections-in-Element+in_ok-index-in-Element+in_ok-before-in-Element, judge_selections-in-Update+in_ok-index-in-Update+in_ok-value-in-Update+in_ok-before-in-Update, judge_selections-in-Extract}
 
 pub judge_all-loop-expression-init : goal.judge_all-loop-expression-init
 judge_all-loop-expression-init t c = subst (JudgesAll c.args.scope.now [] c.args.first.now c.args.first.now) (sym c.new-types.ensures) (all_begin c.args.scope.now c.args.first.now)
@@ -98,67 +94,56 @@ judge-returns-in_ok-operand-in-Unary t c =
     c.args.first.now c.judge-in-Unary.new.first c.signed.new.first c.in_ok-operand-in-Unary.operand c.signed.result
     c.get-in-Unary.ensures c.in_ok-operand-in-Unary.ensures c.signed.ensures)
 
+pub judge-returns-in_ok-start-in-Selected : goal.judge-returns-in_ok-start-in-Selected
+judge-returns-in_ok-start-in-Selected t c =
+    if_ok c.judge_selected.result
+    (λ u told. subst (λ e. Judges c.args.scope.now e c.args.first.now c.judge_selected.new.first u) (sym c.in-Selected.is)
+    (selected_of_parts c.args.scope.now c.in-Selected.place c.in-Selected.primary c.in-Selected.selections (standing_meant c.args.scope.now.system.modules c.in_ok-start-in-Selected.start) c.args.first.now c.judge_primary.new.first c.judge_selected.new.first u
+    c.in_ok-start-in-Selected.ensures.found c.in_ok-start-in-Selected.ensures.stands told)) c.judge_selected.ensures
+
 pub judge_selected-returns : goal.judge_selected-returns
 judge_selected-returns t c =
-    selected_told c.args.scope.now c.args.begin (standing_meant c.args.scope.now.system.modules c.args.start) (standing_meant c.args.scope.now.system.modules c.note_standing-start.result) c.args.selections.now c.as_slice.result.now
-    c.args.first.now c.note_standing-start.new.first c.judge_selections.new.first c.in_ok-ty.ty (c.note_standing-start.ensures.faults c.args.scope.now.system.modules) (c.note_standing-start.ensures.told c.args.scope.now.system.modules) c.as_slice.ensures c.in_ok-ty.ensures
+    let ms = c.args.scope.now.system.modules in
+    if_ok c.judge_selections.result
+    (λ u. selected_told c.args.scope.now c.args.begin (standing_meant ms c.args.start) (standing_meant ms c.note_standing-start.result) c.args.selections.now c.as_slice.result.now
+    c.args.first.now c.note_standing-start.new.first c.judge_selections.new.first u (c.note_standing-start.ensures.faults ms) (c.note_standing-start.ensures.told ms) c.as_slice.ensures) c.judge_selections.ensures
 
-pub judge-returns-in_ok-ty-in-Truth : goal.judge-returns-in_ok-ty-in-Truth
-judge-returns-in_ok-ty-in-Truth t c =
-    subst (λ e. Judges c.args.scope.now e c.args.first.now c.judge_selected.new.first c.in_ok-ty-in-Truth.ty) (sym c.in-Selected.is)
-    (subst (λ p. Judges c.args.scope.now (Selected c.in-Selected.place p c.in-Selected.selections) c.args.first.now c.judge_selected.new.first c.in_ok-ty-in-Truth.ty) (sym c.in-Truth.is)
-    (selected_of_parts c.args.scope.now c.in-Selected.place (Truth c.in-Truth.field-0) c.in-Selected.selections _ c.args.first.now c.args.first.now c.judge_selected.new.first c.in_ok-ty-in-Truth.ty
-    (none_of c.args.first.now) refl c.in_ok-ty-in-Truth.ensures))
+pub judge_primary-returns-in-Truth : goal.judge_primary-returns-in-Truth
+judge_primary-returns-in-Truth t c = primary_found c.in-Truth.is refl (none_of c.args.first.now)
 
-pub judge-returns-in_ok-ty-in-Number : goal.judge-returns-in_ok-ty-in-Number
-judge-returns-in_ok-ty-in-Number t c =
-    subst (λ e. Judges c.args.scope.now e c.args.first.now c.judge_selected-in-Number.new.first c.in_ok-ty-in-Number.ty) (sym c.in-Selected.is)
-    (subst (λ p. Judges c.args.scope.now (Selected c.in-Selected.place p c.in-Selected.selections) c.args.first.now c.judge_selected-in-Number.new.first c.in_ok-ty-in-Number.ty) (sym c.in-Number.is)
-    (selected_of_parts c.args.scope.now c.in-Selected.place (Number c.in-Number.number) c.in-Selected.selections (standing_meant c.args.scope.now.system.modules c.of_outcome-standing.result) c.args.first.now c.args.first.now c.judge_selected-in-Number.new.first c.in_ok-ty-in-Number.ty
-    (none_of c.args.first.now) (c.of_outcome-standing.ensures c.args.scope.now.system.modules ∙ ap (standing c.in-Selected.place) c.number_literal.ensures) c.in_ok-ty-in-Number.ensures))
+pub judge_primary-returns-in-Number : goal.judge_primary-returns-in-Number
+judge_primary-returns-in-Number t c =
+    primary_found c.in-Number.is (c.of_outcome.ensures c.args.scope.now.system.modules ∙ ap (standing c.args.begin) c.number_literal.ensures) (none_of c.args.first.now)
 
-pub judge-returns-in_ok-ty-in-BitsLiteral : goal.judge-returns-in_ok-ty-in-BitsLiteral
-judge-returns-in_ok-ty-in-BitsLiteral t c =
-    subst (λ e. Judges c.args.scope.now e c.args.first.now c.judge_selected-in-BitsLiteral.new.first c.in_ok-ty-in-BitsLiteral.ty) (sym c.in-Selected.is)
-    (subst (λ p. Judges c.args.scope.now (Selected c.in-Selected.place p c.in-Selected.selections) c.args.first.now c.judge_selected-in-BitsLiteral.new.first c.in_ok-ty-in-BitsLiteral.ty) (sym c.in-BitsLiteral.is)
-    (selected_of_parts c.args.scope.now c.in-Selected.place (BitsLiteral c.in-BitsLiteral.number c.in-BitsLiteral.width) c.in-Selected.selections (standing_meant c.args.scope.now.system.modules c.of_outcome-standing-in-BitsLiteral.result) c.args.first.now c.args.first.now c.judge_selected-in-BitsLiteral.new.first c.in_ok-ty-in-BitsLiteral.ty
-    (none_of c.args.first.now) (c.of_outcome-standing-in-BitsLiteral.ensures c.args.scope.now.system.modules ∙ ap (standing c.in-Selected.place) c.bits_literal.ensures) c.in_ok-ty-in-BitsLiteral.ensures))
+pub judge_primary-returns-in-BitsLiteral : goal.judge_primary-returns-in-BitsLiteral
+judge_primary-returns-in-BitsLiteral t c =
+    primary_found c.in-BitsLiteral.is (c.of_outcome-in-BitsLiteral.ensures c.args.scope.now.system.modules ∙ ap (standing c.args.begin) c.bits_literal.ensures) (none_of c.args.first.now)
 
-pub judge-returns-in_ok-ty-in-Name : goal.judge-returns-in_ok-ty-in-Name
-judge-returns-in_ok-ty-in-Name t c =
-    subst (λ e. Judges c.args.scope.now e c.args.first.now c.judge_selected-in-Name.new.first c.in_ok-ty-in-Name.ty) (sym c.in-Selected.is)
-    (subst (λ p. Judges c.args.scope.now (Selected c.in-Selected.place p c.in-Selected.selections) c.args.first.now c.judge_selected-in-Name.new.first c.in_ok-ty-in-Name.ty) (sym c.in-Name.is)
-    (selected_of_parts c.args.scope.now c.in-Selected.place (Name c.in-Name.name c.in-Name.primed) c.in-Selected.selections (standing_meant c.args.scope.now.system.modules c.in_ok-standing-in-Name.standing) c.args.first.now c.args.first.now c.judge_selected-in-Name.new.first c.in_ok-ty-in-Name.ty
-    (none_of c.args.first.now) c.in_ok-standing-in-Name.ensures c.in_ok-ty-in-Name.ensures))
+pub judge_primary-returns-in-Name : goal.judge_primary-returns-in-Name
+judge_primary-returns-in-Name t c = if_ok c.name_standing.result (λ s is. primary_found c.in-Name.is is (none_of c.args.first.now)) c.name_standing.ensures
 
-pub judge-returns-in_ok-ty-in-Old : goal.judge-returns-in_ok-ty-in-Old
-judge-returns-in_ok-ty-in-Old t c =
-    subst (λ e. Judges c.args.scope.now e c.args.first.now c.judge_selected-in-Old.new.first c.in_ok-ty-in-Old.ty) (sym c.in-Selected.is)
-    (subst (λ p. Judges c.args.scope.now (Selected c.in-Selected.place p c.in-Selected.selections) c.args.first.now c.judge_selected-in-Old.new.first c.in_ok-ty-in-Old.ty) (sym c.in-Old.is)
-    (selected_of_parts c.args.scope.now c.in-Selected.place (Old c.in-Old.name) c.in-Selected.selections (standing_meant c.args.scope.now.system.modules c.in_ok-standing-in-Old.standing) c.args.first.now c.args.first.now c.judge_selected-in-Old.new.first c.in_ok-ty-in-Old.ty
-    (none_of c.args.first.now) c.in_ok-standing-in-Old.ensures c.in_ok-ty-in-Old.ensures))
+pub judge_primary-returns-in-Old : goal.judge_primary-returns-in-Old
+judge_primary-returns-in-Old t c = if_ok c.old_standing.result (λ s is. primary_found c.in-Old.is is (none_of c.args.first.now)) c.old_standing.ensures
 
-pub judge-returns-in_ok-ty-in-Apply : goal.judge-returns-in_ok-ty-in-Apply
-judge-returns-in_ok-ty-in-Apply t c =
-    subst (λ e. Judges c.args.scope.now e c.args.first.now c.judge_selected-in-Apply.new.first c.in_ok-ty-in-Apply.ty) (sym c.in-Selected.is)
-    (subst (λ p. Judges c.args.scope.now (Selected c.in-Selected.place p c.in-Selected.selections) c.args.first.now c.judge_selected-in-Apply.new.first c.in_ok-ty-in-Apply.ty) (sym c.in-Apply.is)
-    (selected_of_parts c.args.scope.now c.in-Selected.place (Apply c.in-Apply.name c.in-Apply.arguments) c.in-Selected.selections (standing_meant c.args.scope.now.system.modules c.of_outcome-standing-in-Apply.result) c.args.first.now c.judge_all.new.first c.judge_selected-in-Apply.new.first c.in_ok-ty-in-Apply.ty
-    (c.in_ok-types-in-Apply.ensures.found ∙ ap (λ es. first_of c.args.first.now (faults_of (parts_judged c.args.scope.now es))) c.as_slice-in-Apply.ensures ∙ ap (λ js. first_of c.args.first.now (faults_of js)) (sym (all_parts c.args.scope.now c.in-Apply.arguments))) (c.of_outcome-standing-in-Apply.ensures c.args.scope.now.system.modules ∙ ap (standing c.in-Selected.place) (c.in_ok-outcome-in-Apply.ensures
-    ∙ ap (called_outcome c.args.scope.now c.in-Apply.name (called_named c.args.scope.now.system c.args.scope.now.home c.in-Apply.name)) (c.as_slice-in-Apply-2.ensures ∙ c.in_ok-types-in-Apply.ensures.types ∙ ap (λ es. types_of (parts_judged c.args.scope.now es)) c.as_slice-in-Apply.ensures ∙ ap types_of (sym (all_parts c.args.scope.now c.in-Apply.arguments))))) c.in_ok-ty-in-Apply.ensures))
+pub judge_primary-returns-in_ok-outcome-in-Apply : goal.judge_primary-returns-in_ok-outcome-in-Apply
+judge_primary-returns-in_ok-outcome-in-Apply t c =
+    let parts = ap (parts_judged c.args.scope.now) c.as_slice.ensures ∙ sym (all_parts c.args.scope.now c.in-Apply.arguments) in
+    primary_found c.in-Apply.is
+    (c.of_outcome-in-Apply.ensures c.args.scope.now.system.modules ∙ ap (standing c.args.begin) (c.in_ok-outcome-in-Apply.ensures
+    ∙ ap (called_outcome c.args.scope.now c.in-Apply.name (called_named c.args.scope.now.system c.args.scope.now.home c.in-Apply.name)) (c.as_slice-in-Apply.ensures ∙ c.in_ok-types-in-Apply.ensures.types ∙ ap types_of parts)))
+    (c.in_ok-types-in-Apply.ensures.found ∙ ap (λ js. first_of c.args.first.now (faults_of js)) parts)
 
-pub judge-returns-in_ok-ty-in-OnBits : goal.judge-returns-in_ok-ty-in-OnBits
-judge-returns-in_ok-ty-in-OnBits t c =
-    subst (λ e. Judges c.args.scope.now e c.args.first.now c.judge_selected-in-OnBits.new.first c.in_ok-ty-in-OnBits.ty) (sym c.in-Selected.is)
-    (subst (λ p. Judges c.args.scope.now (Selected c.in-Selected.place p c.in-Selected.selections) c.args.first.now c.judge_selected-in-OnBits.new.first c.in_ok-ty-in-OnBits.ty) (sym c.in-OnBits.is)
-    (selected_of_parts c.args.scope.now c.in-Selected.place (OnBits c.in-OnBits.function c.in-OnBits.arguments) c.in-Selected.selections (standing_meant c.args.scope.now.system.modules c.of_outcome-standing-in-OnBits.result) c.args.first.now c.judge_on_bits.new.first c.judge_selected-in-OnBits.new.first c.in_ok-ty-in-OnBits.ty
-    (c.in_ok-outcome-in-OnBits.ensures.found ∙ ap (λ es. first_of c.args.first.now (on_bits_inner c.in-OnBits.function (judged_all (map judged es) c.args.scope.now))) c.as_slice-in-OnBits.ensures) (c.of_outcome-standing-in-OnBits.ensures c.args.scope.now.system.modules ∙ ap (standing c.in-Selected.place) (c.in_ok-outcome-in-OnBits.ensures.outcome ∙ ap (λ es. on_bits_outcome c.in-OnBits.function (judged_all (map judged es) c.args.scope.now)) c.as_slice-in-OnBits.ensures)) c.in_ok-ty-in-OnBits.ensures))
+pub judge_primary-returns-in_ok-outcome-in-OnBits : goal.judge_primary-returns-in_ok-outcome-in-OnBits
+judge_primary-returns-in_ok-outcome-in-OnBits t c =
+    primary_found c.in-OnBits.is
+    (c.of_outcome-in-OnBits.ensures c.args.scope.now.system.modules ∙ ap (standing c.args.begin) (c.in_ok-outcome-in-OnBits.ensures.outcome ∙ ap (λ es. on_bits_outcome c.in-OnBits.function (judged_all (map judged es) c.args.scope.now)) c.as_slice-in-OnBits.ensures))
+    (c.in_ok-outcome-in-OnBits.ensures.found ∙ ap (λ es. first_of c.args.first.now (on_bits_inner c.in-OnBits.function (judged_all (map judged es) c.args.scope.now))) c.as_slice-in-OnBits.ensures)
 
-pub judge-returns-in_ok-ty-in-Grouped : goal.judge-returns-in_ok-ty-in-Grouped
-judge-returns-in_ok-ty-in-Grouped t c =
-    subst (λ e. Judges c.args.scope.now e c.args.first.now c.judge_selected-in-Grouped.new.first c.in_ok-ty-in-Grouped.ty) (sym c.in-Selected.is)
-    (subst (λ p. Judges c.args.scope.now (Selected c.in-Selected.place p c.in-Selected.selections) c.args.first.now c.judge_selected-in-Grouped.new.first c.in_ok-ty-in-Grouped.ty) (sym c.in-Grouped.is)
-    (selected_of_parts c.args.scope.now c.in-Selected.place (Grouped c.in-Grouped.inner) c.in-Selected.selections (ValueOf c.in_ok-inner-in-Grouped.inner) c.args.first.now c.judge-in-Grouped.new.first c.judge_selected-in-Grouped.new.first c.in_ok-ty-in-Grouped.ty
-    (c.in_ok-inner-in-Grouped.ensures.found ∙ ap (λ e. first_of c.args.first.now (judged e c.args.scope.now).faults) c.get-in-Grouped.ensures) (ap ValueOf (c.in_ok-inner-in-Grouped.ensures.type ∙ ap (λ e. (judged e c.args.scope.now).type) c.get-in-Grouped.ensures)) c.in_ok-ty-in-Grouped.ensures))
+pub judge_primary-returns-in_ok-ty-in-Grouped : goal.judge_primary-returns-in_ok-ty-in-Grouped
+judge_primary-returns-in_ok-ty-in-Grouped t c =
+    primary_found c.in-Grouped.is
+    (ap ValueOf (c.in_ok-ty-in-Grouped.ensures.type ∙ ap (λ e. (judged e c.args.scope.now).type) c.get.ensures))
+    (c.in_ok-ty-in-Grouped.ensures.found ∙ ap (λ e. first_of c.args.first.now (judged e c.args.scope.now).faults) c.get.ensures)
 
 pub judge_selections-loop-selection-init : goal.judge_selections-loop-selection-init
 judge_selections-loop-selection-init t c = selects_begin c.args.scope.now c.args.begin (standing_meant c.args.scope.now.system.modules c.args.start) c.args.selections.now c.args.first.now
@@ -166,30 +151,31 @@ judge_selections-loop-selection-init t c = selects_begin c.args.scope.now c.args
 pub judge_selections-loop-selection-preserved : goal.judge_selections-loop-selection-preserved
 judge_selections-loop-selection-preserved t c =
     let ms = c.args.scope.now.system.modules in
-    elim c.match-selection.branch [
-      | judge_selections-in-Field+in_ok-before-in-Field w ↦
-          selects_more c.args.scope.now c.args.begin (standing_meant ms c.args.start) c.args.selections.now c.args.first.now c.loop-selection.selection-index (standing_meant ms c.loop-selection.before) (standing_meant ms c.match-selection.before)
-          c.loop-selection.first c.loop-selection.first c.match-selection.first c.selection-item.result c.selection-item.result (Field w.in-Field.place w.in-Field.name) c.loop-selection.invariant c.loop-selection-test.true c.selection-item.is
-          (ap selection_parts w.in-Field.is) (none_of c.loop-selection.first) (selects_on (ap (standing_meant ms) w.before-is) w.first-is w.in_ok-before-in-Field.ensures)
-      | judge_selections-in-Copy w ↦
-          selects_more c.args.scope.now c.args.begin (standing_meant ms c.args.start) c.args.selections.now c.args.first.now c.loop-selection.selection-index (standing_meant ms c.loop-selection.before) (standing_meant ms c.match-selection.before)
-          c.loop-selection.first c.loop-selection.first c.match-selection.first c.selection-item.result c.selection-item.result (Copy w.in-Copy.place w.in-Copy.number) c.loop-selection.invariant c.loop-selection-test.true c.selection-item.is
-          (ap selection_parts w.in-Copy.is) (none_of c.loop-selection.first) (selects_on (ap (standing_meant ms) w.before-is) w.first-is w.after_copy-before.ensures)
-      | judge_selections-in-Element+in_ok-index-in-Element+in_ok-before-in-Element w ↦
-          selects_more c.args.scope.now c.args.begin (standing_meant ms c.args.start) c.args.selections.now c.args.first.now c.loop-selection.selection-index (standing_meant ms c.loop-selection.before) (standing_meant ms c.match-selection.before)
-          c.loop-selection.first w.judge.new.first c.match-selection.first c.selection-item.result c.selection-item.result (Element w.in-Element.place (judged w.in-Element.index)) c.loop-selection.invariant c.loop-selection-test.true c.selection-item.is
-          (ap selection_parts w.in-Element.is) w.in_ok-index-in-Element.ensures.found (selects_on (ap (standing_meant ms) w.before-is) w.first-is (w.in_ok-before-in-Element.ensures (judged w.in-Element.index) w.in_ok-index-in-Element.ensures.type))
-      | judge_selections-in-Update+in_ok-index-in-Update+in_ok-value-in-Update+in_ok-before-in-Update w ↦
-          selects_more c.args.scope.now c.args.begin (standing_meant ms c.args.start) c.args.selections.now c.args.first.now c.loop-selection.selection-index (standing_meant ms c.loop-selection.before) (standing_meant ms c.match-selection.before)
-          c.loop-selection.first w.judge-in-Update-2.new.first c.match-selection.first c.selection-item.result c.selection-item.result (Update w.in-Update.place (judged w.in-Update.index) (judged w.in-Update.value)) c.loop-selection.invariant c.loop-selection-test.true c.selection-item.is
-          (ap selection_parts w.in-Update.is)
-          (w.in_ok-value-in-Update.ensures.found ∙ ap (λ o. first_of o (judged w.in-Update.value c.args.scope.now).faults) w.in_ok-index-in-Update.ensures.found ∙ sym (first_of_append c.loop-selection.first (judged w.in-Update.index c.args.scope.now).faults (judged w.in-Update.value c.args.scope.now).faults))
-          (selects_on (ap (standing_meant ms) w.before-is) w.first-is (w.in_ok-before-in-Update.ensures (judged w.in-Update.index) (judged w.in-Update.value) w.in_ok-index-in-Update.ensures.type w.in_ok-value-in-Update.ensures.type))
-      | judge_selections-in-Extract w ↦
-          selects_more c.args.scope.now c.args.begin (standing_meant ms c.args.start) c.args.selections.now c.args.first.now c.loop-selection.selection-index (standing_meant ms c.loop-selection.before) (standing_meant ms c.match-selection.before)
-          c.loop-selection.first c.loop-selection.first c.match-selection.first c.selection-item.result c.selection-item.result (Extract w.in-Extract.place w.in-Extract.high w.in-Extract.low) c.loop-selection.invariant c.loop-selection-test.true c.selection-item.is
-          (ap selection_parts w.in-Extract.is) (none_of c.loop-selection.first) (selects_on (ap (standing_meant ms) w.before-is) w.first-is w.after_extract-before.ensures)
-    ]
+    let part = selection_parts c.selection-item.result in
+    selects_more c.args.scope.now c.args.begin (standing_meant ms c.args.start) c.args.selections.now c.args.first.now c.loop-selection.selection-index (standing_meant ms c.loop-selection.before) (standing_meant ms c.in_ok-before.before)
+    c.loop-selection.first (first_of c.loop-selection.first (selection_inner c.args.scope.now part)) c.judge_selection.new.first c.selection-item.result c.selection-item.result part
+    c.loop-selection.invariant c.loop-selection-test.true c.selection-item.is refl refl c.in_ok-before.ensures
+
+pub judge_selection-returns-in-Field : goal.judge_selection-returns-in-Field
+judge_selection-returns-in-Field t c = if_ok c.after_field.result (λ s held. selection_found c.args.first.now c.in-Field.is (none_of c.args.first.now) held) c.after_field.ensures
+
+pub judge_selection-returns-in-Copy : goal.judge_selection-returns-in-Copy
+judge_selection-returns-in-Copy t c = selection_found c.args.first.now c.in-Copy.is (none_of c.args.first.now) c.after_copy.ensures
+
+pub judge_selection-returns-in_ok-index-in-Element : goal.judge_selection-returns-in_ok-index-in-Element
+judge_selection-returns-in_ok-index-in-Element t c =
+    if_ok c.after_element.result
+    (λ s held. selection_found c.args.first.now c.in-Element.is c.in_ok-index-in-Element.ensures.found (held (judged c.in-Element.index) c.in_ok-index-in-Element.ensures.type)) c.after_element.ensures
+
+pub judge_selection-returns-in_ok-value-in-Update : goal.judge_selection-returns-in_ok-value-in-Update
+judge_selection-returns-in_ok-value-in-Update t c =
+    if_ok c.after_update.result
+    (λ s held. selection_found c.args.first.now c.in-Update.is
+    (c.in_ok-value-in-Update.ensures.found ∙ ap (λ o. first_of o (judged c.in-Update.value c.args.scope.now).faults) c.in_ok-index-in-Update.ensures.found ∙ sym (first_of_append c.args.first.now (judged c.in-Update.index c.args.scope.now).faults (judged c.in-Update.value c.args.scope.now).faults))
+    (held (judged c.in-Update.index) (judged c.in-Update.value) c.in_ok-index-in-Update.ensures.type c.in_ok-value-in-Update.ensures.type)) c.after_update.ensures
+
+pub judge_selection-returns-in-Extract : goal.judge_selection-returns-in-Extract
+judge_selection-returns-in-Extract t c = selection_found c.args.first.now c.in-Extract.is (none_of c.args.first.now) c.after_extract.ensures
 
 pub judge_selections-returns : goal.judge_selections-returns
 judge_selections-returns t c =
