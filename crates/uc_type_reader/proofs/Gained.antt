@@ -1,5 +1,6 @@
 -- What is gathered of types, step by step.
 use Rattle.std.proofs.Common.{◌≡◌, ℕ, ◌+◌, ◌<◌, ◌≤◌, List, [], ◌∷◌, ◌++◌, map, length, take, get_or, refl, sym, ap, ◌∙◌, subst, append_assoc}
+use Rattle.std.specs.Prelude.{Result, Ok, Err, OnOk}
 use Rattle.std.specs.List.{flat_map}
 use Rattle.std.proofs.lemmas.List.{take_more, take_all}
 use Rattle.std.proofs.lemmas.Grind.{flat_map-append}
@@ -65,3 +66,8 @@ module _ {X : Type 0} (f : X → List TypeExpr) (x y : X) (same : x ≡ y) where
 
   pub gains_three : (a b c d : Mentioned) (ts us vs : List TypeExpr) → f y ≡ ts ++ (us ++ vs) → Gains a b ts → Gains b c us → Gains c d vs → Gains a d (f x)
   gains_three a b c d ts us vs e first second third = gains_two a b d ts (us ++ vs) e first (gains_join b c d us vs second third)
+
+-- what a call says of its success, and what follows from it
+pub on_ok : {A E : Type 0} {P Q : Type 0} (r : Result A E) → (P → Q) → OnOk r P → OnOk r Q
+on_ok (Ok a) more held = more held
+on_ok (Err e) more held = held

@@ -30,7 +30,7 @@ use Rattle.uc_syntax.proofs.Labels.{flat_map_map, flat_flat}
 use Rattle.uc_meaning.specs.Types.{modules_form}
 use Rattle.uc_type_reader.specs.declared.mentioned.WrittenEnum.{WrittenEnum}
 use Rattle.uc_type_reader.specs.declared.mentioned.Mentioned.{Mentioned}
-use Rattle.uc_type_reader.specs.Mentioned.{Gains, enum_written, enums_at, modules_at, types_written, types_in_arm}
+use Rattle.uc_type_reader.specs.Mentioned.{Gains, enum_written, enums_at, modules_at, types_written, types_in_arm, types_in_else}
 
 -- a type gains its own enums and modules
 pub gains_type : (a b : Mentioned) (t y : TypeExpr) (es : List WrittenEnum) (ms : List ℕ) → t ≡ y → enums_at y ≡ es → modules_at y ≡ ms →
@@ -143,10 +143,6 @@ arms_types : (arms : List (Arm Stmt)) → types_in_arms (map through_arm arms) �
 unfolding through_arm
 arms_types [] = refl
 arms_types (a ∷ more) = (λ k. block_types a.body k ++ arms_types more k)
-
-abbrev pub types_in_else : Option (List Stmt) → List TypeExpr
-types_in_else None = []
-types_in_else (Some block) = flat_map types_written block
 
 pub types_block : (place : Place) (block : List Stmt) → types_written (Block place block) ≡ flat_map types_written block
 unfolding types_written roll-Stmt denote.Hole.Carrier.roll

@@ -1,5 +1,5 @@
 -- What is gathered of the types that a part of a design writes: their enums, and the modules that they name.
-use Rattle.std.specs.Prelude.{◌≡◌, ℕ, List, [], ◌∷◌, ◌++◌, map}
+use Rattle.std.specs.Prelude.{◌≡◌, ℕ, List, [], ◌∷◌, ◌++◌, map, Option, Some, None}
 use Rattle.std.specs.List.{flat_map}
 use Rattle.uc_syntax.specs.declared.type_expression.TypeExpr.{TypeExpr}
 use Rattle.uc_syntax.specs.declared.type_expression.TypeExpr.TheFolds.{fold-TypeExpr}
@@ -33,6 +33,10 @@ types_written = fold-Stmt (List TypeExpr) types_in_form
 
 abbrev pub types_in_arm : Arm Stmt → List TypeExpr
 types_in_arm a = flat_map types_written a.body
+
+abbrev pub types_in_else : Option (List Stmt) → List TypeExpr
+types_in_else None = []
+types_in_else (Some block) = flat_map types_written block
 
 -- all that a module mentions, and nothing else
 abbrev pub nothing_mentioned : Mentioned

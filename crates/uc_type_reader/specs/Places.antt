@@ -8,6 +8,7 @@ use Rattle.uc_meaning.specs.Lookup.{System}
 use Rattle.uc_meaning.specs.Types.{opaque_in, opaque_types_of}
 use Rattle.uc_meaning.specs.Cells.{as_list}
 use Rattle.uc_type_reader.specs.declared.mentioned.WrittenEnum.{WrittenEnum}
+use Rattle.uc_type_reader.specs.declared.places.Lists.{Lists}
 use Rattle.uc_type_reader.specs.Mentioned.{enum_written}
 
 -- the enums that a design writes, in their order
@@ -25,6 +26,12 @@ opaques_in m = flat_map (opaque_at m.name) m.decls
 
 abbrev pub declaration_count : List Module → ℕ
 declaration_count modules = length (flat_map (λ m. m.decls) modules)
+
+-- The lists and the number are those of the modules.
+pub record ListsOf (modules : List Module) (lists : Lists) : Type 0 where
+  pub enums_written : lists.enums ≡ written_enums modules
+  pub opaques_declared : lists.opaques ≡ flat_map opaques_in modules
+  pub declarations_there : lists.declarations ≡ declaration_count modules
 
 -- The lists and the number are those of the design.
 pub record AreListed (system : System) (enums : List WrittenEnum) (opaques : List (ℕ × ℕ)) (declarations : ℕ) : Type 0 where

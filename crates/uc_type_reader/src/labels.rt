@@ -6,9 +6,10 @@ ghost use Rattle.std.specs.List.{position_from};
 ghost use Rattle.uc_meaning.specs.Lookup.{first_some};
 ghost use Rattle.uc_meaning.specs.Types.{label_of, label_in};
 ghost use Rattle.uc_syntax.specs.WrittenTypes.{enums_of_module};
+ghost use Rattle.uc_type_reader.specs.Mentioned.{IsMentioned};
 ghost use Rattle.uc_type_reader.specs.Reading.{label_meant, label_at, label_in_named, label_imported};
 
-use crate::mentioned::{WrittenEnum, mentioned_in};
+use crate::mentioned::{Mentioned, WrittenEnum, mentioned_in};
 use crate::tables::Tables;
 use crate::types::word;
 use std::alloc::{AllocError, Global};
@@ -31,6 +32,20 @@ pub fn label_of(
     ensures { IfOk result (λ l. option_map label_meant l ≡ label_of tables.now code.now name) }
 {
     let found = mentioned_in(alloc, code)?;
+    label_among(alloc, tables, code, &found, name)
+}
+
+/// The label of a name in a module, by what the module mentions.
+fn label_among(
+    alloc: Global,
+    tables: &Tables,
+    code: &Module,
+    found: &Mentioned,
+    name: u32,
+) -> Result<Option<Label>, AllocError>
+    requires { IsMentioned code.now found.now }
+    ensures { IfOk result (λ l. option_map label_meant l ≡ label_of tables.now code.now name) }
+{
     let own = first_label(tables, found.enums.as_slice(), name)?;
     if own.is_some() {
         return Ok(own);

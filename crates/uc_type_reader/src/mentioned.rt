@@ -5,7 +5,7 @@
 ghost use Rattle.std.specs.Prelude.{◌≡◌, [], ◌∷◌, map, IfOk, OnOk};
 ghost use Rattle.std.specs.List.{flat_map};
 ghost use Rattle.uc_syntax.specs.WrittenTypes.{types_in, types_in_option, types_of_parameters, types_of_module};
-ghost use Rattle.uc_type_reader.specs.Mentioned.{Gains, IsMentioned, types_written, types_in_arm};
+ghost use Rattle.uc_type_reader.specs.Mentioned.{Gains, IsMentioned, types_written, types_in_arm, types_in_else};
 
 use std::alloc::{AllocError, Global};
 use uc_items::Items;
@@ -120,46 +120,41 @@ fn add_statement(alloc: Global, statement: &Stmt, found: &mut Mentioned) -> Resu
     ensures { OnOk result (Gains found.old found.new (types_written statement.now)) }
 {
     match statement {
-        Stmt::Local(_, _, ty) => {
-            add_type(alloc, ty, found)?;
-            Ok(())
-        }
+        Stmt::Local(_, _, ty) => add_type(alloc, ty, found),
         Stmt::Skip(_) => Ok(()),
-        Stmt::Block(_, block) => {
-            add_block(alloc, block.as_slice(), found)?;
-            Ok(())
-        }
+        Stmt::Block(_, block) => add_block(alloc, block.as_slice(), found),
         Stmt::Assert(_, _, _) => Ok(()),
         Stmt::Assume(_, _) => Ok(()),
         Stmt::Havoc(_, _, _) => Ok(()),
         Stmt::Assign(_, _, _) => Ok(()),
         Stmt::If(_, arms, otherwise) => {
             add_arms(alloc, arms.as_slice(), found)?;
-            match otherwise {
-                None => Ok(()),
-                Some(block) => {
-                    add_block(alloc, block.as_slice(), found)?;
-                    Ok(())
-                }
-            }
+            add_otherwise(alloc, otherwise, found)
         }
         Stmt::Case(_, arms, otherwise) => {
             add_arms(alloc, arms.as_slice(), found)?;
-            match otherwise {
-                None => Ok(()),
-                Some(block) => {
-                    add_block(alloc, block.as_slice(), found)?;
-                    Ok(())
-                }
-            }
+            add_otherwise(alloc, otherwise, found)
         }
         Stmt::For(_, _, ty, _, _, body) => {
             add_optional_type(alloc, ty, found)?;
-            add_block(alloc, body.as_slice(), found)?;
-            Ok(())
+            add_block(alloc, body.as_slice(), found)
         }
         Stmt::Call(_, _, _, _) => Ok(()),
         Stmt::Next(_, _) => Ok(()),
+    }
+}
+
+#[cycle(add_statements)]
+fn add_otherwise(
+    alloc: Global,
+    otherwise: &Option<Items<Stmt>>,
+    found: &mut Mentioned,
+) -> Result<(), AllocError>
+    ensures { OnOk result (Gains found.old found.new (types_in_else otherwise.now)) }
+{
+    match otherwise {
+        None => Ok(()),
+        Some(block) => add_block(alloc, block.as_slice(), found),
     }
 }
 
@@ -180,10 +175,7 @@ fn add_arms(alloc: Global, arms: &[Arm<Stmt>], found: &mut Mentioned) -> Result<
     ensures { OnOk result (Gains found.old found.new (flat_map types_in_arm arms.now)) }
 {
     for arm in arms {
-        let block = arm.body.as_slice();
-        for statement in block {
-            add_statement(alloc, statement, found)?;
-        }
+        add_block(alloc, arm.body.as_slice(), found)?;
     }
     Ok(())
 }
@@ -196,38 +188,23 @@ fn add_declaration(
     ensures { OnOk result (Gains found.old found.new (types_in declaration.now)) }
 {
     match declaration {
-        Decl::TypeAlias(_, _, ty) => {
-            add_type(alloc, ty, found)?;
-            Ok(())
-        }
-        Decl::Variables(_, _, _, ty) => {
-            add_type(alloc, ty, found)?;
-            Ok(())
-        }
+        Decl::TypeAlias(_, _, ty) => add_type(alloc, ty, found),
+        Decl::Variables(_, _, _, ty) => add_type(alloc, ty, found),
         Decl::Function(_, _, parameters, ty) => {
             add_parameters(alloc, parameters.as_slice(), found)?;
-            add_type(alloc, ty, found)?;
-            Ok(())
+            add_type(alloc, ty, found)
         }
         Decl::Define(_, _, parameters, ty, _) => {
             add_parameters(alloc, parameters.as_slice(), found)?;
-            add_type(alloc, ty, found)?;
-            Ok(())
+            add_type(alloc, ty, found)
         }
         Decl::Procedure(_, procedure) => {
             add_parameters(alloc, procedure.parameters.as_slice(), found)?;
             add_parameters(alloc, procedure.results.as_slice(), found)?;
-            add_block(alloc, procedure.body.as_slice(), found)?;
-            Ok(())
+            add_block(alloc, procedure.body.as_slice(), found)
         }
-        Decl::Init(_, block) => {
-            add_block(alloc, block.as_slice(), found)?;
-            Ok(())
-        }
-        Decl::Next(_, block) => {
-            add_block(alloc, block.as_slice(), found)?;
-            Ok(())
-        }
+        Decl::Init(_, block) => add_block(alloc, block.as_slice(), found),
+        Decl::Next(_, block) => add_block(alloc, block.as_slice(), found),
         _ => Ok(()),
     }
 }

@@ -10,7 +10,7 @@ ghost use Rattle.uc_lookup.specs.Parts.{system_in};
 ghost use Rattle.uc_type_reader.specs.Places.{declaration_count};
 
 use crate::mentioned::WrittenEnum;
-use crate::places::{declaration_count, opaque_types, written_enums};
+use crate::places::lists_of;
 use std::alloc::{AllocError, Global};
 use std::marker::Model;
 use uc_items::{Items, at};
@@ -49,16 +49,13 @@ impl Tables {
     pub fn of(alloc: Global, design: Design, main: u32) -> Result<Tables, AllocError>
         ensures { IfOk result (λ t. t ≡ system_of design main) }
     {
-        let modules = design.modules().as_slice();
-        let enums = written_enums(alloc, modules)?;
-        let opaques = opaque_types(alloc, modules)?;
-        let declarations = declaration_count(modules)?;
+        let lists = lists_of(alloc, design.modules().as_slice())?;
         Ok(Tables {
             design,
             main,
-            enums,
-            opaques,
-            declarations,
+            enums: lists.enums,
+            opaques: lists.opaques,
+            declarations: lists.declarations,
         })
     }
 
