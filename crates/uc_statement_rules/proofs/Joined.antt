@@ -1,5 +1,5 @@
 -- What is found of a whole, by what is found of its parts.
-use Rattle.std.proofs.Common.{◌≡◌, ℕ, ◌+◌, ◌-◌, ◌<◌, ◌≤◌, Bool, List, [], ◌∷◌, ◌++◌, length, drop, take, get_or, map, Option, Some, None, refl, ap, ◌∙◌, sym, subst}
+use Rattle.std.proofs.Common.{◌≡◌, ℕ, ◌+◌, ◌-◌, ◌<◌, ◌≤◌, Bool, List, [], ◌∷◌, ◌++◌, length, drop, take, get_or, map, Option, Some, None, refl, ap, ◌∙◌, sym, subst, append_assoc}
 use Rattle.std.specs.Prelude.{not, ◌||◌}
 use Rattle.std.specs.Option.{is_some, option_map}
 use Rattle.std.proofs.lemmas.List.{take_all}
@@ -30,7 +30,7 @@ use Rattle.uc_rules.specs.Types.{parameter_types, type_faults, type_of}
 use Rattle.uc_rules.proofs.Chains.{first_of_append}
 use Rattle.uc_fault_order.proofs.Swaps.{any_order}
 use Rattle.uc_expression_rules.specs.Judging.{Finds, FindsOutcome, JudgesAll}
-use Rattle.uc_statement_rules.specs.Judging.{Declares, JudgesAfter, JudgesArms, JudgesBlock, JudgesStatement, JudgesTargets, arms_found, called_procedure_faults, clauses_may, else_found, step_faults}
+use Rattle.uc_statement_rules.specs.Judging.{Declares, EntersLoop, JudgesAfter, JudgesArms, JudgesBlock, JudgesElse, JudgesStatement, JudgesTargets, arms_found, called_procedure_faults, clauses_may, counter_type, else_found, step_faults}
 use Rattle.uc_statement_rules.proofs.Noted.{NotedUpTo, append_nil, noted_both, noted_more, noted_none}
 use Rattle.uc_statement_rules.proofs.Parts.{outcome_faults}
 use Rattle.uc_statement_rules.proofs.Modifying.{call_kept}
@@ -70,13 +70,12 @@ called_is c place targets i o p arguments is =
     ap (λ b. fit_faults place (parameter_types c.system c.home p.parameters) arguments ++ (fit_faults place (parameter_types c.system c.home p.results) targets ++ breaks_where (not b) NotModifies place)) (sym (call_kept c p))
     ∙ ap (λ q. called_faults c place targets i q arguments) is
 
-pub procedure_of_parts : (c : Context) (place : Place) (targets : List (Option Ty)) (p : Procedure) (arguments : List (Option Ty)) (old m1 m2 new : Option Fault) (ps rs : List (Option Ty)) (ok : Bool) →
-    ps ≡ parameter_types c.system c.home p.parameters → m1 ≡ first_of old (fit_faults place ps arguments) →
-    rs ≡ parameter_types c.system c.home p.results → m2 ≡ first_of m1 (fit_faults place rs targets) →
+pub procedure_of_parts : (c : Context) (place : Place) (targets : List (Option Ty)) (p : Procedure) (arguments : List (Option Ty)) (old m1 m2 new : Option Fault) (ok : Bool) →
+    m1 ≡ first_of old (fit_faults place (parameter_types c.system c.home p.parameters) arguments) → m2 ≡ first_of m1 (fit_faults place (parameter_types c.system c.home p.results) targets) →
     ok ≡ clauses_may c p.clauses → new ≡ first_of m2 (breaks_where (not ok) NotModifies place) → new ≡ first_of old (called_procedure_faults c place targets p arguments)
-procedure_of_parts c place targets p arguments old m1 m2 new ps rs ok ps-is first rs-is second ok-is third =
+procedure_of_parts c place targets p arguments old m1 m2 new ok first second ok-is third =
     noted_three old m1 m2 new (fit_faults place (parameter_types c.system c.home p.parameters) arguments) (fit_faults place (parameter_types c.system c.home p.results) targets) (breaks_where (not (clauses_may c p.clauses)) NotModifies place)
-    (first ∙ ap (λ ts. first_of old (fit_faults place ts arguments)) ps-is) (second ∙ ap (λ ts. first_of m1 (fit_faults place ts targets)) rs-is) (third ∙ ap (λ b. first_of m2 (breaks_where (not b) NotModifies place)) ok-is)
+    first second (third ∙ ap (λ b. first_of m2 (breaks_where (not b) NotModifies place)) ok-is)
 
 -- the bounds of a loop, both of them, and the loop's variable
 pub range_of_parts : (c : Context) (place : Place) (type : Option TypeExpr) (from to : RangeBound) (old m1 m2 m3 new : Option Fault) (low high both t : Option Ty) (o : Outcome) →
@@ -135,55 +134,62 @@ after_found c s x fs d old new after s-is is held =
       scope = held.scope ∙ ap (λ (q : Found). q.after) (sym all);
     }
 
-arms_alone : (c d : Context) (arms arms' : List (Arm Stmt)) (old new : Option Fault) → arms' ≡ arms → JudgesArms c arms' old new d → new ≡ first_of old (arms_found c arms ++ [])
-arms_alone c d arms arms' old new arms-is held = held.noted ∙ ap (first_of old) (ap (arms_found c) arms-is ∙ sym (append_nil (arms_found c arms)))
+-- no block stands for what arms leave out, or one does
+pub else_none : (c : Context) (o : Option (List Stmt)) (old : Option Fault) → o ≡ None → JudgesElse c o old old c
+else_none c o old o-is = record { noted = noted_none old ∙ ap (λ p. first_of old (else_found c p)) (sym o-is); scope = refl }
 
-arms_then : (c d after : Context) (arms arms' : List (Arm Stmt)) (block block' : List Stmt) (old mid new : Option Fault) → arms' ≡ arms → JudgesArms c arms' old mid d → block' ≡ block → JudgesBlock d block' mid new after →
-    JudgesAfter old new after (arms_found c arms ++ code_faults block c) c
-arms_then c d after arms arms' block block' old mid new arms-is held block-is rest = record {
+pub else_some : (c after : Context) (o : Option (List Stmt)) (block block' : List Stmt) (old new : Option Fault) → o ≡ Some block → block' ≡ block → JudgesBlock c block' old new after → JudgesElse c o old new after
+else_some c after o block block' old new o-is block-is held = record {
+  noted = held.noted ∙ ap (λ xs. first_of old (code_faults xs c)) block-is ∙ ap (λ p. first_of old (else_found c p)) (sym o-is);
+  scope = held.scope;
+}
+
+-- arms, and what stands for all that they leave out
+choice_found : (c d after : Context) (arms arms' : List (Arm Stmt)) (o : Option (List Stmt)) (old mid new : Option Fault) → arms' ≡ arms → JudgesArms c arms' old mid d → JudgesElse d o mid new after →
+    JudgesAfter old new after (arms_found c arms ++ else_found c o) c
+choice_found c d after arms arms' o old mid new arms-is held rest = record {
   noted =
-      noted_both old mid new (arms_found c arms) (code_faults block c) (held.noted ∙ ap (λ xs. first_of old (arms_found c xs)) arms-is)
-      (rest.noted ∙ (λ i. first_of mid (code_faults (block-is i) (held.scope i))));
+      noted_both old mid new (arms_found c arms) (else_found c o) (held.noted ∙ ap (λ xs. first_of old (arms_found c xs)) arms-is)
+      (rest.noted ∙ ap (λ q. first_of mid (else_found q o)) held.scope);
   scope = rest.scope ∙ held.scope;
 }
 
-pub if_alone : (c d : Context) (s : Stmt) (place : Place) (arms arms' : List (Arm Stmt)) (o : Option (List Stmt)) (old new : Option Fault) → s ≡ If place arms o → o ≡ None → arms' ≡ arms → JudgesArms c arms' old new d → JudgesStatement c s old new d
-if_alone c d s place arms arms' o old new s-is o-is arms-is held =
-    stays_found c s (If place arms None) (arms_found c arms ++ []) old new d (s-is ∙ ap (If place arms) o-is) (found_if c place arms None) held.scope (arms_alone c d arms arms' old new arms-is held)
+pub if_found : (c d after : Context) (s : Stmt) (place : Place) (arms arms' : List (Arm Stmt)) (o : Option (List Stmt)) (old mid new : Option Fault) → s ≡ If place arms o → arms' ≡ arms →
+    JudgesArms c arms' old mid d → JudgesElse d o mid new after → JudgesStatement c s old new after
+if_found c d after s place arms arms' o old mid new s-is arms-is held rest =
+    after_found c s (If place arms o) (arms_found c arms ++ else_found c o) c old new after s-is (found_if c place arms o) (choice_found c d after arms arms' o old mid new arms-is held rest)
 
-pub case_alone : (c d : Context) (s : Stmt) (place : Place) (arms arms' : List (Arm Stmt)) (o : Option (List Stmt)) (old new : Option Fault) → s ≡ Case place arms o → o ≡ None → arms' ≡ arms → JudgesArms c arms' old new d → JudgesStatement c s old new d
-case_alone c d s place arms arms' o old new s-is o-is arms-is held =
-    stays_found c s (Case place arms None) (arms_found c arms ++ []) old new d (s-is ∙ ap (Case place arms) o-is) (found_case c place arms None) held.scope (arms_alone c d arms arms' old new arms-is held)
+pub case_found : (c d after : Context) (s : Stmt) (place : Place) (arms arms' : List (Arm Stmt)) (o : Option (List Stmt)) (old mid new : Option Fault) → s ≡ Case place arms o → arms' ≡ arms →
+    JudgesArms c arms' old mid d → JudgesElse d o mid new after → JudgesStatement c s old new after
+case_found c d after s place arms arms' o old mid new s-is arms-is held rest =
+    after_found c s (Case place arms o) (arms_found c arms ++ else_found c o) c old new after s-is (found_case c place arms o) (choice_found c d after arms arms' o old mid new arms-is held rest)
 
-pub if_then : (c d after : Context) (s : Stmt) (place : Place) (arms arms' : List (Arm Stmt)) (o : Option (List Stmt)) (block block' : List Stmt) (old mid new : Option Fault) →
-    s ≡ If place arms o → o ≡ Some block → arms' ≡ arms → JudgesArms c arms' old mid d → block' ≡ block → JudgesBlock d block' mid new after → JudgesStatement c s old new after
-if_then c d after s place arms arms' o block block' old mid new s-is o-is arms-is held block-is rest =
-    after_found c s (If place arms (Some block)) (arms_found c arms ++ code_faults block c) c old new after (s-is ∙ ap (If place arms) o-is) (found_if c place arms (Some block)) (arms_then c d after arms arms' block block' old mid new arms-is held block-is rest)
-
-pub case_then : (c d after : Context) (s : Stmt) (place : Place) (arms arms' : List (Arm Stmt)) (o : Option (List Stmt)) (block block' : List Stmt) (old mid new : Option Fault) →
-    s ≡ Case place arms o → o ≡ Some block → arms' ≡ arms → JudgesArms c arms' old mid d → block' ≡ block → JudgesBlock d block' mid new after → JudgesStatement c s old new after
-case_then c d after s place arms arms' o block block' old mid new s-is o-is arms-is held block-is rest =
-    after_found c s (Case place arms (Some block)) (arms_found c arms ++ code_faults block c) c old new after (s-is ∙ ap (Case place arms) o-is) (found_case c place arms (Some block)) (arms_then c d after arms arms' block block' old mid new arms-is held block-is rest)
-
--- a loop: its name, the type that is written, its range, and its body, where the name is known
-pub for_of_parts : (c inside back after : Context) (s : Stmt) (place : Place) (i : Identifier) (type : Option TypeExpr) (from to : RangeBound) (block block' : List Stmt) (old m1 m2 m3 new : Option Fault) (t : Option Ty) (depth : ℕ) →
-    s ≡ For place i type from to block →
+-- the head of a loop: its name, the type that is written, and its range
+pub head_of_parts : (c after : Context) (place : Place) (i : Identifier) (type : Option TypeExpr) (from to : RangeBound) (old m1 m2 new : Option Fault) (t : Option Ty) →
     m1 ≡ first_of old (breaks_where (is_name_of c.system c.home i.name || names_one_of (bound_names c) i.name) DuplicateName i.place) →
     m2 ≡ first_of m1 (written_type_faults c type) →
-    Finds m2 m3 t (range_faults c place type from to) (type_in (counter_outcome c type (type_in (range_outcome from to)))) →
-    depth ≡ length c.bound →
-    inside ≡ record c { bound = record { name = i.name; role = Counter; ty = t } ∷ c.bound } →
-    block' ≡ block → JudgesBlock inside block' m3 new back →
+    Finds m2 new t (range_faults c place type from to) (counter_type c type from to) →
+    after ≡ record c { bound = record { name = i.name; role = Counter; ty = t } ∷ c.bound } → EntersLoop c place i type from to old new after
+head_of_parts c after place i type from to old m1 m2 new t first second range after-is = record {
+  noted =
+      noted_both old m2 new (repeated_in_scope c.system c.home (bound_names c) (i ∷ []) ++ written_type_faults c type) (range_faults c place type from to)
+      (noted_both old m1 m2 (repeated_in_scope c.system c.home (bound_names c) (i ∷ [])) (written_type_faults c type) (one_declared c i old m1 first) second) range.found;
+  scope = after-is ∙ ap (λ v. binds c Counter (i ∷ []) v) range.type;
+}
+
+-- a loop: its head, and its body, where the name is known
+pub for_of_parts : (c inside back after : Context) (s : Stmt) (place : Place) (i : Identifier) (type : Option TypeExpr) (from to : RangeBound) (block block' : List Stmt) (old mid new : Option Fault) (depth : ℕ) →
+    s ≡ For place i type from to block → depth ≡ length c.bound → EntersLoop c place i type from to old mid inside →
+    block' ≡ block → JudgesBlock inside block' mid new back →
     after ≡ record back { bound = drop (length back.bound - depth) back.bound } → JudgesStatement c s old new after
-for_of_parts c inside back after s place i type from to block block' old m1 m2 m3 new t depth s-is first second range depth-is inside-is block-is body after-is =
-    let u = type_in (counter_outcome c type (type_in (range_outcome from to))) in
-    let at : inside ≡ binds c Counter (i ∷ []) u = inside-is ∙ ap (λ v. binds c Counter (i ∷ []) v) range.type in
+for_of_parts c inside back after s place i type from to block block' old mid new depth s-is depth-is head block-is body after-is =
+    let named = repeated_in_scope c.system c.home (bound_names c) (i ∷ []) ++ written_type_faults c type in
+    let range = range_faults c place type from to in
+    let u = counter_type c type from to in
+    let within = code_faults block (binds c Counter (i ∷ []) u) in
     stays_found c s (For place i type from to block) (for_faults c place i type from to (map found block)) old new after s-is (found_for c place i type from to block)
-    (grown_left c back after depth (record { added = record { name = i.name; role = Counter; ty = t } ∷ []; is = body.scope ∙ inside-is }) depth-is after-is)
-    (noted_both old m2 new (repeated_in_scope c.system c.home (bound_names c) (i ∷ []) ++ written_type_faults c type) (range_faults c place type from to ++ code_faults block (binds c Counter (i ∷ []) u))
-    (noted_both old m1 m2 (repeated_in_scope c.system c.home (bound_names c) (i ∷ [])) (written_type_faults c type) (one_declared c i old m1 first) second)
-    (noted_both m2 m3 new (range_faults c place type from to) (code_faults block (binds c Counter (i ∷ []) u)) range.found
-    (body.noted ∙ (λ k. first_of m3 (code_faults (block-is k) (at k))))))
+    (grown_left c back after depth (record { added = record { name = i.name; role = Counter; ty = u } ∷ []; is = body.scope ∙ head.scope }) depth-is after-is)
+    (noted_both old mid new (named ++ range) within head.noted (body.noted ∙ (λ k. first_of mid (code_faults (block-is k) (head.scope k)))) ∙ ap (first_of old) (append_assoc named range within))
 
 pub called_none : (c : Context) (place : Place) (targets : List (Option Ty)) (i : Identifier) (o : Option Procedure) (arguments : List (Option Ty)) (old new : Option Fault) →
     None ≡ o → new ≡ earlier old (broken UnknownName i.place) → new ≡ first_of old (called_faults c place targets i o arguments)

@@ -1,5 +1,6 @@
 -- The first fault that is noted in the turns of a loop over a list.
 use Rattle.std.proofs.Common.{◌≡◌, ℕ, ◌+◌, ◌<◌, ◌≤◌, List, [], ◌∷◌, ◌++◌, length, take, get_or, Option, refl, ap, ◌∙◌, sym}
+use Rattle.std.specs.Prelude.{Result, Ok, Err, OnOk}
 use Rattle.std.specs.List.{flat_map}
 use Rattle.std.proofs.lemmas.List.{take_all}
 use Rattle.std.proofs.lemmas.Grind.{flat_map-append}
@@ -41,3 +42,8 @@ noted_more f xs old k now new x d before within is e = record {
 
 pub noted_end : {A : Type 0} (f : A → List Fault) (xs : List A) (old : Option Fault) (k : ℕ) (now : Option Fault) → NotedUpTo f xs old k now → length xs ≤ k → now ≡ first_of old (flat_map f xs)
 noted_end f xs old k now before past = before.noted ∙ ap (λ ys. first_of old (flat_map f ys)) (take_all k xs past)
+
+-- what a call says of its success, and what follows from it
+pub on_ok : {A E : Type 0} {P Q : Type 0} (r : Result A E) → (P → Q) → OnOk r P → OnOk r Q
+on_ok (Ok a) more held = more held
+on_ok (Err e) more held = held

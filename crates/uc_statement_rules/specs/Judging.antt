@@ -1,9 +1,11 @@
 -- What the walk over statements finds: the first of what was noted before and of the faults that are found, and the scope of what follows.
-use Rattle.std.specs.Prelude.{◌≡◌, ℕ, Bool, not, if◌then◌else◌, true, List, [], ◌++◌, Option, Some, None}
+use Rattle.std.specs.Prelude.{◌≡◌, ℕ, Bool, not, if◌then◌else◌, true, List, [], ◌∷◌, ◌++◌, Option, Some, None}
 use Rattle.std.specs.List.{flat_map, list_all, filter_map}
 use Rattle.uc_lexer.specs.declared.place.Place.{Place}
 use Rattle.uc_syntax.specs.declared.place.Identifier.{Identifier}
+use Rattle.uc_syntax.specs.declared.type_expression.TypeExpr.{TypeExpr}
 use Rattle.uc_syntax.specs.declared.statement.Target.{Target}
+use Rattle.uc_syntax.specs.declared.statement.RangeBound.{RangeBound}
 use Rattle.uc_syntax.specs.declared.statement.Arm.{Arm}
 use Rattle.uc_syntax.specs.declared.statement.Stmt.{Stmt}
 use Rattle.uc_syntax.specs.declared.declaration.Clause.{Clause}
@@ -13,11 +15,13 @@ use Rattle.uc_meaning.specs.Lookup.{some_if}
 use Rattle.uc_rules.specs.declared.fault.Fault.{Fault}
 use Rattle.uc_rules.specs.declared.rule.Rule.TheVariants.{UnknownName, BadPrime, NotModifies}
 use Rattle.uc_rules.specs.declared.known.Role.{Role}
+use Rattle.uc_rules.specs.declared.known.Role.TheVariants.{Counter}
 use Rattle.uc_rules.specs.Faults.{breaks_where, first_of}
 use Rattle.uc_rules.specs.Names.{repeated_in_scope, value_named}
+use Rattle.uc_rules.specs.Outcomes.{type_in}
 use Rattle.uc_rules.specs.Types.{parameter_types}
 use Rattle.uc_rules.specs.Expressions.{Context, condition_faults}
-use Rattle.uc_rules.specs.Statements.{binds, bound_names, code_faults, fit_faults, found, instance_there, is_written_value, may_modify, modifies_in, target_faults, target_types}
+use Rattle.uc_rules.specs.Statements.{binds, bound_names, code_faults, counter_outcome, fit_faults, found, instance_there, is_written_value, may_modify, modifies_in, range_faults, range_outcome, target_faults, target_types, written_type_faults}
 
 -- what is found of several targets
 pub record JudgesTargets (c : Context) (ts : List Target) (old new : Option Fault) (types : List (Option Ty)) : Type 0 where
@@ -74,3 +78,17 @@ else_found c (Some block) = code_faults block c
 -- what is found of arms
 abbrev pub JudgesArms : Context → List (Arm Stmt) → Option Fault → Option Fault → Context → Type 0
 JudgesArms c arms old new after = JudgesAfter old new after (arms_found c arms) c
+
+-- what is found of the block that stands for all that arms leave out
+abbrev pub JudgesElse : Context → Option (List Stmt) → Option Fault → Option Fault → Context → Type 0
+JudgesElse c otherwise old new after = JudgesAfter old new after (else_found c otherwise) c
+
+-- what is found of a loop before its body, in which its variable is known
+abbrev pub head_faults : Context → Place → Identifier → Option TypeExpr → RangeBound → RangeBound → List Fault
+head_faults c place i type from to = (repeated_in_scope c.system c.home (bound_names c) (i ∷ []) ++ written_type_faults c type) ++ range_faults c place type from to
+
+abbrev pub counter_type : Context → Option TypeExpr → RangeBound → RangeBound → Option Ty
+counter_type c type from to = type_in (counter_outcome c type (type_in (range_outcome from to)))
+
+abbrev pub EntersLoop : Context → Place → Identifier → Option TypeExpr → RangeBound → RangeBound → Option Fault → Option Fault → Context → Type 0
+EntersLoop c place i type from to old new after = JudgesAfter old new after (head_faults c place i type from to) (binds c Counter (i ∷ []) (counter_type c type from to))

@@ -4,7 +4,8 @@ ghost use Rattle.std.specs.Prelude.{◌≡◌, OnOk};
 ghost use Rattle.std.specs.List.{filter_map, list_all};
 ghost use Rattle.uc_rules.specs.Faults.{first_of};
 ghost use Rattle.uc_rules.specs.Names.{procedure_named};
-ghost use Rattle.uc_rules.specs.Statements.{call_faults, called_faults, may_modify, modifies_in};
+ghost use Rattle.uc_rules.specs.Statements.{call_faults, called_faults, fit_faults, may_modify, modifies_in};
+ghost use Rattle.uc_rules.specs.Types.{parameter_types};
 ghost use Rattle.uc_statement_rules.specs.Judging.{called_procedure_faults, clauses_may, name_may, name_written};
 
 use crate::targets::judge_targets;
@@ -13,7 +14,7 @@ use std::alloc::{AllocError, Global};
 use uc_expression_rules::judge_all;
 use uc_read_names::Scope;
 use uc_rules::{Fault, Rule, note, note_where};
-use uc_syntax::{Clause, Expr, Identifier, Place, Procedure, Target};
+use uc_syntax::{Clause, Expr, Identifier, Parameter, Place, Procedure, Target, TypeExpr};
 use uc_type_forms::note_misfit;
 use uc_values::Ty;
 
@@ -78,12 +79,40 @@ fn note_procedure(
 ) -> Result<(), AllocError>
     ensures { OnOk result (first.new ≡ first_of first.old (called_procedure_faults scope.now place written.now procedure.now given.now)) }
 {
-    let asked = scope.parameter_types(alloc, procedure.parameters.as_slice())?;
-    note_misfit(first, place, asked.as_slice(), given);
-    let results = scope.parameter_types(alloc, procedure.results.as_slice())?;
-    note_misfit(first, place, results.as_slice(), written);
+    note_unfit(
+        alloc,
+        scope,
+        place,
+        procedure.parameters.as_slice(),
+        given,
+        first,
+    )?;
+    note_unfit(
+        alloc,
+        scope,
+        place,
+        procedure.results.as_slice(),
+        written,
+        first,
+    )?;
     let is_kept = modifies_no_more(scope, procedure.clauses.as_slice());
     note_where(first, !is_kept, Rule::NotModifies, place);
+    Ok(())
+}
+
+/// Notes types that differ in number or in type from those of parameters or results.
+fn note_unfit(
+    alloc: Global,
+    scope: &Scope<'_, '_>,
+    place: Place,
+    parameters: &[Parameter<TypeExpr>],
+    types: &[Option<Ty>],
+    first: &mut Option<Fault>,
+) -> Result<(), AllocError>
+    ensures { OnOk result (first.new ≡ first_of first.old (fit_faults place (parameter_types scope.now.system scope.now.home parameters.now) types.now)) }
+{
+    let asked = scope.parameter_types(alloc, parameters)?;
+    note_misfit(first, place, asked.as_slice(), types);
     Ok(())
 }
 

@@ -71,6 +71,5 @@ pub(crate) fn judge_local(
 {
     note_where(first, scope.is_in_next(), Rule::BadPrime, place);
     let ty = scope.note_type(alloc, ty, first)?;
-    note_all_declared(alloc, scope, Role::Local, identifiers, &ty, first)?;
-    Ok(())
+    note_all_declared(alloc, scope, Role::Local, identifiers, &ty, first)
 }

@@ -7,12 +7,16 @@ ghost use Rattle.uc_rules.specs.Outcomes.{type_in};
 ghost use Rattle.uc_rules.specs.Rows.{pair};
 ghost use Rattle.uc_rules.specs.Statements.{bound_outcome, bound_place, counter_outcome, range_faults, range_outcome, written_type_faults};
 ghost use Rattle.uc_rules.specs.declared.rows.Chain.TheVariants.{Number};
+ghost use Rattle.uc_statement_rules.specs.Judging.{EntersLoop};
 
+use crate::declared::note_taken;
 use crate::written::outcome_of;
 use std::alloc::{AllocError, Global};
 use uc_read_names::Scope;
-use uc_rules::{Chain, Fault, Outcome, bits_literal, joined, number_literal, same_outcome, settle};
-use uc_syntax::{Place, RangeBound, TypeExpr};
+use uc_rules::{
+    Chain, Fault, Known, Outcome, Role, bits_literal, joined, number_literal, same_outcome, settle,
+};
+use uc_syntax::{Identifier, Place, RangeBound, TypeExpr};
 use uc_values::Ty;
 
 fn bound_place(bound: RangeBound) -> Place
@@ -71,7 +75,7 @@ fn counter_outcome(
 }
 
 /// Notes the faults of the type that is written for a loop's variable, where one is.
-pub(crate) fn note_written_type(
+fn note_written_type(
     alloc: Global,
     scope: &Scope<'_, '_>,
     written: &Option<TypeExpr>,
@@ -89,7 +93,7 @@ pub(crate) fn note_written_type(
 }
 
 /// The type of a loop's variable, where nothing in its range is broken. The faults of the range are noted.
-pub(crate) fn judge_range(
+fn judge_range(
     alloc: Global,
     scope: &Scope<'_, '_>,
     place: Place,
@@ -105,4 +109,25 @@ pub(crate) fn judge_range(
     let both = settle(first, place, bounds_outcome(&low, &high));
     let outcome = counter_outcome(alloc, scope, written, both)?;
     Ok(settle(first, place, outcome))
+}
+
+/// Notes the faults of a loop before its body, in which its variable is known then.
+pub(crate) fn enter_loop(
+    alloc: Global,
+    scope: &mut Scope<'_, '_>,
+    place: Place,
+    variable: Identifier,
+    written: &Option<TypeExpr>,
+    from: RangeBound,
+    to: RangeBound,
+    first: &mut Option<Fault>,
+) -> Result<(), AllocError>
+    ensures { OnOk result (EntersLoop scope.old place variable written.now from to first.old first.new scope.new) }
+{
+    note_taken(scope, variable, first);
+    note_written_type(alloc, scope, written, first)?;
+    let ty = judge_range(alloc, scope, place, written, from, to, first)?;
+    let name = variable.name;
+    let role = Role::Counter;
+    scope.bind(Known { name, role, ty })
 }

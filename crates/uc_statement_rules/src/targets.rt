@@ -23,11 +23,11 @@ use uc_values::Ty;
 fn judge_part(
     alloc: Global,
     scope: &Scope<'_, '_>,
-    before: Option<Ty>,
+    before: &Option<Ty>,
     part: &TargetPart,
     first: &mut Option<Fault>,
 ) -> Result<Option<Ty>, AllocError>
-    ensures { IfOk result (λ t. Finds first.old first.new t (part_inner scope.now part.now ++ faults_in (part_place part.now) (part_outcome scope.now before part.now)) (type_in (part_outcome scope.now before part.now))) }
+    ensures { IfOk result (λ t. Finds first.old first.new t (part_inner scope.now part.now ++ faults_in (part_place part.now) (part_outcome scope.now before.now part.now)) (type_in (part_outcome scope.now before.now part.now))) }
 {
     match part {
         TargetPart::Field(place, name) => {
@@ -43,29 +43,29 @@ fn judge_part(
 
 fn judge_field(
     alloc: Global,
-    before: Option<Ty>,
+    before: &Option<Ty>,
     place: Place,
     name: Identifier,
     first: &mut Option<Fault>,
 ) -> Result<Option<Ty>, AllocError>
-    ensures { IfOk result (λ t. FindsOutcome first.old first.new t place (field_on before name.name)) }
+    ensures { IfOk result (λ t. FindsOutcome first.old first.new t place (field_on before.now name.name)) }
 {
-    let outcome = field_on(alloc, &before, name.name)?;
+    let outcome = field_on(alloc, before, name.name)?;
     Ok(settle(first, place, outcome))
 }
 
 fn judge_element(
     alloc: Global,
     scope: &Scope<'_, '_>,
-    before: Option<Ty>,
+    before: &Option<Ty>,
     place: Place,
     index: &Expr,
     first: &mut Option<Fault>,
 ) -> Result<Option<Ty>, AllocError>
-    ensures { IfOk result (λ t. Finds first.old first.new t ((judged index.now scope.now).faults ++ faults_in place (element_on before (judged index.now scope.now).type)) (type_in (element_on before (judged index.now scope.now).type))) }
+    ensures { IfOk result (λ t. Finds first.old first.new t ((judged index.now scope.now).faults ++ faults_in place (element_on before.now (judged index.now scope.now).type)) (type_in (element_on before.now (judged index.now scope.now).type))) }
 {
     let index = judge(alloc, scope, index, first)?;
-    let outcome = element_on(alloc, &before, &index)?;
+    let outcome = element_on(alloc, before, &index)?;
     Ok(settle(first, place, outcome))
 }
 
@@ -82,7 +82,7 @@ fn judge_parts(
 {
     let mut ty = start;
     for part in parts {
-        ty = judge_part(alloc, scope, ty, part, first)?;
+        ty = judge_part(alloc, scope, &ty, part, first)?;
     }
     Ok(ty)
 }

@@ -4,17 +4,18 @@ ghost use Rattle.std.specs.Prelude.{◌≡◌, OnOk};
 ghost use Rattle.uc_rules.specs.Faults.{first_of};
 ghost use Rattle.uc_rules.specs.Expressions.{standing_faults};
 ghost use Rattle.uc_rules.specs.Statements.{havoc_standing};
-ghost use Rattle.uc_statement_rules.specs.Judging.{JudgesArms, JudgesBlock, JudgesStatement, step_faults};
+ghost use Rattle.uc_statement_rules.specs.Judging.{JudgesArms, JudgesBlock, JudgesElse, JudgesStatement, step_faults};
 
 use crate::calls::judge_call;
-use crate::declared::{judge_local, note_taken};
-use crate::ranges::{judge_range, note_written_type};
+use crate::declared::judge_local;
+use crate::ranges::enter_loop;
 use crate::targets::judge_assignment;
 use crate::written::havoc_outcome;
 use std::alloc::{AllocError, Global};
 use uc_expression_rules::note_condition;
+use uc_items::Items;
 use uc_read_names::Scope;
-use uc_rules::{Fault, Known, Role, Rule, note_where, settle};
+use uc_rules::{Fault, Rule, note_where, settle};
 use uc_syntax::{Arm, Identifier, Place, Stmt};
 
 /// Notes the faults of a statement. The scope is then the one in which the next statement of its block stands.
@@ -29,59 +30,28 @@ pub fn judge_statement(
 {
     match statement {
         Stmt::Local(place, names, ty) => {
-            judge_local(alloc, scope, *place, names.as_slice(), ty, first)?;
-            Ok(())
+            judge_local(alloc, scope, *place, names.as_slice(), ty, first)
         }
         Stmt::Skip(_) => Ok(()),
-        Stmt::Block(_, block) => {
-            judge_block(alloc, scope, block.as_slice(), first)?;
-            Ok(())
-        }
-        Stmt::Assert(_, _, condition) => {
-            note_condition(alloc, scope, condition, first)?;
-            Ok(())
-        }
-        Stmt::Assume(_, condition) => {
-            note_condition(alloc, scope, condition, first)?;
-            Ok(())
-        }
-        Stmt::Havoc(_, name, is_primed) => {
-            judge_havoc(alloc, scope, *name, *is_primed, first)?;
-            Ok(())
-        }
+        Stmt::Block(_, block) => judge_block(alloc, scope, block.as_slice(), first),
+        Stmt::Assert(_, _, condition) => note_condition(alloc, scope, condition, first),
+        Stmt::Assume(_, condition) => note_condition(alloc, scope, condition, first),
+        Stmt::Havoc(_, name, is_primed) => judge_havoc(alloc, scope, *name, *is_primed, first),
         Stmt::Assign(place, targets, sources) => {
             let targets = targets.as_slice();
-            judge_assignment(alloc, scope, *place, targets, sources.as_slice(), first)?;
-            Ok(())
+            judge_assignment(alloc, scope, *place, targets, sources.as_slice(), first)
         }
         Stmt::If(_, arms, otherwise) => {
             judge_arms(alloc, scope, arms.as_slice(), first)?;
-            match otherwise {
-                None => Ok(()),
-                Some(block) => {
-                    judge_block(alloc, scope, block.as_slice(), first)?;
-                    Ok(())
-                }
-            }
+            judge_otherwise(alloc, scope, otherwise, first)
         }
         Stmt::Case(_, arms, otherwise) => {
             judge_arms(alloc, scope, arms.as_slice(), first)?;
-            match otherwise {
-                None => Ok(()),
-                Some(block) => {
-                    judge_block(alloc, scope, block.as_slice(), first)?;
-                    Ok(())
-                }
-            }
+            judge_otherwise(alloc, scope, otherwise, first)
         }
         Stmt::For(place, variable, written, from, to, body) => {
-            note_taken(scope, *variable, first);
-            note_written_type(alloc, scope, written, first)?;
-            let ty = judge_range(alloc, scope, *place, written, *from, *to, first)?;
             let depth = scope.depth();
-            let name = variable.name;
-            let role = Role::Counter;
-            scope.bind(Known { name, role, ty })?;
+            enter_loop(alloc, scope, *place, *variable, written, *from, *to, first)?;
             judge_block(alloc, scope, body.as_slice(), first)?;
             scope.leave(depth);
             Ok(())
@@ -89,8 +59,7 @@ pub fn judge_statement(
         Stmt::Call(place, targets, procedure, arguments) => {
             let targets = targets.as_slice();
             let arguments = arguments.as_slice();
-            judge_call(alloc, scope, *place, targets, *procedure, arguments, first)?;
-            Ok(())
+            judge_call(alloc, scope, *place, targets, *procedure, arguments, first)
         }
         Stmt::Next(place, instance) => {
             judge_step(scope, *place, *instance, first);
@@ -129,14 +98,25 @@ fn judge_arms(
 {
     for arm in arms {
         note_condition(alloc, scope, &arm.condition, first)?;
-        let depth = scope.depth();
-        let block = arm.body.as_slice();
-        for statement in block {
-            judge_statement(alloc, scope, statement, first)?;
-        }
-        scope.leave(depth);
+        judge_block(alloc, scope, arm.body.as_slice(), first)?;
     }
     Ok(())
+}
+
+/// Notes the faults of the block that stands for all that arms leave out, where there is one.
+#[cycle(judge_statement)]
+fn judge_otherwise(
+    alloc: Global,
+    scope: &mut Scope<'_, '_>,
+    otherwise: &Option<Items<Stmt>>,
+    first: &mut Option<Fault>,
+) -> Result<(), AllocError>
+    ensures { OnOk result (JudgesElse scope.old otherwise.now first.old first.new scope.new) }
+{
+    match otherwise {
+        None => Ok(()),
+        Some(block) => judge_block(alloc, scope, block.as_slice(), first),
+    }
 }
 
 /// Notes the fault of `havoc`, at its name.
