@@ -4,3 +4,4 @@ pub mod Names
 pub mod Fields
 pub mod Building
 pub mod Expressions
+pub mod Pairs

@@ -1,7 +1,8 @@
 //! Operations on typed expressions, where they suit the types.
 
-ghost use Rattle.std.specs.Prelude.{◌≡◌, ◌<◌, ◌∷◌, ◌&&◌, [], nat_eq, length, map, IfOk};
+ghost use Rattle.std.specs.Prelude.{◌≡◌, ◌<◌, ◌∷◌, ◌&&◌, [], nat_eq, length, map, if◌then◌else◌, Some, None, IfOk};
 ghost use Rattle.std.specs.List.{list_all, position_from};
+ghost use Rattle.std.specs.Option.{option_map};
 ghost use Rattle.uc_flat_expressions.specs.Answers.{IsAnswer};
 ghost use Rattle.uc_flat_expressions.specs.Building.{operation, constant, expressions_in, are_truths, negation, junction, implied_parts, implication, chain_op, starts, joined_type, concat_type, joined, chain_from, chain, sign_chain, sum_from, sum, bits_only, unary_of, ordered, equality, inequality, comparison, choice, field_selected, is_range, range_selected, extension, shift, on_bits};
 ghost use Rattle.uc_flat_expressions.specs.Fields.{named_field};
@@ -9,6 +10,7 @@ ghost use Rattle.uc_ops.specs.Equality.{equal_types};
 ghost use Rattle.uc_ops.specs.declared.op.Op.TheVariants.{Ite};
 ghost use Rattle.uc_flat_expressions.specs.Types.{is_boolean, is_bits, are_same_bits};
 
+use crate::holding::{beside, built_where, with};
 use crate::typed::{FlatError, TypedExpression};
 use crate::types::{are_same_bits, is_bits, is_boolean};
 use std::alloc::{AllocError, Global};
@@ -53,7 +55,7 @@ fn operation(
 ) -> Result<TypedExpression, AllocError>
     ensures { IfOk result (λ t. t ≡ operation op ty parts) }
 {
-    let expressions = expressions_of(alloc, parts)?;
+    let (expressions, (op, ty)) = beside(expressions_of(alloc, parts), (op, ty))?;
     Ok(TypedExpression {
         expression: Expression::Apply(op, expressions),
         ty,
@@ -75,7 +77,7 @@ pub(crate) fn constant(alloc: Global, op: Op, ty: Ty) -> TypedExpression
 fn on_one(alloc: Global, op: Op, ty: Ty, a: TypedExpression) -> Result<TypedExpression, AllocError>
     ensures { IfOk result (λ t. t ≡ operation op ty (a ∷ [])) }
 {
-    let parts = one(alloc, a)?;
+    let (parts, (op, ty)) = beside(one(alloc, a), (op, ty))?;
     operation(alloc, op, ty, parts)
 }
 
@@ -96,7 +98,7 @@ fn on_two(
 ) -> Result<TypedExpression, AllocError>
     ensures { IfOk result (λ t. t ≡ operation op ty (a ∷ b ∷ [])) }
 {
-    let parts = two(alloc, a, b)?;
+    let (parts, (op, ty)) = beside(two(alloc, a, b), (op, ty))?;
     operation(alloc, op, ty, parts)
 }
 
@@ -140,9 +142,7 @@ pub(crate) fn junction(
 ) -> Result<TypedExpression, FlatError>
     ensures { IsAnswer (junction op parts) result }
 {
-    if !are_truths(parts.as_slice()) {
-        return Err(FlatError::NotBuilt);
-    }
+    let (op, parts) = built_where(are_truths(parts.as_slice()), (op, parts))?;
     let t = operation(alloc, op, Ty::Bool, parts)?;
     Ok(t)
 }
@@ -174,7 +174,7 @@ fn implied_parts(
     let Some(last) = front.pop() else {
         return Ok(Items::new(alloc));
     };
-    let mut made = negations(alloc, front)?;
+    let (mut made, last) = beside(negations(alloc, front), last)?;
     made.push(last)?;
     Ok(made)
 }
@@ -261,9 +261,7 @@ fn joined(
 ) -> Result<TypedExpression, FlatError>
     ensures { IsAnswer (joined kind a b) result }
 {
-    let Some(ty) = joined_type(kind, &a.ty, &b.ty) else {
-        return Err(FlatError::NotBuilt);
-    };
+    let (ty, (a, b)) = with(joined_type(kind, &a.ty, &b.ty), (a, b))?;
     let t = on_two(alloc, chain_op(kind), ty, a, b)?;
     Ok(t)
 }
@@ -281,9 +279,7 @@ pub(crate) fn from_left(
         return Err(FlatError::NotBuilt);
     }
     let first = rest.remove(0);
-    if !starts(kind, &first.ty) {
-        return Err(FlatError::NotBuilt);
-    }
+    let first = built_where(starts(kind, &first.ty), first)?;
     chain_from(alloc, kind, first, rest)
 }
 
@@ -326,9 +322,7 @@ pub(crate) fn sum(
         return Err(FlatError::NotBuilt);
     }
     let first = rest.remove(0);
-    if !is_bits(&first.ty) {
-        return Err(FlatError::NotBuilt);
-    }
+    let first = built_where(is_bits(&first.ty), first)?;
     sum_from(alloc, signs, first, rest)
 }
 
@@ -353,13 +347,20 @@ fn sum_from(
     Ok(whole)
 }
 
+/// A type of bits.
+fn bits_type(ty: &Ty) -> Option<Ty>
+    ensures { result ≡ (if is_bits ty.now then Some ty.now else None) }
+{
+    match ty {
+        Ty::Bv(width) => Some(Ty::Bv(*width)),
+        _ => None,
+    }
+}
+
 fn bits_only(alloc: Global, op: Op, a: TypedExpression) -> Result<TypedExpression, FlatError>
     ensures { IsAnswer (bits_only op a) result }
 {
-    if !is_bits(&a.ty) {
-        return Err(FlatError::NotBuilt);
-    }
-    let ty = copy_ty(alloc, &a.ty)?;
+    let (ty, (op, a)) = with(bits_type(&a.ty), (op, a))?;
     let t = on_one(alloc, op, ty, a)?;
     Ok(t)
 }
@@ -373,9 +374,7 @@ pub(crate) fn unary_of(
 {
     match operator {
         UnaryOperator::Not => {
-            if !is_boolean(&a.ty) {
-                return Err(FlatError::NotBuilt);
-            }
+            let a = built_where(is_boolean(&a.ty), a)?;
             let t = negation(alloc, a)?;
             Ok(t)
         }
@@ -393,9 +392,7 @@ fn ordered(
 ) -> Result<TypedExpression, FlatError>
     ensures { IsAnswer (ordered op a b) result }
 {
-    if !are_same_bits(&a.ty, &b.ty) {
-        return Err(FlatError::NotBuilt);
-    }
+    let (op, (a, b)) = built_where(are_same_bits(&a.ty, &b.ty), (op, (a, b)))?;
     let t = on_two(alloc, op, Ty::Bool, a, b)?;
     Ok(t)
 }
@@ -407,9 +404,7 @@ fn equality(
 ) -> Result<TypedExpression, FlatError>
     ensures { IsAnswer (equality a b) result }
 {
-    if !equal_types(&a.ty, &b.ty) {
-        return Err(FlatError::NotBuilt);
-    }
+    let (a, b) = built_where(equal_types(&a.ty, &b.ty), (a, b))?;
     let t = on_two(alloc, Op::Eq, Ty::Bool, a, b)?;
     Ok(t)
 }
@@ -457,9 +452,8 @@ pub(crate) fn choice(
 ) -> Result<TypedExpression, FlatError>
     ensures { IsAnswer (choice condition a b) result }
 {
-    if !may_choose(&condition.ty, &a.ty, &b.ty) {
-        return Err(FlatError::NotBuilt);
-    }
+    let may_choose = may_choose(&condition.ty, &a.ty, &b.ty);
+    let (condition, (a, b)) = built_where(may_choose, (condition, (a, b)))?;
     let t = chosen(alloc, condition, a, b)?;
     Ok(t)
 }
@@ -480,7 +474,7 @@ fn chosen(
 ) -> Result<TypedExpression, AllocError>
     ensures { IfOk result (λ t. t ≡ operation Ite a.ty (condition ∷ a ∷ b ∷ [])) }
 {
-    let ty = copy_ty(alloc, &a.ty)?;
+    let (ty, (condition, (a, b))) = beside(copy_ty(alloc, &a.ty), (condition, (a, b)))?;
     let parts = three(alloc, condition, a, b)?;
     operation(alloc, Op::Ite, ty, parts)
 }
@@ -514,7 +508,7 @@ pub(crate) fn field_selected(
 ) -> Result<TypedExpression, FlatError>
     ensures { IsAnswer (field_selected a name) result }
 {
-    let (place, ty) = named_field(alloc, &a.ty, name)?;
+    let ((place, ty), a) = beside(named_field(alloc, &a.ty, name), a)?;
     let t = on_one(alloc, Op::GetField(place), ty, a)?;
     Ok(t)
 }
@@ -558,12 +552,26 @@ pub(crate) fn range_selected(
 ) -> Result<TypedExpression, FlatError>
     ensures { IsAnswer (range_selected a high low) result }
 {
-    if !is_range(high, low, &a.ty) {
-        return Err(FlatError::NotBuilt);
-    }
+    let a = built_where(is_range(high, low, &a.ty), a)?;
     let (high, low) = (high as u8, low as u8);
     let t = on_one(alloc, Op::Extract(high, low), Ty::Bv(high - low + 1), a)?;
     Ok(t)
+}
+
+/// The operation that puts more bits in front of bits, and its type, where 64 bits hold them.
+fn extended(signed: bool, more: Option<u8>, ty: &Ty) -> Option<(Op, Ty)>
+    ensures { (a : TypedExpression) → a.ty ≡ ty.now → extension signed more a ≡ option_map (λ r. operation r.0 r.1 (a ∷ [])) result }
+{
+    let (Some(more), Ty::Bv(width)) = (more, ty) else {
+        return None;
+    };
+    let ty = concat_type(*width, more)?;
+    let op = if signed {
+        Op::SignExt(more)
+    } else {
+        Op::ZeroExt(more)
+    };
+    Some((op, ty))
 }
 
 /// Bits with more bits in front, whose number is a literal.
@@ -575,17 +583,7 @@ fn extension(
 ) -> Result<TypedExpression, FlatError>
     ensures { IsAnswer (extension signed more a) result }
 {
-    let (Some(more), Ty::Bv(width)) = (more, &a.ty) else {
-        return Err(FlatError::NotBuilt);
-    };
-    let Some(ty) = concat_type(*width, more) else {
-        return Err(FlatError::NotBuilt);
-    };
-    let op = if signed {
-        Op::SignExt(more)
-    } else {
-        Op::ZeroExt(more)
-    };
+    let ((op, ty), a) = with(extended(signed, more, &a.ty), a)?;
     let t = on_one(alloc, op, ty, a)?;
     Ok(t)
 }
@@ -599,24 +597,26 @@ fn shift(
 ) -> Result<TypedExpression, FlatError>
     ensures { IsAnswer (shift op amount a) result }
 {
-    if !are_same_bits(&amount.ty, &a.ty) {
-        return Err(FlatError::NotBuilt);
-    }
-    let t = of_first_type(alloc, op, a, amount)?;
+    let (ty, (op, (a, amount))) = with(same_bits(&amount.ty, &a.ty), (op, (a, amount)))?;
+    let t = on_two(alloc, op, ty, a, amount)?;
     Ok(t)
 }
 
-/// An operation that gives the type of its first part.
-fn of_first_type(
-    alloc: Global,
-    op: Op,
-    a: TypedExpression,
-    b: TypedExpression,
-) -> Result<TypedExpression, AllocError>
-    ensures { IfOk result (λ t. t ≡ operation op a.ty (a ∷ b ∷ [])) }
+/// The type of bits that both are.
+fn same_bits(a: &Ty, b: &Ty) -> Option<Ty>
+    ensures { result ≡ (if are_same_bits a.now b.now then Some b.now else None) }
 {
-    let ty = copy_ty(alloc, &a.ty)?;
-    on_two(alloc, op, ty, a, b)
+    if !are_same_bits(a, b) {
+        return None;
+    }
+    bits_type(b)
+}
+
+/// The number that a literal is.
+fn literal(t: TypedExpression) -> Option<u8>
+    ensures { result ≡ t.number }
+{
+    t.number
 }
 
 /// A function on bits: its number or amount, and the bits.
@@ -629,8 +629,8 @@ pub(crate) fn on_bits(
     ensures { IsAnswer (on_bits function number a) result }
 {
     match function {
-        BitFunction::ZeroExtend => extension(alloc, false, number.number, a),
-        BitFunction::SignExtend => extension(alloc, true, number.number, a),
+        BitFunction::ZeroExtend => extension(alloc, false, literal(number), a),
+        BitFunction::SignExtend => extension(alloc, true, literal(number), a),
         BitFunction::ShiftLeft => shift(alloc, Op::Shl, number, a),
         BitFunction::ShiftRight => shift(alloc, Op::Lshr, number, a),
         BitFunction::ShiftRightSigned => shift(alloc, Op::Ashr, number, a),

@@ -2,6 +2,7 @@
 #![tactic(auto)]
 
 mod building;
+mod holding;
 mod typed;
 mod types;
 mod walking;

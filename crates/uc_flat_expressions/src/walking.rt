@@ -3,6 +3,7 @@
 ghost use Rattle.std.specs.Prelude.{◌≡◌, map, IfOk};
 ghost use Rattle.std.specs.Option.{option_and_then};
 ghost use Rattle.uc_flat_expressions.specs.Answers.{IsAnswer};
+ghost use Rattle.uc_flat_expressions.specs.Pairs.{two_in};
 ghost use Rattle.uc_flat_expressions.specs.Names.{named, of_cell, cell_in};
 ghost use Rattle.uc_flat_expressions.specs.Building.{chain, junction, implication, sum};
 ghost use Rattle.uc_flat_expressions.specs.Expressions.{flat_of, all_of, unary_form, arm_of, joined_arms, truth_literal, number_literal, bits_literal, on_two, plain_primary, select_of, select_all_of};
@@ -11,6 +12,7 @@ use crate::building::{
     Chain, choice, comparison, constant, field_selected, from_left, implication, junction, on_bits,
     range_selected, sum, unary_of,
 };
+use crate::holding::beside;
 use crate::typed::{FlatError, Meant, TypedArm, TypedExpression};
 use std::alloc::{AllocError, Global};
 use uc_flat::Expression;
@@ -35,7 +37,7 @@ pub fn flat_expression(
     match e {
         Expr::If(_, branches, otherwise) => {
             let rest = flat_expression(alloc, names, otherwise.get())?;
-            let arms = flat_arms(alloc, names, branches.as_slice())?;
+            let (arms, rest) = beside(flat_arms(alloc, names, branches.as_slice()), rest)?;
             joined_arms(alloc, arms, rest)
         }
         Expr::Iff(_, operands, _) => chained(alloc, names, Chain::Equal, operands.as_slice()),
@@ -44,7 +46,7 @@ pub fn flat_expression(
         Expr::And(_, operands, _) => joined_truths(alloc, names, Op::And, operands.as_slice()),
         Expr::Compare(_, how, _, a, b) => {
             let left = flat_expression(alloc, names, a.get())?;
-            let right = flat_expression(alloc, names, b.get())?;
+            let (right, left) = beside(flat_expression(alloc, names, b.get()), left)?;
             comparison(alloc, *how, left, right)
         }
         Expr::BitOr(_, operands, _) => chained(alloc, names, Chain::Or, operands.as_slice()),
@@ -118,7 +120,7 @@ fn joined_truths(
 ) -> Result<TypedExpression, FlatError>
     ensures { IsAnswer (option_and_then (junction op) (all_of (map (flat_of names.now) es.now))) result }
 {
-    let parts = flat_all(alloc, names, es)?;
+    let (parts, op) = beside(flat_all(alloc, names, es), op)?;
     junction(alloc, op, parts)
 }
 
@@ -160,7 +162,7 @@ fn flat_arms(
     let mut arms = Items::new(alloc);
     for branch in branches {
         let condition = flat_expression(alloc, names, &branch.condition)?;
-        let value = flat_expression(alloc, names, &branch.value)?;
+        let (value, condition) = beside(flat_expression(alloc, names, &branch.value), condition)?;
         arms.push(TypedArm { condition, value })?;
     }
     Ok(arms)
@@ -217,17 +219,25 @@ fn on_two(
 ) -> Result<TypedExpression, FlatError>
     ensures { IsAnswer (on_two function parts) result }
 {
-    let mut left = parts;
-    let Some(bits) = left.pop() else {
+    let (number, bits) = two_in(parts)?;
+    on_bits(alloc, function, number, bits)
+}
+
+/// The two values of a list that has two.
+fn two_in<T: Drop>(list: Items<T>) -> Result<(T, T), FlatError>
+    ensures { IsAnswer (two_in list) result }
+{
+    let mut left = list;
+    let Some(second) = left.pop() else {
         return Err(FlatError::NotBuilt);
     };
-    let Some(number) = left.pop() else {
+    let Some(first) = left.pop() else {
         return Err(FlatError::NotBuilt);
     };
     if !left.is_empty() {
         return Err(FlatError::NotBuilt);
     }
-    on_bits(alloc, function, number, bits)
+    Ok((first, second))
 }
 
 /// Selections from left to right.
