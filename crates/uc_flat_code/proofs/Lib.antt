@@ -2,3 +2,4 @@ pub mod Forms
 pub mod Sparing
 pub mod Replaced
 pub mod Assigning
+pub mod Arms

@@ -5,6 +5,7 @@ ghost use Rattle.uc_flat_expressions.specs.Answers.{IsAnswer};
 ghost use Rattle.uc_flat_expressions.specs.Expressions.{all_of};
 ghost use Rattle.uc_flat_code.specs.Code.{statement_of, code_of, each_arm, arm_of, joined_arms};
 
+use crate::holding::{beside, built_where};
 use crate::simple::{assign, assume, havoc, one};
 use crate::writing::{FlatArm, Writing};
 use std::alloc::{AllocError, Global};
@@ -96,15 +97,9 @@ fn flat_arms(
     let mut all = Items::new(alloc);
     for arm in arms {
         let test = flat_expression(alloc, names, &arm.condition)?;
-        if !is_boolean(&test.ty) {
-            return Err(FlatError::NotBuilt);
-        }
-        let block = arm.body.as_slice();
-        let mut body = Items::new(alloc);
-        for statement in block {
-            let more = flat_statement(alloc, names, writing, statement)?;
-            body.append(more)?;
-        }
+        let test = built_where(is_boolean(&test.ty), test)?;
+        let body = flat_code(alloc, names, writing, arm.body.as_slice());
+        let (body, test) = beside(body, test)?;
         all.push(FlatArm {
             condition: test.expression,
             body,

@@ -2,6 +2,7 @@
 #![tactic(auto)]
 
 mod code;
+mod holding;
 mod parts;
 mod reading;
 mod simple;

@@ -1,7 +1,8 @@
 //! Parts of cells behind fields.
 
-ghost use Rattle.std.specs.Prelude.{◌≡◌, ◌++◌, ◌∷◌, [], nat_eq, slice_set, if◌then◌else◌, Some, None, IfOk};
+ghost use Rattle.std.specs.Prelude.{◌≡◌, ◌++◌, ◌∷◌, [], nat_eq, slice_set, if◌then◌else◌, Some, None, ◌<◌, length, IfOk, IfSome};
 ghost use Rattle.std.specs.List.{list_any, position_from};
+ghost use Rattle.std.specs.Option.{option_and_then};
 ghost use Rattle.uc_ops.specs.Equality.{equal_types};
 ghost use Rattle.uc_ops.specs.Typing.{fields_of};
 ghost use Rattle.uc_flat.specs.declared.expression.Expression.TheVariants.{Cell as ReadCell};
@@ -9,10 +10,11 @@ ghost use Rattle.uc_flat_expressions.specs.Answers.{IsAnswer};
 ghost use Rattle.uc_flat_code.specs.Code.{field_in, fields_in, with_field, are_different, field_place, replaced_in};
 ghost use Rattle.uc_flat_code.specs.Walk.{behind, field_name};
 
+use crate::holding::{beside, built_where, with};
 use std::alloc::{AllocError, Global};
 use uc_flat::Expression;
 use uc_flat_expressions::{FlatError, TypedExpression};
-use uc_items::{Items, at};
+use uc_items::Items;
 use uc_ops::{Op, equal_types};
 use uc_syntax::TargetPart;
 use uc_values::{Field, Ty, copy_ty};
@@ -105,7 +107,7 @@ fn with_field(
 ) -> Result<Expression, FlatError>
     ensures { IsAnswer (Some (with_field (behind (ReadCell cell) places.now) ty.now place field)) result }
 {
-    let old = fields_in(alloc, cell, places, fields_of(ty))?;
+    let (old, field) = beside(fields_in(alloc, cell, places, fields_of(ty)), field)?;
     let fields = put(old, place, field);
     let ty = copy_ty(alloc, ty)?;
     Ok(Expression::Apply(Op::MkRec(ty), fields))
@@ -132,7 +134,8 @@ fn has_name(fields: &[Field<Ty>], name: u32) -> bool
 
 /// The place of the field of a name, where no two fields have one name.
 fn field_place(ty: &Ty, name: u32) -> Option<usize>
-    ensures { result ≡ field_place ty.now name }
+    ensures place { result ≡ field_place ty.now name }
+    ensures there { IfSome result (λ k. k < length (fields_of ty.now)) }
 {
     let fields = fields_of(ty);
     if !are_different(fields) {
@@ -142,7 +145,8 @@ fn field_place(ty: &Ty, name: u32) -> Option<usize>
 }
 
 fn first_place(fields: &[Field<Ty>], name: u32) -> Option<usize>
-    ensures { result ≡ position_from (λ d. nat_eq d.name name) 0 fields.now }
+    ensures place { result ≡ position_from (λ d. nat_eq d.name name) 0 fields.now }
+    ensures there { IfSome result (λ k. k < length fields.now) }
 {
     for (place, field) in fields.iter().enumerate() {
         if field.name == name {
@@ -162,8 +166,16 @@ fn field_name(part: &TargetPart) -> Option<u32>
     }
 }
 
+/// The place of the field that a part names.
+fn named_place(ty: &Ty, part: &TargetPart) -> Option<usize>
+    ensures place { result ≡ option_and_then (field_place ty.now) (field_name part.now) }
+    ensures there { IfSome result (λ k. k < length (fields_of ty.now)) }
+{
+    let name = field_name(part)?;
+    field_place(ty, name)
+}
+
 /// What a part of a cell is to be where the part of it that fields lead to takes a value of its type.
-#[tactic(auto, using(crate::proofs::Replaced::whole_answer, crate::proofs::Replaced::no_name, crate::proofs::Replaced::no_place, crate::proofs::Replaced::no_field, crate::proofs::Replaced::inner_err, crate::proofs::Replaced::outer_answer))]
 pub(crate) fn replaced_in(
     alloc: Global,
     cell: u32,
@@ -177,16 +189,9 @@ pub(crate) fn replaced_in(
     let Some((first, rest)) = parts.split_first() else {
         return whole_of(ty, t);
     };
-    let Some(name) = field_name(first) else {
-        return Err(FlatError::NotBuilt);
-    };
-    let Some(place) = field_place(ty, name) else {
-        return Err(FlatError::NotBuilt);
-    };
-    let Some(field) = at(fields_of(ty), place) else {
-        return Err(FlatError::NotBuilt);
-    };
-    let deeper = deeper(alloc, places.as_slice(), place)?;
+    let (place, t) = with(named_place(ty, first), t)?;
+    let field = &fields_of(ty)[place];
+    let (deeper, t) = beside(deeper(alloc, places.as_slice(), place), t)?;
     let inner = replaced_in(alloc, cell, deeper, &field.ty, rest, t)?;
     with_field(alloc, cell, places.as_slice(), ty, place, inner)
 }
@@ -195,9 +200,7 @@ pub(crate) fn replaced_in(
 fn whole_of(ty: &Ty, t: TypedExpression) -> Result<Expression, FlatError>
     ensures { IsAnswer (if equal_types ty.now t.ty then Some t.expression else None) result }
 {
-    if !equal_types(ty, &t.ty) {
-        return Err(FlatError::NotBuilt);
-    }
+    let t = built_where(equal_types(ty, &t.ty), t)?;
     Ok(t.expression)
 }
 

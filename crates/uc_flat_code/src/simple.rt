@@ -6,6 +6,7 @@ ghost use Rattle.uc_flat_expressions.specs.Answers.{IsAnswer};
 ghost use Rattle.uc_flat_expressions.specs.Expressions.{flat_of};
 ghost use Rattle.uc_flat_code.specs.Code.{may_write, may_havoc, written_as, written, havocked, assume_of, havoc_of, assigned, spares, assign_of};
 
+use crate::holding::{beside, built_where};
 use crate::parts::replaced_in;
 use crate::reading::spares;
 use crate::writing::{Writing, Written};
@@ -102,9 +103,7 @@ pub(crate) fn assume(
     ensures { IsAnswer (option_and_then assume_of (flat_of names.now e.now)) result }
 {
     let t = flat_expression(alloc, names, e)?;
-    if !is_boolean(&t.ty) {
-        return Err(FlatError::NotBuilt);
-    }
+    let t = built_where(is_boolean(&t.ty), t)?;
     let code = one(alloc, Statement::Assume(t.expression))?;
     Ok(code)
 }
@@ -150,10 +149,8 @@ fn one_assigned(
 ) -> Result<Items<Statement>, FlatError>
     ensures { IsAnswer (option_and_then (λ x. if spares before.now x.expression then assigned written parts.now x else None) (flat_of names.now source.now)) result }
 {
-    let t = flat_expression(alloc, names, source)?;
-    if !spares(before, &t.expression) {
-        return Err(FlatError::NotBuilt);
-    }
+    let (t, written) = beside(flat_expression(alloc, names, source), written)?;
+    let (t, written) = built_where(spares(before, &t.expression), (t, written))?;
     assigned(alloc, written, parts, t)
 }
 
