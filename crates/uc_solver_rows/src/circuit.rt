@@ -1,7 +1,8 @@
-ghost use Rattle.std.specs.Prelude.{◌≡◌, ◌∷◌, ◌++◌, ◌<◌, ◌^◌, [], None, Some, IfOk, length, replicate};
+ghost use Rattle.std.specs.Prelude.{◌≡◌, ◌∷◌, ◌++◌, ◌<◌, ◌^◌, [], None, Some, IfOk, All, length, replicate};
 ghost use Rattle.uc_circuit.specs.Gates.{OperandsBelow};
 
 use std::alloc::{AllocError, Global};
+use std::process::Abort;
 use std::test::Fail;
 use uc_circuit::{Circuit, Clause, ClauseState, Gate, Lit, propagation_fixes_gates, state_of};
 
@@ -51,20 +52,31 @@ fn clauses_text(alloc: Global, inputs: u32, gate: Gate) -> Result<String, AllocE
     Ok(text)
 }
 
+fn check_clauses(
+    rt: &impl Abort,
+    alloc: Global,
+    inputs: u32,
+    gate: Gate,
+    wanted: &str,
+) -> Result<(), AllocError>
+    requires { OperandsBelow inputs gate }
+{
+    let clauses = clauses_text(alloc, inputs, gate)?;
+    assert_eq!(rt; clauses.as_str(), wanted);
+    Ok(())
+}
+
 #[test]
 fn clauses_stand_in_their_order(rt: HostRuntime) -> Result<(), Fail> {
-    let both = clauses_text(rt.alloc(), 2, Gate::And(A, B))?;
-    assert_eq!(rt; both.as_str(), "-2 0 / -2 1 / 2 -0 -1 / ");
-    let differ = clauses_text(rt.alloc(), 2, Gate::Xor(A, B))?;
-    assert_eq!(rt; differ.as_str(), "-2 0 1 / -2 -0 -1 / 2 -0 1 / 2 0 -1 / ");
-    let choice = clauses_text(rt.alloc(), 3, Gate::Mux(A, B, C))?;
-    assert_eq!(rt; choice.as_str(), "-0 -1 3 / -0 1 -3 / 0 -2 3 / 0 2 -3 / ");
-    let never = clauses_text(rt.alloc(), 1, Gate::And(A, NOT_A))?;
-    assert_eq!(rt;
-        never.as_str(),
-        "-1 0 / -1 -0 / 1 -0 0 / ",
-        "with the clause 1 nothing is left"
-    );
+    let both = "-2 0 / -2 1 / 2 -0 -1 / ";
+    check_clauses(&rt, rt.alloc(), 2, Gate::And(A, B), both)?;
+    let differ = "-2 0 1 / -2 -0 -1 / 2 -0 1 / 2 0 -1 / ";
+    check_clauses(&rt, rt.alloc(), 2, Gate::Xor(A, B), differ)?;
+    let choice = "-0 -1 3 / -0 1 -3 / 0 -2 3 / 0 2 -3 / ";
+    check_clauses(&rt, rt.alloc(), 3, Gate::Mux(A, B, C), choice)?;
+    // With the clause 1 nothing is left.
+    let never = "-1 0 / -1 -0 / 1 -0 0 / ";
+    check_clauses(&rt, rt.alloc(), 1, Gate::And(A, NOT_A), never)?;
     Ok(())
 }
 
@@ -79,23 +91,35 @@ fn a_gate_has_the_value_of_its_function(rt: HostRuntime) -> Result<(), Fail> {
     Ok(())
 }
 
+/// The state of a clause where A and B are false and C has no value.
+fn check_state(rt: &impl Abort, clause: &[Lit], state: ClauseState)
+    requires { All (λ l. l.var < 3) clause.now }
+{
+    let values = [Some(false), Some(false), None];
+    assert_eq!(rt; state_of(clause, &values), state);
+}
+
 #[test]
 fn a_clause_is_false_or_unit_or_settled(rt: HostRuntime) -> Result<(), Fail> {
-    let values = [Some(false), Some(false), None];
-    assert_eq!(rt; state_of(&[A, B], &values), ClauseState::Falsified);
-    assert_eq!(rt; state_of(&[A, C, B], &values), ClauseState::Unit(C));
-    assert_eq!(rt; state_of(&[NOT_A, C], &values), ClauseState::Settled);
-    assert_eq!(rt; state_of(&[C, C.negate()], &values), ClauseState::Settled);
+    check_state(&rt, &[A, B], ClauseState::Falsified);
+    check_state(&rt, &[A, C, B], ClauseState::Unit(C));
+    check_state(&rt, &[NOT_A, C], ClauseState::Settled);
+    check_state(&rt, &[C, C.negate()], ClauseState::Settled);
     propagation_fixes_gates();
     Ok(())
 }
 
-#[test]
-fn a_clause_outgrows_its_inline_literals(rt: HostRuntime) -> Result<(), Fail> {
-    let mut clause = Clause::new(rt.alloc());
+fn clause_of_five(alloc: Global) -> Result<Clause, AllocError> {
+    let mut clause = Clause::new(alloc);
     for literal in [A, B, C, NOT_A, A] {
         clause.push(literal)?;
     }
+    Ok(clause)
+}
+
+#[test]
+fn a_clause_outgrows_its_inline_literals(rt: HostRuntime) -> Result<(), Fail> {
+    let clause = clause_of_five(rt.alloc())?;
     assert_eq!(rt; clause.as_slice(), [A, B, C, NOT_A, A].as_slice());
     assert!(rt; clause == Clause::from_slice(rt.alloc(), clause.as_slice())?);
     Ok(())

@@ -221,27 +221,54 @@ fn operations_agree_with_arithmetic(rt: HostRuntime) -> Result<(), Fail> {
     Ok(())
 }
 
+const A: Signal = Signal::Of(Lit { var: 0, neg: false });
+
+const B: Signal = Signal::Of(Lit { var: 1, neg: true });
+
+fn check_signal(rt: &impl Abort, found: Signal, wanted: Signal) {
+    assert_eq!(rt; found, wanted);
+}
+
+/// A conjunction in both orders, and the disjunction that is its negation, are one gate.
+fn share_conjunctions(rt: &impl Abort, gates: &mut Gates) -> Result<(), AllocError>
+    requires { 2 ≤ size gates.old }
+    ensures { 2 ≤ size gates.new }
+{
+    let both = gates.and(A, B)?;
+    check_signal(rt, gates.and(B, A)?, both);
+    assert_eq!(rt; gates.len(), 3, "one gate for both");
+    let either = gates.or(A.turn(), B.turn())?;
+    check_signal(rt, either, both.turn());
+    Ok(())
+}
+
+/// Differences of a signal and of its negation are one gate, and so is a choice of opposites.
+fn share_differences(rt: &impl Abort, gates: &mut Gates) -> Result<(), AllocError>
+    requires { 2 ≤ size gates.old }
+    ensures { 2 ≤ size gates.new }
+{
+    let differ = gates.xor(A, B)?;
+    check_signal(rt, gates.xor(A.turn(), B)?, differ.turn());
+    let chosen = gates.choose(A, B, B.turn())?;
+    check_signal(rt, chosen, differ.turn());
+    Ok(())
+}
+
+fn share_all(rt: &impl Abort, gates: &mut Gates) -> Result<(), AllocError>
+    requires { 2 ≤ size gates.old }
+{
+    share_conjunctions(rt, gates)?;
+    share_differences(rt, gates)?;
+    check_signal(rt, gates.and(A, A.turn())?, Signal::Constant(false));
+    assert_eq!(rt; gates.len(), 4);
+    Ok(())
+}
+
 #[test]
 fn gates_are_shared(rt: HostRuntime) -> Result<(), Fail> {
     let alloc = rt.alloc();
     let mut gates = Gates::new(alloc, 2);
-    let a = Signal::Of(Lit { var: 0, neg: false });
-    let b = Signal::Of(Lit { var: 1, neg: true });
-    let both = gates.and(a, b)?;
-    assert_eq!(rt; gates.and(b, a)?, both);
-    assert_eq!(rt; gates.len(), 3, "one gate for both");
-    let either = gates.or(a.turn(), b.turn())?;
-    assert_eq!(rt; either, both.turn());
-    let differ = gates.xor(a, b)?;
-    assert_eq!(rt; gates.xor(a.turn(), b)?, differ.turn());
-    let chosen = gates.choose(a, b, b.turn())?;
-    assert_eq!(rt;
-        chosen,
-        differ.turn(),
-        "a choice of opposites is a difference"
-    );
-    assert_eq!(rt; gates.and(a, a.turn())?, Signal::Constant(false));
-    assert_eq!(rt; gates.len(), 4);
+    share_all(&rt, &mut gates)?;
     let circuit = gates.into_circuit(alloc)?;
     assert_eq!(rt; circuit.len(), 4);
     Ok(())

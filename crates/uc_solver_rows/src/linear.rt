@@ -1,6 +1,7 @@
 //! Worked examples.
 
 use std::alloc::{AllocError, Global};
+use std::process::Abort;
 use uc_linear::{
     Form, LinearError, Wide, WideOp, add, combine, difference, product, scale, sum, tighten,
 };
@@ -18,17 +19,61 @@ fn is(form: &Form, constant: i128, pairs: &[(u32, i128)]) -> bool {
     form.constant() == constant && form.pairs() == pairs
 }
 
+fn sum_is(
+    alloc: Global,
+    a: &Form,
+    b: &Form,
+    constant: i128,
+    pairs: &[(u32, i128)],
+) -> Result<bool, LinearError> {
+    Ok(is(&add(alloc, a, b)?, constant, pairs))
+}
+
+fn multiple_is(
+    alloc: Global,
+    a: &Form,
+    factor: i128,
+    constant: i128,
+    pairs: &[(u32, i128)],
+) -> Result<bool, LinearError> {
+    Ok(is(&scale(alloc, a, factor)?, constant, pairs))
+}
+
+/// Whether twice the first form and once the second give these.
+fn combination_is(
+    alloc: Global,
+    a: &Form,
+    b: &Form,
+    constant: i128,
+    pairs: &[(u32, i128)],
+) -> Result<bool, LinearError> {
+    Ok(is(&combine(alloc, 2, a, 1, b)?, constant, pairs))
+}
+
+fn copy_is(
+    alloc: Global,
+    a: &Form,
+    constant: i128,
+    pairs: &[(u32, i128)],
+) -> Result<bool, AllocError> {
+    Ok(is(&a.copy(alloc)?, constant, pairs))
+}
+
+fn check_forms(rt: &impl Abort, alloc: Global, a: &Form, b: &Form) -> Result<(), LinearError> {
+    assert!(rt; sum_is(alloc, a, b, 6, &[(3, 7), (4, 3)])?);
+    assert!(rt; multiple_is(alloc, a, -3, -3, &[(0, -6), (4, -9)])?);
+    assert!(rt; multiple_is(alloc, a, 0, 0, &[])?);
+    assert!(rt; combination_is(alloc, a, b, 7, &[(0, 2), (3, 7), (4, 6)])?);
+    assert!(rt; copy_is(alloc, a, 1, &[(0, 2), (4, 3)])?);
+    Ok(())
+}
+
 #[test]
 fn sums_multiples_and_combinations(rt: HostRuntime) -> Result<(), LinearError> {
     let alloc = rt.alloc();
     let a = form(alloc, 1, &[(0, 2), (4, 3)])?;
     let b = form(alloc, 5, &[(0, -2), (3, 7)])?;
-    assert!(rt; is(&add(alloc, &a, &b)?, 6, &[(3, 7), (4, 3)]));
-    assert!(rt; is(&scale(alloc, &a, -3)?, -3, &[(0, -6), (4, -9)]));
-    assert!(rt; is(&scale(alloc, &a, 0)?, 0, &[]));
-    assert!(rt; is(&combine(alloc, 2, &a, 1, &b)?, 7, &[(0, 2), (3, 7), (4, 6)]));
-    assert!(rt; is(&a.copy(alloc)?, 1, &[(0, 2), (4, 3)]));
-    Ok(())
+    check_forms(&rt, alloc, &a, &b)
 }
 
 #[test]
@@ -43,21 +88,25 @@ fn only_rising_pairs_make_a_form(rt: HostRuntime) -> Result<(), AllocError> {
     Ok(())
 }
 
+/// The constant and the pairs of a row.
+type Row = (i128, &'static [(u32, i128)]);
+
+/// Rows, and what they are tightened to.
+const TIGHTENED: [(Row, Row); 4] = [
+    ((-3, &[(0, 2), (1, -2)]), (-1, &[(0, 1), (1, -1)])),
+    ((7, &[(0, 6), (1, -9)]), (3, &[(0, 2), (1, -3)])),
+    ((7, &[]), (7, &[])),
+    ((i128::MIN, &[(0, i128::MIN)]), (-1, &[(0, -1)])),
+];
+
 #[test]
 fn rows_are_tightened(rt: HostRuntime) -> Result<(), AllocError> {
     let alloc = rt.alloc();
-    let mut row = form(alloc, -3, &[(0, 2), (1, -2)])?;
-    tighten(&mut row);
-    assert!(rt; is(&row, -1, &[(0, 1), (1, -1)]));
-    let mut row = form(alloc, 7, &[(0, 6), (1, -9)])?;
-    tighten(&mut row);
-    assert!(rt; is(&row, 3, &[(0, 2), (1, -3)]));
-    let mut row = form(alloc, 7, &[])?;
-    tighten(&mut row);
-    assert!(rt; is(&row, 7, &[]));
-    let mut row = form(alloc, i128::MIN, &[(0, i128::MIN)])?;
-    tighten(&mut row);
-    assert!(rt; is(&row, -1, &[(0, -1)]));
+    for ((constant, pairs), (tight, tight_pairs)) in TIGHTENED {
+        let mut row = form(alloc, constant, pairs)?;
+        tighten(&mut row);
+        assert!(rt; is(&row, tight, tight_pairs));
+    }
     Ok(())
 }
 

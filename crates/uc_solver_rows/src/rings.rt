@@ -1,6 +1,7 @@
 ghost use Rattle.std.specs.Prelude.{◌≡◌, [], ◌∷◌, IfOk};
 
 use std::alloc::{AllocError, Global};
+use std::process::Abort;
 use std::test::Fail;
 use uc_circuit::Lit;
 use uc_rings::Rings;
@@ -22,13 +23,23 @@ fn chain(alloc: Global) -> Result<Rings, AllocError>
     Ok(rings)
 }
 
+/// Slot 3 and then slot 0 stand in the list of A, and no slot in that of its negation.
+fn check_chain(rt: &impl Abort, rings: &Rings)
+    requires { rings.now.lists ≡ (3 ∷ 0 ∷ []) ∷ [] ∷ [] ∷ [] ∷ [] ∷ [] ∷ [] }
+{
+    check_slot(rt, rings.first(A), Some(3));
+    check_slot(rt, rings.after(3), Some(0));
+    check_slot(rt, rings.after(0), None);
+    check_slot(rt, rings.first(NOT_A), None);
+}
+
+fn check_slot(rt: &impl Abort, found: Option<u32>, wanted: Option<u32>) {
+    assert_eq!(rt; found, wanted);
+}
+
 #[test]
 fn the_slot_linked_last_comes_first(rt: HostRuntime) -> Result<(), Fail> {
-    let rings = chain(rt.alloc())?;
-    assert_eq!(rt; rings.first(A), Some(3));
-    assert_eq!(rt; rings.after(3), Some(0));
-    assert_eq!(rt; rings.after(0), None);
-    assert_eq!(rt; rings.first(NOT_A), None);
+    check_chain(&rt, &chain(rt.alloc())?);
     Ok(())
 }
 
@@ -36,8 +47,8 @@ fn the_slot_linked_last_comes_first(rt: HostRuntime) -> Result<(), Fail> {
 fn the_last_slot_is_taken_out_and_the_other_stands_alone(rt: HostRuntime) -> Result<(), Fail> {
     let mut rings = chain(rt.alloc())?;
     rings.unlink(0);
-    assert_eq!(rt; rings.first(A), Some(3));
-    assert_eq!(rt; rings.after(3), None);
+    check_slot(&rt, rings.first(A), Some(3));
+    check_slot(&rt, rings.after(3), None);
     Ok(())
 }
 
@@ -46,10 +57,10 @@ fn the_first_slot_is_taken_out_and_linked_to_another_literal(rt: HostRuntime) ->
     let mut rings = chain(rt.alloc())?;
     rings.unlink(3);
     rings.link_front(NOT_C, 3);
-    assert_eq!(rt; rings.first(A), Some(0));
-    assert_eq!(rt; rings.after(0), None);
-    assert_eq!(rt; rings.first(NOT_C), Some(3));
-    assert_eq!(rt; rings.after(3), None);
+    check_slot(&rt, rings.first(A), Some(0));
+    check_slot(&rt, rings.after(0), None);
+    check_slot(&rt, rings.first(NOT_C), Some(3));
+    check_slot(&rt, rings.after(3), None);
     Ok(())
 }
 
@@ -64,10 +75,6 @@ fn grown_chain(alloc: Global) -> Result<Rings, AllocError>
 
 #[test]
 fn growing_keeps_a_linked_list(rt: HostRuntime) -> Result<(), Fail> {
-    let rings = grown_chain(rt.alloc())?;
-    assert_eq!(rt; rings.first(A), Some(3));
-    assert_eq!(rt; rings.after(3), Some(0));
-    assert_eq!(rt; rings.after(0), None);
-    assert_eq!(rt; rings.first(NOT_A), None);
+    check_chain(&rt, &grown_chain(rt.alloc())?);
     Ok(())
 }

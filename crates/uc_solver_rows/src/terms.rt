@@ -9,8 +9,10 @@ ghost use Rattle.uc_ops.specs.Met.{Sound, AreWords};
 ghost use Rattle.uc_terms.specs.Built.{Keeps};
 
 use std::alloc::{AllocError, Global};
+use std::process::Abort;
 use std::test::Fail;
-use uc_items::{Boxed, Items};
+use uc_items::Items;
+use uc_linear::LinearError;
 use uc_ops::{Model, Op, TermId, apply};
 use uc_terms::{Terms, eval_all};
 use uc_values::{Ty, Value};
@@ -89,18 +91,41 @@ fn model_of(alloc: Global, symbols: Vec<Value>) -> Model {
     }
 }
 
+/// A symbol, one, and the sum of both.
+fn symbol_and_sum(terms: &mut Terms, alloc: Global) -> Result<(TermId, TermId, TermId), AllocError>
+    ensures symbol { IfOk result (λ r. r.0 < length terms.new) }
+    ensures sum { IfOk result (λ r. r.2 < length terms.new) }
+    ensures keeps { OnOk result (Keeps terms.old terms.new) }
+{
+    let symbol = bits_symbol(terms, alloc, 0, 4)?;
+    let one = bits_constant(terms, alloc, 4, 1)?;
+    let sum = bits_sum(terms, alloc, 4, symbol, one)?;
+    Ok((symbol, one, sum))
+}
+
+/// Whether the sum is 0 where the symbol is 15.
+fn sum_wraps(alloc: Global, terms: &Terms, symbol: TermId, sum: TermId) -> Result<bool, LinearError>
+    requires symbol { symbol < length terms.now }
+    requires sum { sum < length terms.now }
+{
+    let model = model_of(alloc, vec![in alloc; Value::Bv(4, 15)]?);
+    let values = eval_all(alloc, terms, &[sum, symbol], &model)?;
+    Ok(values.as_slice() == [Value::Bv(4, 0), Value::Bv(4, 15)].as_slice())
+}
+
+fn check_sum(rt: &impl Abort, alloc: Global, terms: &mut Terms) -> Result<(), LinearError> {
+    let (symbol, one, sum) = symbol_and_sum(terms, alloc)?;
+    let again = bits_constant(terms, alloc, 4, 1)?;
+    assert_eq!(rt; (one.number(), again.number()), (1, 1));
+    assert_eq!(rt; terms.len(), 3);
+    assert!(rt; sum_wraps(alloc, terms, symbol, sum)?);
+    Ok(())
+}
+
 #[test]
 fn a_sum_of_bits_wraps_and_equal_terms_are_shared(rt: HostRuntime) -> Result<(), Fail> {
     let alloc = rt.alloc();
     let mut terms = Terms::new(alloc)?;
-    let symbol = bits_symbol(&mut terms, alloc, 0, 4)?;
-    let one = bits_constant(&mut terms, alloc, 4, 1)?;
-    let sum = bits_sum(&mut terms, alloc, 4, symbol, one)?;
-    let again = bits_constant(&mut terms, alloc, 4, 1)?;
-    assert_eq!(rt; (one.number(), again.number()), (1, 1));
-    assert_eq!(rt; terms.len(), 3);
-    let model = model_of(alloc, vec![in alloc; Value::Bv(4, 15)]?);
-    let values = eval_all(alloc, &terms, &[sum, symbol], &model)?;
-    assert!(rt; values.as_slice() == [Value::Bv(4, 0), Value::Bv(4, 15)].as_slice());
+    check_sum(&rt, alloc, &mut terms)?;
     Ok(())
 }
