@@ -1,10 +1,10 @@
 //! The operations on bit-vectors, by their shape.
 
-ghost use Rattle.std.specs.Prelude.{◌≡◌, ◌≤◌, ℕ, [], ◌∷◌};
+ghost use Rattle.std.specs.Prelude.{◌≡◌, ◌≤◌, ℕ, [], ◌∷◌, IfSome};
 ghost use Rattle.uc_values.specs.declared.ty.Ty.TheVariants.{Bv};
 ghost use Rattle.uc_ops.specs.Typing.{Suits};
 
-use crate::building::{model_of, of_one, of_two};
+use crate::building::{model_of_one, model_of_two, of_one, of_two};
 use std::alloc::Global;
 use uc_linear::LinearError;
 use uc_terms::Op;
@@ -74,12 +74,24 @@ pub(crate) fn on_pair(
     if width == 0 || width > MOST {
         return Ok(None);
     }
-    let model = model_of(
-        alloc,
-        vec![in alloc; Value::Bv(width, a), Value::Bv(width, b)]?,
-    );
+    let model = model_of_two(alloc, Value::Bv(width, a), Value::Bv(width, b))?;
     let value = of_two(alloc, pair_op(pair), Ty::Bv(width), Ty::Bv(width), &model)?;
     Ok(Some(value))
+}
+
+/// The operation, where the width suits it.
+fn single_op(single: Single, width: u8) -> Option<Op>
+    requires { width ≤ 64 }
+    ensures { IfSome result (λ op. Suits op (Bv width ∷ [])) }
+{
+    match single {
+        Single::Neg => Some(Op::BvNeg),
+        Single::Not => Some(Op::BvNot),
+        Single::Extract(high, low) if low <= high && high < width => Some(Op::Extract(high, low)),
+        Single::ZeroExt(more) if more <= MOST - width => Some(Op::ZeroExt(more)),
+        Single::SignExt(more) if more <= MOST - width => Some(Op::SignExt(more)),
+        _ => None,
+    }
 }
 
 /// The value of an operation on one bit-vector, where the width suits it.
@@ -92,29 +104,11 @@ pub(crate) fn on_single(
     if width == 0 || width > MOST {
         return Ok(None);
     }
-    let model = model_of(alloc, vec![in alloc; Value::Bv(width, a)]?);
-    let value = match single {
-        Single::Neg => of_one(alloc, Op::BvNeg, Ty::Bv(width), &model)?,
-        Single::Not => of_one(alloc, Op::BvNot, Ty::Bv(width), &model)?,
-        Single::Extract(high, low) => {
-            if low > high || high >= width {
-                return Ok(None);
-            }
-            of_one(alloc, Op::Extract(high, low), Ty::Bv(width), &model)?
-        }
-        Single::ZeroExt(more) => {
-            if more > MOST - width {
-                return Ok(None);
-            }
-            of_one(alloc, Op::ZeroExt(more), Ty::Bv(width), &model)?
-        }
-        Single::SignExt(more) => {
-            if more > MOST - width {
-                return Ok(None);
-            }
-            of_one(alloc, Op::SignExt(more), Ty::Bv(width), &model)?
-        }
+    let Some(op) = single_op(single, width) else {
+        return Ok(None);
     };
+    let model = model_of_one(alloc, Value::Bv(width, a))?;
+    let value = of_one(alloc, op, Ty::Bv(width), &model)?;
     Ok(Some(value))
 }
 
@@ -129,10 +123,7 @@ pub(crate) fn on_concat(
     if width == 0 || width > MOST || more == 0 || more > MOST - width {
         return Ok(None);
     }
-    let model = model_of(
-        alloc,
-        vec![in alloc; Value::Bv(width, bits), Value::Bv(more, rest)]?,
-    );
+    let model = model_of_two(alloc, Value::Bv(width, bits), Value::Bv(more, rest))?;
     let value = of_two(alloc, Op::Concat, Ty::Bv(width), Ty::Bv(more), &model)?;
     Ok(Some(value))
 }

@@ -10,6 +10,24 @@ use uc_linear::LinearError;
 use uc_terms::{Model, Op, TermId, Terms, eval};
 use uc_values::{Ty, Value};
 
+/// A model of one symbol.
+pub(crate) fn model_of_one(alloc: Global, a: Value) -> Result<Model, AllocError> {
+    Ok(model_of(alloc, vec![in alloc; a]?))
+}
+
+pub(crate) fn model_of_two(alloc: Global, a: Value, b: Value) -> Result<Model, AllocError> {
+    Ok(model_of(alloc, vec![in alloc; a, b]?))
+}
+
+pub(crate) fn model_of_three(
+    alloc: Global,
+    a: Value,
+    b: Value,
+    c: Value,
+) -> Result<Model, AllocError> {
+    Ok(model_of(alloc, vec![in alloc; a, b, c]?))
+}
+
 /// A model of these symbols, without functions.
 pub(crate) fn model_of(alloc: Global, symbols: Vec<Value>) -> Model {
     Model {

@@ -74,11 +74,23 @@ fn records() -> [(bool, i128); 3] {
     [(true, 1), (false, -2), (true, 300)]
 }
 
+fn is_truth(value: Value, truth: bool) -> bool {
+    value == Value::Bool(truth)
+}
+
+fn is_number(value: Value, number: i128) -> bool {
+    value == Value::Int(number)
+}
+
+/// Whether an array holds the element at the index.
+fn holds(array: Value, index: i128, element: i128) -> bool {
+    *lookup(&array, &Value::Int(index)) == Value::Int(element)
+}
+
 /// Whether all rows are as they should be.
 fn junctions_hold(alloc: Global) -> Result<bool, LinearError> {
     for (a, b, c, all, one) in junctions() {
-        let found = (all_of(alloc, a, b, c)?, one_of(alloc, a, b, c)?);
-        if found != (Value::Bool(all), Value::Bool(one)) {
+        if !is_truth(all_of(alloc, a, b, c)?, all) || !is_truth(one_of(alloc, a, b, c)?, one) {
             return Ok(false);
         }
     }
@@ -87,7 +99,7 @@ fn junctions_hold(alloc: Global) -> Result<bool, LinearError> {
 
 fn choices_hold(alloc: Global) -> Result<bool, LinearError> {
     for (test, a, b, chosen) in choices() {
-        if choice(alloc, test, a, b)? != Value::Int(chosen) {
+        if !is_number(choice(alloc, test, a, b)?, chosen) {
             return Ok(false);
         }
     }
@@ -96,8 +108,10 @@ fn choices_hold(alloc: Global) -> Result<bool, LinearError> {
 
 fn comparisons_hold(alloc: Global) -> Result<bool, LinearError> {
     for (a, b, equal, at_most) in comparisons() {
-        let found = (are_equal(alloc, a, b)?, is_at_most(alloc, a, b)?);
-        if found != (Value::Bool(equal), Value::Bool(at_most)) {
+        if !is_truth(are_equal(alloc, a, b)?, equal) {
+            return Ok(false);
+        }
+        if !is_truth(is_at_most(alloc, a, b)?, at_most) {
             return Ok(false);
         }
     }
@@ -106,7 +120,7 @@ fn comparisons_hold(alloc: Global) -> Result<bool, LinearError> {
 
 fn sums_hold(alloc: Global) -> Result<bool, LinearError> {
     for (a, b, c, total) in sums() {
-        if sum(alloc, a, b, c)? != Value::Int(total) {
+        if !is_number(sum(alloc, a, b, c)?, total) {
             return Ok(false);
         }
     }
@@ -115,7 +129,7 @@ fn sums_hold(alloc: Global) -> Result<bool, LinearError> {
 
 fn multiples_hold(alloc: Global) -> Result<bool, LinearError> {
     for (factor, a, product) in multiples() {
-        if multiple(alloc, factor, a)? != Value::Int(product) {
+        if !is_number(multiple(alloc, factor, a)?, product) {
             return Ok(false);
         }
     }
@@ -124,7 +138,7 @@ fn multiples_hold(alloc: Global) -> Result<bool, LinearError> {
 
 fn applications_hold(alloc: Global) -> Result<bool, LinearError> {
     for (row, argument, result) in applications() {
-        if applied(alloc, row, argument)? != Value::Int(result) {
+        if !is_number(applied(alloc, row, argument)?, result) {
             return Ok(false);
         }
     }
@@ -133,7 +147,7 @@ fn applications_hold(alloc: Global) -> Result<bool, LinearError> {
 
 fn selections_hold(alloc: Global) -> Result<bool, LinearError> {
     for (index, element) in selections() {
-        if selected(alloc, &two(), index)? != Value::Int(element) {
+        if !is_number(selected(alloc, &two(), index)?, element) {
             return Ok(false);
         }
     }
@@ -142,8 +156,7 @@ fn selections_hold(alloc: Global) -> Result<bool, LinearError> {
 
 fn stores_hold(alloc: Global) -> Result<bool, LinearError> {
     for (index, element, read, found) in stores() {
-        let changed = stored(alloc, &two(), index, element)?;
-        if *lookup(&changed, &Value::Int(read)) != Value::Int(found) {
+        if !holds(stored(alloc, &two(), index, element)?, read, found) {
             return Ok(false);
         }
     }
@@ -152,23 +165,30 @@ fn stores_hold(alloc: Global) -> Result<bool, LinearError> {
 
 fn records_hold(alloc: Global) -> Result<bool, LinearError> {
     for (truth, number) in records() {
-        if made_record(alloc, truth, number)? != record(alloc, truth, number)? {
+        if !is_made(alloc, truth, number)? {
             return Ok(false);
         }
-        let first = taken_field(alloc, truth, number, false)?;
-        let second = taken_field(alloc, truth, number, true)?;
-        if (first, second) != (Value::Bool(truth), Value::Int(number)) {
+        if !is_truth(taken_field(alloc, truth, number, false)?, truth) {
+            return Ok(false);
+        }
+        if !is_number(taken_field(alloc, truth, number, true)?, number) {
             return Ok(false);
         }
     }
     Ok(true)
 }
 
+/// Whether a record is made of its parts.
+fn is_made(alloc: Global, truth: bool, number: i128) -> Result<bool, LinearError> {
+    let made = made_record(alloc, truth, number)?;
+    Ok(made == record(alloc, truth, number)?)
+}
+
 #[test]
 fn truth_values_and_integers_are_as_in_arithmetic(rt: HostRuntime) -> Result<(), Fail> {
     let alloc = rt.alloc();
-    assert!(rt; on_truth(alloc, true)? == Value::Bool(false));
-    assert!(rt; on_truth(alloc, false)? == Value::Bool(true));
+    assert!(rt; is_truth(on_truth(alloc, true)?, false));
+    assert!(rt; is_truth(on_truth(alloc, false)?, true));
     assert!(rt; junctions_hold(alloc)?);
     assert!(rt; choices_hold(alloc)?);
     assert!(rt; comparisons_hold(alloc)?);
@@ -180,12 +200,12 @@ fn truth_values_and_integers_are_as_in_arithmetic(rt: HostRuntime) -> Result<(),
 #[test]
 fn symbols_and_functions_are_as_the_model_says(rt: HostRuntime) -> Result<(), Fail> {
     let alloc = rt.alloc();
-    assert!(rt; constant(alloc, -7)? == Value::Int(-7));
-    assert!(rt; constant(alloc, 0)? == Value::Int(0));
-    assert!(rt; constant(alloc, i128::MAX)? == Value::Int(i128::MAX));
-    assert!(rt; told(alloc, Value::Int(-7))? == Value::Int(-7));
-    assert!(rt; told(alloc, Value::Int(12))? == Value::Int(12));
-    assert!(rt; told(alloc, Value::Bool(true))? == Value::Int(0));
+    assert!(rt; is_number(constant(alloc, -7)?, -7));
+    assert!(rt; is_number(constant(alloc, 0)?, 0));
+    assert!(rt; is_number(constant(alloc, i128::MAX)?, i128::MAX));
+    assert!(rt; is_number(told(alloc, Value::Int(-7))?, -7));
+    assert!(rt; is_number(told(alloc, Value::Int(12))?, 12));
+    assert!(rt; is_number(told(alloc, Value::Bool(true))?, 0));
     assert!(rt; applications_hold(alloc)?);
     Ok(())
 }
@@ -195,9 +215,9 @@ fn arrays_and_records_are_as_in_their_theories(rt: HostRuntime) -> Result<(), Fa
     let alloc = rt.alloc();
     assert!(rt; selections_hold(alloc)?);
     assert!(rt; stores_hold(alloc)?);
-    assert!(rt; difference(alloc, &[(3, 5)], &[])? == Value::Int(3));
-    assert!(rt; difference(alloc, &[], &[(7, 1)])? == Value::Int(7));
-    assert!(rt; difference(alloc, &two(), &[(3, 5)])? == Value::Int(4));
+    assert!(rt; is_number(difference(alloc, &[(3, 5)], &[])?, 3));
+    assert!(rt; is_number(difference(alloc, &[], &[(7, 1)])?, 7));
+    assert!(rt; is_number(difference(alloc, &two(), &[(3, 5)])?, 4));
     assert!(rt; records_hold(alloc)?);
     Ok(())
 }

@@ -3,7 +3,9 @@
 ghost use Rattle.std.specs.Prelude.{◌≡◌, IfOk};
 ghost use Rattle.uc_terms_table.specs.Types.{array_of_integers, record_of_two};
 
-use crate::building::{model_of, of_none, of_one, of_three, of_two};
+use crate::building::{
+    model_of, model_of_one, model_of_three, model_of_two, of_none, of_one, of_three, of_two,
+};
 use std::alloc::{AllocError, Global};
 use uc_items::{Boxed, Items};
 use uc_linear::LinearError;
@@ -11,56 +13,44 @@ use uc_terms::{Model, Op};
 use uc_values::{Field, Row, Table, Ty, Value};
 
 pub(crate) fn on_truth(alloc: Global, a: bool) -> Result<Value, LinearError> {
-    let model = model_of(alloc, vec![in alloc; Value::Bool(a)]?);
+    let model = model_of_one(alloc, Value::Bool(a))?;
     of_one(alloc, Op::Not, Ty::Bool, &model)
 }
 
 /// Whether all of the three hold.
 pub(crate) fn all_of(alloc: Global, a: bool, b: bool, c: bool) -> Result<Value, LinearError> {
-    let model = model_of(
-        alloc,
-        vec![in alloc; Value::Bool(a), Value::Bool(b), Value::Bool(c)]?,
-    );
+    let model = model_of_three(alloc, Value::Bool(a), Value::Bool(b), Value::Bool(c))?;
     of_three(alloc, Op::And, Ty::Bool, Ty::Bool, Ty::Bool, &model)
 }
 
 /// Whether one of the three holds.
 pub(crate) fn one_of(alloc: Global, a: bool, b: bool, c: bool) -> Result<Value, LinearError> {
-    let model = model_of(
-        alloc,
-        vec![in alloc; Value::Bool(a), Value::Bool(b), Value::Bool(c)]?,
-    );
+    let model = model_of_three(alloc, Value::Bool(a), Value::Bool(b), Value::Bool(c))?;
     of_three(alloc, Op::Or, Ty::Bool, Ty::Bool, Ty::Bool, &model)
 }
 
 pub(crate) fn choice(alloc: Global, test: bool, a: i128, b: i128) -> Result<Value, LinearError> {
-    let model = model_of(
-        alloc,
-        vec![in alloc; Value::Bool(test), Value::Int(a), Value::Int(b)]?,
-    );
+    let model = model_of_three(alloc, Value::Bool(test), Value::Int(a), Value::Int(b))?;
     of_three(alloc, Op::Ite, Ty::Bool, Ty::Int, Ty::Int, &model)
 }
 
 pub(crate) fn are_equal(alloc: Global, a: i128, b: i128) -> Result<Value, LinearError> {
-    let model = model_of(alloc, vec![in alloc; Value::Int(a), Value::Int(b)]?);
+    let model = model_of_two(alloc, Value::Int(a), Value::Int(b))?;
     of_two(alloc, Op::Eq, Ty::Int, Ty::Int, &model)
 }
 
 pub(crate) fn is_at_most(alloc: Global, a: i128, b: i128) -> Result<Value, LinearError> {
-    let model = model_of(alloc, vec![in alloc; Value::Int(a), Value::Int(b)]?);
+    let model = model_of_two(alloc, Value::Int(a), Value::Int(b))?;
     of_two(alloc, Op::Le, Ty::Int, Ty::Int, &model)
 }
 
 pub(crate) fn sum(alloc: Global, a: i128, b: i128, c: i128) -> Result<Value, LinearError> {
-    let model = model_of(
-        alloc,
-        vec![in alloc; Value::Int(a), Value::Int(b), Value::Int(c)]?,
-    );
+    let model = model_of_three(alloc, Value::Int(a), Value::Int(b), Value::Int(c))?;
     of_three(alloc, Op::Add, Ty::Int, Ty::Int, Ty::Int, &model)
 }
 
 pub(crate) fn multiple(alloc: Global, factor: i128, a: i128) -> Result<Value, LinearError> {
-    let model = model_of(alloc, vec![in alloc; Value::Int(a)]?);
+    let model = model_of_one(alloc, Value::Int(a))?;
     of_one(alloc, Op::Scale(factor), Ty::Int, &model)
 }
 
@@ -71,7 +61,7 @@ pub(crate) fn constant(alloc: Global, number: i128) -> Result<Value, LinearError
 
 /// An integer symbol where the model has this value for it.
 pub(crate) fn told(alloc: Global, value: Value) -> Result<Value, LinearError> {
-    let model = model_of(alloc, vec![in alloc; value]?);
+    let model = model_of_one(alloc, value)?;
     of_none(alloc, Op::Symbol(0, Ty::Int), &model)
 }
 
@@ -97,12 +87,8 @@ pub(crate) fn applied(
     argument: i128,
 ) -> Result<Value, LinearError> {
     let (from, to) = row;
-    let mut tables = Items::new(alloc);
-    tables.push(function(alloc, from, to)?)?;
-    let model = Model {
-        symbols: Items::from_vec(vec![in alloc; Value::Int(argument)]?),
-        tables,
-    };
+    let mut model = model_of_one(alloc, Value::Int(argument))?;
+    model.tables.push(function(alloc, from, to)?)?;
     of_one(alloc, Op::App(0, Ty::Int), Ty::Int, &model)
 }
 
@@ -127,10 +113,8 @@ pub(crate) fn selected(
     exceptions: &[(i128, i128)],
     index: i128,
 ) -> Result<Value, LinearError> {
-    let model = model_of(
-        alloc,
-        vec![in alloc; array(alloc, exceptions)?, Value::Int(index)]?,
-    );
+    let array = array(alloc, exceptions)?;
+    let model = model_of_two(alloc, array, Value::Int(index))?;
     let ty = array_ty(alloc)?;
     of_two(alloc, Op::Select, ty, Ty::Int, &model)
 }
@@ -142,16 +126,20 @@ pub(crate) fn stored(
     index: i128,
     element: i128,
 ) -> Result<Value, LinearError> {
-    let model = model_of(
-        alloc,
-        vec![in alloc;
-            array(alloc, exceptions)?,
-            Value::Int(index),
-            Value::Int(element),
-        ]?,
-    );
+    let array = array(alloc, exceptions)?;
+    let model = model_of_three(alloc, array, Value::Int(index), Value::Int(element))?;
     let ty = array_ty(alloc)?;
     of_three(alloc, Op::Store, ty, Ty::Int, Ty::Int, &model)
+}
+
+fn model_of_arrays(
+    alloc: Global,
+    left: &[(i128, i128)],
+    right: &[(i128, i128)],
+) -> Result<Model, AllocError> {
+    let left = array(alloc, left)?;
+    let right = array(alloc, right)?;
+    model_of_two(alloc, left, right)
 }
 
 #[tactic(auto, using(crate::proofs::Suiting::array_is_valid, crate::proofs::Suiting::diff_suits))]
@@ -160,10 +148,7 @@ pub(crate) fn difference(
     left: &[(i128, i128)],
     right: &[(i128, i128)],
 ) -> Result<Value, LinearError> {
-    let model = model_of(
-        alloc,
-        vec![in alloc; array(alloc, left)?, array(alloc, right)?]?,
-    );
+    let model = model_of_arrays(alloc, left, right)?;
     let ty = array_ty(alloc)?;
     let other = array_ty(alloc)?;
     of_two(alloc, Op::Diff, ty, other, &model)
@@ -193,10 +178,7 @@ pub(crate) fn record(alloc: Global, truth: bool, number: i128) -> Result<Value, 
 
 #[tactic(auto, using(crate::proofs::Suiting::make_suits))]
 pub(crate) fn made_record(alloc: Global, truth: bool, number: i128) -> Result<Value, LinearError> {
-    let model = model_of(
-        alloc,
-        vec![in alloc; Value::Bool(truth), Value::Int(number)]?,
-    );
+    let model = model_of_two(alloc, Value::Bool(truth), Value::Int(number))?;
     let ty = record_ty(alloc)?;
     of_two(alloc, Op::MkRec(ty), Ty::Bool, Ty::Int, &model)
 }
@@ -208,7 +190,7 @@ pub(crate) fn taken_field(
     number: i128,
     second: bool,
 ) -> Result<Value, LinearError> {
-    let model = model_of(alloc, vec![in alloc; record(alloc, truth, number)?]?);
+    let model = model_of_one(alloc, record(alloc, truth, number)?)?;
     let ty = record_ty(alloc)?;
     of_one(alloc, Op::GetField(u32::from(second)), ty, &model)
 }
