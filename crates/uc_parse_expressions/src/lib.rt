@@ -4,6 +4,7 @@
 //! it gives what that form gives. `levels` is the count of nested forms that may still be opened.
 #![tactic(auto)]
 
+mod beside;
 mod chain;
 mod head;
 mod level;

@@ -3,7 +3,7 @@
 ghost use Rattle.std.specs.Prelude.{◌≡◌, ◌∷◌, [], List, Ok};
 ghost use Rattle.uc_counted.specs.Counted.{with_front, turned, turns};
 ghost use Rattle.uc_counted.specs.Gives.{Counts, Leaves};
-ghost use Rattle.uc_forms.specs.Form.{both, word, one_of};
+ghost use Rattle.uc_forms.specs.Form.{before, both, word, one_of};
 ghost use Rattle.uc_grammar.specs.Code.{code_of};
 ghost use Rattle.uc_grammar.specs.declared.word.Kind.TheVariants.{Plus};
 ghost use Rattle.uc_grammar.specs.Syntax as syntax;
@@ -18,6 +18,7 @@ ghost use Rattle.uc_parse_expressions.specs.Parts.{element_of};
 ghost use Rattle.uc_parse_expressions.specs.Signs.{minus, sum_codes};
 ghost use Rattle.uc_reader.specs.Reading.{state, form, nested};
 
+use crate::beside::beside;
 use crate::chain::Chain;
 use crate::head::Head;
 use crate::level::{Level, next_level};
@@ -54,6 +55,16 @@ pub fn expr(reader: &mut Reader<'_>, levels: u8) -> Result<Expr, Stop>
     ensures { Counts result (state reader.new) (form levels syntax.expr (state reader.old)) }
 {
     let (_, tree) = expression(reader, levels)?;
+    Ok(tree)
+}
+
+/// An expression, with a word of this kind behind it.
+#[cycle(expressions)]
+fn expr_before(reader: &mut Reader<'_>, levels: u8, kind: Kind) -> Result<Expr, Stop>
+    ensures { Counts result (state reader.new) (form levels (before syntax.expr kind) (state reader.old)) }
+{
+    let tree = expr(reader, levels)?;
+    let (tree, _) = beside(tree, reader.take(kind))?;
     Ok(tree)
 }
 
@@ -111,8 +122,7 @@ fn parens(reader: &mut Reader<'_>, levels: u8) -> Result<(Place, Expr), Stop>
         return Err(reader.no_level(Kind::LeftParen));
     }
     let opening = reader.take(Kind::LeftParen)?;
-    let inner = expr(reader, levels - 1)?;
-    reader.take(Kind::RightParen)?;
+    let inner = expr_before(reader, levels - 1, Kind::RightParen)?;
     Ok((opening.place, inner))
 }
 
@@ -226,10 +236,10 @@ fn element(reader: &mut Reader<'_>, levels: u8, place: Place) -> Result<Selectio
 {
     let index = expr(reader, levels)?;
     if reader.is_at(Kind::RightBracket) {
-        reader.take(Kind::RightBracket)?;
+        let (index, _) = beside(index, reader.take(Kind::RightBracket))?;
         return Ok(Selection::Element(place, index));
     }
-    let value = new_value(reader, levels)?;
+    let (index, value) = beside(index, new_value(reader, levels))?;
     Ok(Selection::Update(place, index, value))
 }
 
@@ -240,8 +250,7 @@ fn new_value(reader: &mut Reader<'_>, levels: u8) -> Result<Expr, Stop>
     ensures { Counts result (state reader.new) (form levels parts.new_value (state reader.old)) }
 {
     reader.take(Kind::Arrow)?;
-    let value = expr(reader, levels)?;
-    reader.take(Kind::RightBracket)?;
+    let value = expr_before(reader, levels, Kind::RightBracket)?;
     Ok(value)
 }
 
@@ -265,7 +274,7 @@ fn selected(reader: &mut Reader<'_>, levels: u8) -> Result<(Place, Expr), Stop>
     ensures { Counts result (state reader.new) (form levels parts.selected (state reader.old)) }
 {
     let (place, head) = primary(reader, levels)?;
-    let found = selections(reader, levels)?;
+    let (head, found) = beside(head, selections(reader, levels))?;
     match head {
         Head::Plain(primary) => Ok((place, Expr::Selected(place, primary, found))),
         Head::InParens(inner) => {
@@ -427,10 +436,10 @@ fn comparison(
     if !at_comparison(reader) {
         return Ok(first);
     }
-    let sign = take_comparison(reader)?;
-    let (_, right) = level(reader, levels, Level::Chain(Chain::BitOr))?;
     let (place, left) = first;
     let left = Boxed::new(reader.alloc, left)?;
+    let sign = take_comparison(reader)?;
+    let (_, right) = level(reader, levels, Level::Chain(Chain::BitOr))?;
     let right = Boxed::new(reader.alloc, right)?;
     let operator = comparison_of(sign.kind);
     Ok((
@@ -477,10 +486,8 @@ fn if_branch(reader: &mut Reader<'_>, levels: u8) -> Result<Branch<Expr>, Stop>
     ensures { Counts result (state reader.new) (form levels syntax.branch (state reader.old)) }
 {
     let opening = reader.take(Kind::KwIf)?;
-    let condition = expr(reader, levels)?;
-    reader.take(Kind::KwThen)?;
-    let value = expr(reader, levels)?;
-    reader.take(Kind::KwElse)?;
+    let condition = expr_before(reader, levels, Kind::KwThen)?;
+    let (condition, value) = beside(condition, expr_before(reader, levels, Kind::KwElse))?;
     Ok(Branch {
         place: opening.place,
         condition,

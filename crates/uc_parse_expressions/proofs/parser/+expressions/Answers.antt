@@ -52,9 +52,6 @@ parens-returns-in_err-opening t c = rw (one_deeper c.args.levels syntax.parens (
 pub parens-returns-in_err-inner : goal.parens-returns-in_err-inner
 parens-returns-in_err-inner t c = rw (one_deeper c.args.levels syntax.parens (state c.args.reader.now) (omega arith)) (search rules)
 
-pub parens-returns-in_err-take : goal.parens-returns-in_err-take
-parens-returns-in_err-take t c = rw (one_deeper c.args.levels syntax.parens (state c.args.reader.now) (omega arith)) (search rules)
-
 pub parens-returns : goal.parens-returns
 parens-returns t c = rw (one_deeper c.args.levels syntax.parens (state c.args.reader.now) (omega arith)) (search rules)
 

@@ -23,10 +23,10 @@ abbrev pub decreases-brackets : goal.decreases-brackets
 decreases-brackets l = 64 * l.levels + 0
 
 abbrev pub decreases-new_value : goal.decreases-new_value
-decreases-new_value l = 64 * l.levels + 56
+decreases-new_value l = 64 * l.levels + 57
 
 abbrev pub decreases-element : goal.decreases-element
-decreases-element l = 64 * l.levels + 57
+decreases-element l = 64 * l.levels + 58
 
 abbrev pub decreases-sign_operand : goal.decreases-sign_operand
 decreases-sign_operand l = 64 * l.levels + 0
@@ -79,6 +79,9 @@ decreases-expression l = 64 * l.levels + 54
 abbrev pub decreases-expr : goal.decreases-expr
 decreases-expr l = 64 * l.levels + 55
 
+abbrev pub decreases-expr_before : goal.decreases-expr_before
+decreases-expr_before l = 64 * l.levels + 56
+
 abbrev pub decreases-more_expressions : goal.decreases-more_expressions
 decreases-more_expressions l = 64 * l.levels + 56
 
@@ -86,10 +89,10 @@ abbrev pub decreases-expressions : goal.decreases-expressions
 decreases-expressions l = 64 * l.levels + 57
 
 abbrev pub decreases-if_branch : goal.decreases-if_branch
-decreases-if_branch l = 64 * l.levels + 56
+decreases-if_branch l = 64 * l.levels + 57
 
 abbrev pub decreases-more_branches : goal.decreases-more_branches
-decreases-more_branches l = 64 * l.levels + 57
+decreases-more_branches l = 64 * l.levels + 58
 
 -- ---- loops
 
