@@ -1,6 +1,6 @@
 -- What is found of a declaration or a command, by its form.
 use Rattle.std.proofs.Common.{◌≡◌, ℕ, Bool, List, Option, Some, None, refl, ap, ◌∙◌, sym}
-use Rattle.std.specs.Prelude.{not, ◌&&◌, nat_le}
+use Rattle.std.specs.Prelude.{Result, Ok, Err, OnOk, not, ◌&&◌, nat_le}
 use Rattle.std.specs.Option.{is_some, option_map}
 use Rattle.uc_lexer.specs.declared.place.Place.{Place}
 use Rattle.uc_syntax.specs.declared.place.Identifier.{Identifier}
@@ -45,3 +45,12 @@ hyper_of_parts s m place n e c d b old mid new b-is first c-is d-is found =
     noted_both old mid new (breaks_where (not (nat_le 2 n && nat_le n 8)) BadCopy place) (condition_faults (record (in_module s m) { copies = Some n }) e)
     (first ∙ ap (λ q. first_of old (breaks_where (not q) BadCopy place)) b-is)
     (found ∙ ap (λ (q : Context). first_of mid (condition_faults q e)) (d-is ∙ ap (λ (q : Context). record q { copies = Some n }) c-is))
+
+-- a scope outside all others is that of its module
+pub still_outside : (c : Context) (s : System) (m : Module) → c ≡ in_module s m → c ≡ in_module c.system c.home
+still_outside c s m is = is ∙ sym (ap (λ (q : Context). in_module q.system q.home) is)
+
+-- what a call says of its success, and what follows from it
+pub on_ok : {A E : Type 0} {P Q : Type 0} (r : Result A E) → (P → Q) → OnOk r P → OnOk r Q
+on_ok (Ok a) more held = more held
+on_ok (Err e) more held = held

@@ -33,10 +33,7 @@ pub(crate) fn judge_binding(
     let ty = judge(alloc, scope, &binding.expression, first)?;
     match number {
         None => Ok(()),
-        Some(number) => {
-            note_binding(alloc, scope, number, binding, ty, first)?;
-            Ok(())
-        }
+        Some(number) => note_binding(alloc, scope, number, binding, ty, first),
     }
 }
 
@@ -58,10 +55,7 @@ fn note_binding(
             note(first, Rule::UnknownName, place);
             Ok(())
         }
-        Some(value) => {
-            note_value(alloc, scope, number, binding, value, ty, first)?;
-            Ok(())
-        }
+        Some(value) => note_value(alloc, scope, number, binding, value, ty, first),
     }
 }
 

@@ -29,8 +29,8 @@ pub(crate) fn judge_control(
 ) -> Result<(), AllocError>
     ensures { OnOk result (first.new ≡ first_of first.old (control_faults home.now.system home.now.home commands.now)) }
 {
-    let scope = home.scope(alloc);
     note_repeated_commands(alloc, commands, first)?;
+    let scope = home.scope(alloc);
     note_commands(&scope, commands, first);
     Ok(())
 }

@@ -3,7 +3,7 @@
 ghost use Rattle.std.specs.Prelude.{◌≡◌, OnOk};
 ghost use Rattle.std.specs.List.{flat_map};
 ghost use Rattle.uc_meaning.specs.Lookup.{System};
-ghost use Rattle.uc_rules.specs.Declarations.{define_faults, function_faults};
+ghost use Rattle.uc_rules.specs.Declarations.{define_faults, function_faults, in_module};
 ghost use Rattle.uc_rules.specs.Faults.{first_of};
 ghost use Rattle.uc_rules.specs.Types.{scalar_faults, type_found, type_of};
 ghost use Rattle.uc_syntax.specs.declared.declaration.Module.{Module};
@@ -29,9 +29,23 @@ pub(crate) fn judge_function(
     ensures { OnOk result (first.new ≡ first_of first.old (function_faults home.now.system home.now.home parameters.now ty.now)) }
 {
     let mut scope = home.scope(alloc);
-    note_parameters(alloc, &mut scope, Role::Parameter, parameters, first)?;
+    judge_function_in(alloc, &mut scope, parameters, ty, first)
+}
+
+/// The same in a scope that is outside all others.
+fn judge_function_in(
+    alloc: Global,
+    scope: &mut Scope<'_, '_>,
+    parameters: &[Parameter<TypeExpr>],
+    ty: &TypeExpr,
+    first: &mut Option<Fault>,
+) -> Result<(), AllocError>
+    requires { scope.old ≡ in_module scope.old.system scope.old.home }
+    ensures { OnOk result (first.new ≡ first_of first.old (function_faults scope.old.system scope.old.home parameters.now ty.now)) }
+{
+    note_parameters(alloc, scope, Role::Parameter, parameters, first)?;
     let given = scope.note_type(alloc, ty, first)?;
-    note_scalars(alloc, &scope, parameters, first)?;
+    note_scalars(alloc, scope, parameters, first)?;
     note_scalar(first, place_of(ty), &given);
     Ok(())
 }
@@ -101,9 +115,25 @@ pub(crate) fn judge_define(
     ensures { OnOk result (first.new ≡ first_of first.old (define_faults home.now.system home.now.home place parameters.now ty.now body.now)) }
 {
     let mut scope = home.scope(alloc);
-    note_parameters(alloc, &mut scope, Role::Parameter, parameters, first)?;
+    judge_define_in(alloc, &mut scope, place, parameters, ty, body, first)
+}
+
+/// The same in a scope that is outside all others.
+fn judge_define_in(
+    alloc: Global,
+    scope: &mut Scope<'_, '_>,
+    place: Place,
+    parameters: &[Parameter<TypeExpr>],
+    ty: &TypeExpr,
+    body: &Expr,
+    first: &mut Option<Fault>,
+) -> Result<(), AllocError>
+    requires { scope.old ≡ in_module scope.old.system scope.old.home }
+    ensures { OnOk result (first.new ≡ first_of first.old (define_faults scope.old.system scope.old.home place parameters.now ty.now body.now)) }
+{
+    note_parameters(alloc, scope, Role::Parameter, parameters, first)?;
     let written = scope.note_type(alloc, ty, first)?;
-    let given = judge(alloc, &scope, body, first)?;
+    let given = judge(alloc, scope, body, first)?;
     settle(first, place, same_outcome(given, &written));
     Ok(())
 }

@@ -5,7 +5,7 @@ ghost use Rattle.std.specs.List.{flat_map, list_all};
 ghost use Rattle.std.specs.Option.{option_map};
 ghost use Rattle.uc_declaration_rules.specs.Judging.{KnowsBindings, are_known, judged_and_bound, missing_faults};
 ghost use Rattle.uc_name_table.specs.Senses.{module_in};
-ghost use Rattle.uc_rules.specs.Declarations.{inputs_in, instance_faults};
+ghost use Rattle.uc_rules.specs.Declarations.{in_module, inputs_in, instance_faults};
 ghost use Rattle.uc_rules.specs.Faults.{first_of};
 
 use crate::bindings::judge_binding;
@@ -29,9 +29,33 @@ pub(crate) fn judge_instance(
     ensures { OnOk result (first.new ≡ first_of first.old (instance_faults home.now.system home.now.home identifier module_name bindings.now)) }
 {
     let scope = home.scope(alloc);
+    judge_instance_in(
+        alloc,
+        home,
+        &scope,
+        identifier,
+        module_name,
+        bindings,
+        first,
+    )
+}
+
+/// The same in a scope of the module that is outside all others.
+fn judge_instance_in(
+    alloc: Global,
+    home: &Home<'_, '_>,
+    scope: &Scope<'_, '_>,
+    identifier: Identifier,
+    module_name: Identifier,
+    bindings: &[Binding],
+    first: &mut Option<Fault>,
+) -> Result<(), AllocError>
+    requires { scope.now ≡ in_module home.now.system home.now.home }
+    ensures { OnOk result (first.new ≡ first_of first.old (instance_faults home.now.system home.now.home identifier module_name bindings.now)) }
+{
     note_repeated_bindings(alloc, bindings, first)?;
     let number = scope.module_named(module_name.name);
-    judge_bindings(alloc, &scope, number, bindings, first)?;
+    judge_bindings(alloc, scope, number, bindings, first)?;
     note_missing(
         alloc,
         home,

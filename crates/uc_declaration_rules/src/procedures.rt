@@ -1,6 +1,6 @@
 //! Procedures.
 
-ghost use Rattle.std.specs.Prelude.{◌≡◌, ◌++◌, IfOk, OnOk};
+ghost use Rattle.std.specs.Prelude.{◌≡◌, ◌++◌, IfOk, OnOk, Option};
 ghost use Rattle.std.specs.List.{filter_map, flat_map};
 ghost use Rattle.uc_declaration_rules.specs.Procedures.{Asks, NotesKnown, asked_faults, known_faults};
 ghost use Rattle.uc_rules.specs.Names.{repeated_in_list};
@@ -8,6 +8,7 @@ ghost use Rattle.uc_rules.specs.Statements.{code_faults, modifies_in};
 ghost use Rattle.uc_statement_rules.specs.Judging.{name_written};
 ghost use Rattle.uc_rules.specs.Declarations.{procedure_faults};
 ghost use Rattle.uc_rules.specs.Faults.{first_of};
+ghost use Rattle.uc_rules.specs.declared.fault.Fault.{Fault as FaultMeant};
 
 use crate::home::Home;
 use crate::modifying::{listed_names, modified_names, note_modifies, note_repeated_names};
@@ -101,8 +102,21 @@ pub(crate) fn judge_procedure(
     ensures { OnOk result (first.new ≡ first_of first.old (procedure_faults home.now.system home.now.home procedure.now)) }
 {
     let asked = asked_scope(alloc, home, procedure, first)?;
+    judge_asked(alloc, home, &asked, procedure, first)
+}
+
+/// Notes the faults of a procedure's results, clauses and body, by the scope of its `requires`.
+fn judge_asked(
+    alloc: Global,
+    home: &Home<'_, '_>,
+    asked: &Scope<'_, '_>,
+    procedure: &Procedure,
+    first: &mut Option<Fault>,
+) -> Result<(), AllocError>
+    ensures { OnOk result ((before : Option FaultMeant) → Asks home.now procedure.now before first.old asked.now → first.new ≡ first_of before (procedure_faults home.now.system home.now.home procedure.now)) }
+{
     let known = known_scope(alloc, home, procedure, first)?;
-    judge_known(alloc, &asked, known, procedure, first)?;
+    judge_known(alloc, asked, known, procedure, first)?;
     Ok(())
 }
 
@@ -119,8 +133,7 @@ fn judge_known(
     let clauses = procedure.clauses.as_slice();
     let modified = judge_modifying(alloc, asked, &known, clauses, first)?;
     let body = procedure.body.as_slice();
-    judge_body(alloc, known.in_body(modified), body, first)?;
-    Ok(())
+    judge_body(alloc, known.in_body(modified), body, first)
 }
 
 /// Notes the faults of a procedure's clauses. What the procedure may modify is answered.
@@ -141,7 +154,8 @@ fn judge_modifying(
     Ok(modified)
 }
 
-fn judge_body(
+/// Notes the faults of a block that stands in a scope.
+pub(crate) fn judge_body(
     alloc: Global,
     scope: Scope<'_, '_>,
     body: &[Stmt],
@@ -150,6 +164,5 @@ fn judge_body(
     ensures { OnOk result (first.new ≡ first_of first.old (code_faults body.now scope.entry)) }
 {
     let mut scope = scope;
-    judge_block(alloc, &mut scope, body, first)?;
-    Ok(())
+    judge_block(alloc, &mut scope, body, first)
 }

@@ -1,8 +1,15 @@
-use Rattle.uc_declaration_rules.proofs.Joined.{define_of_parts}
+use Rattle.std.proofs.Common.{ap, ◌∙◌}
+use Rattle.uc_rules.specs.Declarations.{define_faults}
+use Rattle.uc_rules.specs.Expressions.{Context}
+use Rattle.uc_rules.specs.Faults.{first_of}
+use Rattle.uc_declaration_rules.proofs.Forms.{on_ok, still_outside}
 use Rattle.uc_declaration_rules.proofs.functions.judge_define.Goals as goal
+
+pub judge_define_in-requires : goal.judge_define_in-requires
+judge_define_in-requires c = still_outside c.scope-scope.result c.args.home.now.system c.args.home.now.home c.scope-scope.ensures
 
 pub returns : goal.returns
 returns c =
-    define_of_parts c.args.home.now c.scope-scope.result c.note_parameters.new.scope c.args.place c.args.parameters.now c.args.ty.now c.args.body.now c.in_ok-written.written c.in_ok-given.given c.same_outcome.result
-    c.args.first.now c.note_parameters.new.first c.note_type.new.first c.judge.new.first c.settle.new.first
-    c.scope-scope.ensures c.in_ok-note_parameters.ensures c.in_ok-written.ensures.ty c.in_ok-written.ensures.faults c.in_ok-given.ensures c.same_outcome.ensures c.settle.ensures.faults
+    on_ok c.judge_define_in.result
+    (λ noted. noted ∙ ap (λ (q : Context). first_of c.args.first.now (define_faults q.system q.home c.args.place c.args.parameters.now c.args.ty.now c.args.body.now)) c.scope-scope.ensures)
+    c.judge_define_in.ensures

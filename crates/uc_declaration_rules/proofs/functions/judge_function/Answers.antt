@@ -1,7 +1,15 @@
-use Rattle.uc_declaration_rules.proofs.Joined.{function_of_parts}
+use Rattle.std.proofs.Common.{ap, ◌∙◌}
+use Rattle.uc_rules.specs.Declarations.{function_faults}
+use Rattle.uc_rules.specs.Expressions.{Context}
+use Rattle.uc_rules.specs.Faults.{first_of}
+use Rattle.uc_declaration_rules.proofs.Forms.{on_ok, still_outside}
 use Rattle.uc_declaration_rules.proofs.functions.judge_function.Goals as goal
+
+pub judge_function_in-requires : goal.judge_function_in-requires
+judge_function_in-requires c = still_outside c.scope-scope.result c.args.home.now.system c.args.home.now.home c.scope-scope.ensures
 
 pub returns : goal.returns
 returns c =
-    function_of_parts c.args.home.now c.scope-scope.result c.note_parameters.new.scope c.args.parameters.now c.args.ty.now c.place_of.result c.in_ok-given.given c.args.first.now c.note_parameters.new.first c.note_type.new.first c.note_scalars.new.first c.note_scalar.new.first
-    c.scope-scope.ensures c.in_ok-note_parameters.ensures c.in_ok-given.ensures.ty c.in_ok-given.ensures.faults c.in_ok-note_scalars.ensures (c.place_of.ensures c.args.home.now.system c.args.home.now.home) c.note_scalar.ensures
+    on_ok c.judge_function_in.result
+    (λ noted. noted ∙ ap (λ (q : Context). first_of c.args.first.now (function_faults q.system q.home c.args.parameters.now c.args.ty.now)) c.scope-scope.ensures)
+    c.judge_function_in.ensures

@@ -1,17 +1,7 @@
-use Rattle.std.proofs.Common.{ap, sym, ◌∙◌}
-use Rattle.std.specs.Option.{option_map}
-use Rattle.uc_meaning.specs.Lookup.{module_named}
-use Rattle.uc_name_table.specs.Senses.{module_in}
-use Rattle.uc_rules.specs.Expressions.{Context}
-use Rattle.uc_rules.specs.Faults.{first_of}
-use Rattle.uc_declaration_rules.specs.Judging.{missing_faults}
-use Rattle.uc_declaration_rules.proofs.Bound.{instance_of_parts}
 use Rattle.uc_declaration_rules.proofs.instances.judge_instance.Goals as goal
 
+pub judge_instance_in-requires : goal.judge_instance_in-requires
+judge_instance_in-requires c = c.scope-scope.ensures
+
 pub returns : goal.returns
-returns c =
-    instance_of_parts c.args.home.now.system c.args.home.now.home c.args.identifier c.args.module_name c.args.bindings.now c.scope-scope.result (option_map (module_in c.scope-scope.result.system.modules) c.module_named-number.result)
-    c.args.first.now c.note_repeated_bindings.new.first c.judge_bindings.new.first c.note_missing.new.first
-    c.scope-scope.ensures (c.module_named-number.ensures ∙ ap (λ (q : Context). module_named q.system c.args.module_name.name) c.scope-scope.ensures) c.in_ok-note_repeated_bindings.ensures c.in_ok-judge_bindings.ensures
-    (c.in_ok-note_missing.ensures
-    ∙ ap (λ (q : Context). first_of c.judge_bindings.new.first (missing_faults c.args.identifier c.args.module_name c.args.bindings.now (option_map (module_in q.system.modules) c.module_named-number.result))) (sym c.scope-scope.ensures))
+returns c = c.judge_instance_in.ensures
