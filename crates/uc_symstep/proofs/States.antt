@@ -155,29 +155,38 @@ assert_ready old mid late types s e t negation h a b =
     let g = truth_grows old late s.taken (grows_on old mid late a.grown b.grown) h.taken in
     (g.there, g.typed, b.typed)
 
-pub assert_follows : (old mid late new : List Node) (types : List Ty) (s : Symbolic) (site : ℕ) (e : Expression) (t negation failed : ℕ) (sites : List Hit)
+pub failing_term : (old mid late new : List Node) (types : List Ty) (s : Symbolic) (e : Expression) (t negation failed : ℕ)
     → IsState old types s → IsTerm old mid t (type_of types e) (Meaning old types s.cells e)
     → IsTerm mid late negation Bool (λ m. Boolean (not (truth_of (value m mid t))))
     → IsTerm late new failed Bool (λ m. Boolean (truth_of (value m late s.taken) && truth_of (value m late negation)))
+    → IsTerm old new failed Bool (λ m. Boolean (holds m old s.taken && not (is_true m types (map (value m old) s.cells) e)))
+failing_term old mid late new types s e t negation failed h a b c =
+    let ol = grows_on old mid late a.grown b.grown in
+    record {
+      grown = grows_on old late new ol c.grown;
+      there = c.there;
+      typed = c.typed;
+      means = λ m.
+          c.means m
+          ∙ ap (λ v. Boolean (truth_of v && truth_of (value m late negation))) (grows_value old late ol m s.taken h.taken.there)
+          ∙ ap (λ v. Boolean (truth_of (value m old s.taken) && truth_of v)) (b.means m)
+          ∙ ap (λ v. Boolean (truth_of (value m old s.taken) && not (truth_of v))) (a.means m);
+    }
+
+pub assert_follows : (old new : List Node) (types : List Ty) (s : Symbolic) (site : ℕ) (e : Expression) (failed : ℕ) (sites : List Hit)
+    → IsState old types s → IsTerm old new failed Bool (λ m. Boolean (holds m old s.taken && not (is_true m types (map (value m old) s.cells) e)))
     → sites ≡ s.sites ++ (record { site = site; failed = failed }) ∷ []
     → Follows old new types (λ m. asserts m types site e) s (record { cells = s.cells; path = s.path; taken = s.taken; choices = s.choices; sites = sites; next = s.next })
-assert_follows old mid late new types s site e t negation failed sites h a b c i =
-    let ol = grows_on old mid late a.grown b.grown in
-    let all = grows_on old late new ol c.grown in
-    let g = state_grows old new types s all h in
+assert_follows old new types s site e failed sites h a i =
+    let g = state_grows old new types s a.grown h in
     let hit : Hit = record { site = site; failed = failed } in
     record {
-      grown = all;
-      state = record { cells = g.cells; path = g.path; taken = g.taken; choices = g.choices; sites = subst (All (IsHit new)) (sym i) (all_push (IsHit new) s.sites hit g.sites (record { failed = c.there })) };
+      grown = a.grown;
+      state = record { cells = g.cells; path = g.path; taken = g.taken; choices = g.choices; sites = subst (All (IsHit new)) (sym i) (all_push (IsHit new) s.sites hit g.sites (record { failed = a.there })) };
       same = λ m.
-          let r = stands_grows old new types s all h m in
-          let p =
-          ap truth_of (c.means m)
-          ∙ ap (λ v. truth_of v && truth_of (value m late negation)) (grows_value old late ol m s.taken h.taken.there)
-          ∙ ap (λ v. truth_of (value m old s.taken) && truth_of v) (b.means m)
-          ∙ ap (λ v. truth_of (value m old s.taken) && not (truth_of v)) (a.means m) in
+          let r = stands_grows old new types s a.grown h m in
           same_drawn _ _ _ _ _ _ _ _ _ _ s.next (ap (λ (d : Drawn). d.cells) r) (ap (λ (d : Drawn). d.goes) r) (ap (λ (d : Drawn). d.taken) r) (ap (λ (d : Drawn). d.chosen) r)
-          (ap (flat_map (hit_in m new)) i ∙ flat_map_push (hit_in m new) s.sites hit ∙ ap (λ b'. flat_map (hit_in m new) s.sites ++ listed_if b' site) p ∙ ap (λ (d : Drawn). d.sites ++ listed_if (holds m old s.taken && not (is_true m types (map (value m old) s.cells) e)) site) r);
+          (ap (flat_map (hit_in m new)) i ∙ flat_map_push (hit_in m new) s.sites hit ∙ ap (λ b'. flat_map (hit_in m new) s.sites ++ listed_if b' site) (ap truth_of (a.means m)) ∙ ap (λ (d : Drawn). d.sites ++ listed_if (holds m old s.taken && not (is_true m types (map (value m old) s.cells) e)) site) r);
     }
 
 -- one more choice, where it is listed

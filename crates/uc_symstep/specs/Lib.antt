@@ -4,3 +4,4 @@ pub mod Stands
 pub mod Unrolled
 pub mod Designs
 pub mod Known
+pub mod Arms

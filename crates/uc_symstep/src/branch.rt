@@ -9,6 +9,7 @@ ghost use Rattle.uc_flat.specs.Drawn.{either};
 ghost use Rattle.uc_flat.specs.Fine.{IsTest};
 ghost use Rattle.uc_symstep.specs.Growing.{Grows, IsTerm, AreCells};
 ghost use Rattle.uc_symstep.specs.Stands.{IsState, IsTruth, Opens, Merges, Joins};
+ghost use Rattle.uc_symstep.specs.Arms.{opened};
 ghost use Rattle.uc_symstep.specs.Known.{IsKnown, ReadsTyped, Knows, KnowsArms};
 
 use crate::build::{both, either, negated};
@@ -45,10 +46,7 @@ pub(crate) fn open_arms(
     ensures known { IfOk result (λ o. (supply : List AType) → ReadsTyped supply e.now → Knows supply terms.old s → KnowsArms supply terms.new o) }
     ensures grown { Grows terms.old terms.new }
 {
-    let condition = sym_expression(terms, alloc, types, s.cells.as_slice(), e)?;
-    let negation = negated(terms, alloc, condition)?;
-    let inner = both(terms, alloc, s.taken, condition)?;
-    let other = both(terms, alloc, s.taken, negation)?;
+    let (condition, inner, other) = arm_terms(terms, alloc, types, &s, e)?;
     let cells = Items::from_slice(alloc, s.cells.as_slice())?;
     let Symbolic {
         cells: own,
@@ -73,6 +71,27 @@ pub(crate) fn open_arms(
         path,
         taken,
     })
+}
+
+/// The condition of a conditional, and the terms that tell whether its arms are taken.
+fn arm_terms(
+    terms: &mut Terms,
+    alloc: Global,
+    types: &[Ty],
+    s: &Symbolic,
+    e: &Expression,
+) -> Result<(TermId, TermId, TermId), AllocError>
+    requires state { IsState terms.old types.now s.now }
+    requires fine { IsTest types.now e.now }
+    ensures ok { IfOk result (λ r. Opens terms.old terms.new types.now e.now s.now (opened s.now r.0 r.1 r.2 s.now.cells)) }
+    ensures known { IfOk result (λ r. (supply : List AType) → ReadsTyped supply e.now → Knows supply terms.old s.now → KnowsArms supply terms.new (opened s.now r.0 r.1 r.2 s.now.cells)) }
+    ensures grown { Grows terms.old terms.new }
+{
+    let condition = sym_expression(terms, alloc, types, s.cells.as_slice(), e)?;
+    let negation = negated(terms, alloc, condition)?;
+    let inner = both(terms, alloc, s.taken, condition)?;
+    let other = both(terms, alloc, s.taken, negation)?;
+    Ok((condition, inner, other))
 }
 
 /// A cell after a conditional.

@@ -1,13 +1,16 @@
 //! Statements without statements inside them.
 
-ghost use Rattle.std.specs.Prelude.{◌≡◌, ◌<◌, ◌∷◌, ◌++◌, List, [], IfOk, Some, slice_get, length};
+ghost use Rattle.std.specs.Prelude.{◌≡◌, ◌<◌, ◌∷◌, ◌++◌, ◌&&◌, List, [], IfOk, Some, map, not, slice_get, length};
 ghost use Rattle.uc_values.specs.declared.ty.Ty.{Ty as AType};
+ghost use Rattle.uc_values.specs.declared.ty.Ty.TheVariants.{Bool};
+ghost use Rattle.uc_values.specs.declared.value.Value.TheVariants.{Bool as Truth};
 ghost use Rattle.uc_ops.specs.Typing.{Valid, part_type};
-ghost use Rattle.uc_flat.specs.Reading.{type_of};
+ghost use Rattle.uc_terms.specs.Values.{value};
+ghost use Rattle.uc_flat.specs.Reading.{type_of, is_true};
 ghost use Rattle.uc_flat.specs.Fine.{IsTyped, IsTest};
 ghost use Rattle.uc_flat.specs.Drawn.{takes, free, assigns, assumes, asserts, listed_if};
-ghost use Rattle.uc_symstep.specs.Growing.{Grows};
-ghost use Rattle.uc_symstep.specs.Stands.{IsState, Follows, IsSymbol, IsHavocked};
+ghost use Rattle.uc_symstep.specs.Growing.{Grows, IsTerm};
+ghost use Rattle.uc_symstep.specs.Stands.{holds, IsState, Follows, IsSymbol, IsHavocked};
 ghost use Rattle.uc_symstep.specs.Known.{IsKnown, ReadsTyped, Extends};
 
 use crate::build::{both, negated};
@@ -75,11 +78,28 @@ pub(crate) fn assert_at(
     ensures grown { Grows terms.old terms.new }
 {
     let mut s = s;
+    let failed = failing(terms, alloc, types, &s, e)?;
+    s.sites.push(Hit { site, failed })?;
+    Ok(s)
+}
+
+/// That the code is taken, and a condition is false.
+fn failing(
+    terms: &mut Terms,
+    alloc: Global,
+    types: &[Ty],
+    s: &Symbolic,
+    e: &Expression,
+) -> Result<TermId, AllocError>
+    requires state { IsState terms.old types.now s.now }
+    requires fine { IsTest types.now e.now }
+    ensures ok { IfOk result (λ t. IsTerm terms.old terms.new t Bool (λ m. Truth (holds m terms.old s.now.taken && not (is_true m types.now (map (value m terms.old) s.now.cells) e.now)))) }
+    ensures grown { Grows terms.old terms.new }
+{
     let t = sym_expression(terms, alloc, types, s.cells.as_slice(), e)?;
     let negation = negated(terms, alloc, t)?;
     let failed = both(terms, alloc, s.taken, negation)?;
-    s.sites.push(Hit { site, failed })?;
-    Ok(s)
+    Ok(failed)
 }
 
 /// A new symbol.

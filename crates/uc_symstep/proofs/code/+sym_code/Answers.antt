@@ -105,3 +105,17 @@ sym_statement-returns-in_ok-end-in-If-clause-known t c =
     if_extends _ _ _ _ _ _ _ _ _ _ _ _ _ c.args.s c.in_ok-arms-in-If.arms c.in_ok-first-in-If.first c.in_ok-second-in-If.second c.in_ok-end-in-If.end c.in-If.is c.as_slice.ensures c.as_slice-in-If.ensures c.as_slice-in-If-2.ensures
     c.in_ok-first-in-If.ensures.grown c.in_ok-second-in-If.ensures.grown
     c.in_ok-arms-in-If.ensures.known c.in_ok-first-in-If.ensures.known c.in_ok-second-in-If.ensures.known c.in_ok-end-in-If.ensures.known
+
+pub sym_statement-returns-in_err-first-in-If-clause-grown : goal.sym_statement-returns-in_err-first-in-If-clause-grown
+sym_statement-returns-in_err-first-in-If-clause-grown t c = grows_on _ _ _ c.in_ok-arms-in-If.ensures.grown c.in_err-first-in-If.ensures.grown
+
+pub sym_statement-returns-in_err-second-in-If-clause-grown : goal.sym_statement-returns-in_err-second-in-If-clause-grown
+sym_statement-returns-in_err-second-in-If-clause-grown t c = grows_on _ _ _ c.in_ok-arms-in-If.ensures.grown (grows_on _ _ _ c.in_ok-first-in-If.ensures.grown c.in_err-second-in-If.ensures.grown)
+
+pub sym_statement-returns-in_err-end-in-If-clause-grown : goal.sym_statement-returns-in_err-end-in-If-clause-grown
+sym_statement-returns-in_err-end-in-If-clause-grown t c =
+    grows_on _ _ _ c.in_ok-arms-in-If.ensures.grown (grows_on _ _ _ c.in_ok-first-in-If.ensures.grown (grows_on _ _ _ c.in_ok-second-in-If.ensures.grown c.in_err-end-in-If.ensures.grown))
+
+pub sym_statement-returns-in_ok-end-in-If-clause-grown : goal.sym_statement-returns-in_ok-end-in-If-clause-grown
+sym_statement-returns-in_ok-end-in-If-clause-grown t c =
+    grows_on _ _ _ c.in_ok-arms-in-If.ensures.grown (grows_on _ _ _ c.in_ok-first-in-If.ensures.grown (grows_on _ _ _ c.in_ok-second-in-If.ensures.grown c.in_ok-end-in-If.ensures.grown))

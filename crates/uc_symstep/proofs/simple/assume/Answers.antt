@@ -16,3 +16,9 @@ pub returns-clause-known : goal.returns-clause-known
 returns-clause-known c = λ supply reads h.
     assume_known supply _ _ c.args.s _ (grows_on _ _ _ c.in_ok-t.ensures.grown c.in_ok-path.ensures.grown)
     (c.in_ok-path.ensures.known supply (known_grows supply _ _ c.in_ok-t.ensures.grown _ h.path) (c.in_ok-t.ensures.known supply reads (subst (All (IsKnown supply _)) (sym c.as_slice.ensures) h.cells))) h
+
+pub returns-in_err-path-clause-grown : goal.returns-in_err-path-clause-grown
+returns-in_err-path-clause-grown c = grows_on _ _ _ c.in_ok-t.ensures.grown c.in_err-path.ensures.grown
+
+pub returns-clause-grown : goal.returns-clause-grown
+returns-clause-grown c = grows_on _ _ _ c.in_ok-t.ensures.grown c.in_ok-path.ensures.grown
