@@ -5,13 +5,13 @@ ghost use Rattle.uc_flat_expressions.specs.Answers.{IsAnswer};
 ghost use Rattle.uc_flat_expressions.specs.Expressions.{all_of};
 ghost use Rattle.uc_flat_code.specs.Code.{statement_of, code_of, each_arm, arm_of, joined_arms};
 
-use crate::holding::{beside, built_where};
+use crate::holding::built_where;
 use crate::simple::{assign, assume, havoc, one};
 use crate::writing::{FlatArm, Writing};
 use std::alloc::{AllocError, Global};
 use uc_flat::Statement;
 use uc_flat_expressions::{FlatError, Meant, flat_expression, is_boolean};
-use uc_items::Items;
+use uc_items::{Items, beside};
 use uc_syntax::{Arm, Stmt};
 
 /// The code over cells that does what code does, where names stand for what is listed by their numbers. Not built are locals, assertions,
@@ -99,7 +99,7 @@ fn flat_arms(
         let test = flat_expression(alloc, names, &arm.condition)?;
         let test = built_where(is_boolean(&test.ty), test)?;
         let body = flat_code(alloc, names, writing, arm.body.as_slice());
-        let (body, test) = beside(body, test)?;
+        let (test, body) = beside(test, body)?;
         all.push(FlatArm {
             condition: test.expression,
             body,

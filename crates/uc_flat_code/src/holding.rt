@@ -1,6 +1,6 @@
 //! What is held while another value may be missing.
 
-ghost use Rattle.std.specs.Prelude.{◌≡◌, if◌then◌else◌, Some, None, Ok, Err, IfOk, IfErr};
+ghost use Rattle.std.specs.Prelude.{◌≡◌, if◌then◌else◌, Some, None, IfOk, IfErr};
 ghost use Rattle.uc_flat_expressions.specs.Answers.{IsAnswer};
 ghost use Rattle.uc_flat_expressions.specs.declared.typed.FlatError.TheVariants.{NotBuilt};
 
@@ -24,16 +24,5 @@ pub(crate) fn with<T: Drop, U: Drop>(value: Option<T>, held: U) -> Result<(T, U)
     match value {
         Some(value) => Ok((value, held)),
         None => Err(FlatError::NotBuilt),
-    }
-}
-
-/// A value that may have failed, and what is held beside it.
-pub(crate) fn beside<T: Drop, U: Drop, E: Drop>(value: Result<T, E>, held: U) -> Result<(T, U), E>
-    ensures ok { IfOk result (λ both. (value ≡ Ok both.0) × (both.1 ≡ held)) }
-    ensures err { IfErr result (λ e. value ≡ Err e) }
-{
-    match value {
-        Ok(value) => Ok((value, held)),
-        Err(error) => Err(error),
     }
 }

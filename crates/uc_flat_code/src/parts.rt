@@ -10,11 +10,11 @@ ghost use Rattle.uc_flat_expressions.specs.Answers.{IsAnswer};
 ghost use Rattle.uc_flat_code.specs.Code.{field_in, fields_in, with_field, are_different, field_place, replaced_in};
 ghost use Rattle.uc_flat_code.specs.Walk.{behind, field_name};
 
-use crate::holding::{beside, built_where, with};
+use crate::holding::{built_where, with};
 use std::alloc::{AllocError, Global};
 use uc_flat::Expression;
 use uc_flat_expressions::{FlatError, TypedExpression};
-use uc_items::Items;
+use uc_items::{Items, beside};
 use uc_ops::{Op, equal_types};
 use uc_syntax::TargetPart;
 use uc_values::{Field, Ty, copy_ty};
@@ -107,7 +107,7 @@ fn with_field(
 ) -> Result<Expression, FlatError>
     ensures { IsAnswer (Some (with_field (behind (ReadCell cell) places.now) ty.now place field)) result }
 {
-    let (old, field) = beside(fields_in(alloc, cell, places, fields_of(ty)), field)?;
+    let (field, old) = beside(field, fields_in(alloc, cell, places, fields_of(ty)))?;
     let fields = put(old, place, field);
     let ty = copy_ty(alloc, ty)?;
     Ok(Expression::Apply(Op::MkRec(ty), fields))
@@ -191,7 +191,7 @@ pub(crate) fn replaced_in(
     };
     let (place, t) = with(named_place(ty, first), t)?;
     let field = &fields_of(ty)[place];
-    let (deeper, t) = beside(deeper(alloc, places.as_slice(), place), t)?;
+    let (t, deeper) = beside(t, deeper(alloc, places.as_slice(), place))?;
     let inner = replaced_in(alloc, cell, deeper, &field.ty, rest, t)?;
     with_field(alloc, cell, places.as_slice(), ty, place, inner)
 }

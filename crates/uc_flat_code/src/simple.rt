@@ -6,14 +6,14 @@ ghost use Rattle.uc_flat_expressions.specs.Answers.{IsAnswer};
 ghost use Rattle.uc_flat_expressions.specs.Expressions.{flat_of};
 ghost use Rattle.uc_flat_code.specs.Code.{may_write, may_havoc, written_as, written, havocked, assume_of, havoc_of, assigned, spares, assign_of};
 
-use crate::holding::{beside, built_where};
+use crate::holding::built_where;
 use crate::parts::replaced_in;
 use crate::reading::spares;
 use crate::writing::{Writing, Written};
 use std::alloc::{AllocError, Global};
 use uc_flat::Statement;
 use uc_flat_expressions::{FlatError, Meant, TypedExpression, flat_expression, is_boolean};
-use uc_items::{Items, at};
+use uc_items::{Items, at, beside};
 use uc_syntax::{Expr, Target, TargetPart};
 use uc_values::{Ty, copy_ty};
 
@@ -149,7 +149,7 @@ fn one_assigned(
 ) -> Result<Items<Statement>, FlatError>
     ensures { IsAnswer (option_and_then (λ x. if spares before.now x.expression then assigned written parts.now x else None) (flat_of names.now source.now)) result }
 {
-    let (t, written) = beside(flat_expression(alloc, names, source), written)?;
+    let (written, t) = beside(written, flat_expression(alloc, names, source))?;
     let (t, written) = built_where(spares(before, &t.expression), (t, written))?;
     assigned(alloc, written, parts, t)
 }

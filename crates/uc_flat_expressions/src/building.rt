@@ -10,12 +10,12 @@ ghost use Rattle.uc_ops.specs.Equality.{equal_types};
 ghost use Rattle.uc_ops.specs.declared.op.Op.TheVariants.{Ite};
 ghost use Rattle.uc_flat_expressions.specs.Types.{is_boolean, is_bits, are_same_bits};
 
-use crate::holding::{beside, built_where, with};
+use crate::holding::{built_where, with};
 use crate::typed::{FlatError, TypedExpression};
 use crate::types::{are_same_bits, is_bits, is_boolean};
 use std::alloc::{AllocError, Global};
 use uc_flat::Expression;
-use uc_items::{Items, at};
+use uc_items::{Items, at, beside};
 use uc_ops::{Op, equal_types};
 use uc_syntax::{BitFunction, Comparison, SumSign, UnaryOperator};
 use uc_values::{Field, Ty, copy_ty};
@@ -55,7 +55,7 @@ fn operation(
 ) -> Result<TypedExpression, AllocError>
     ensures { IfOk result (λ t. t ≡ operation op ty parts) }
 {
-    let (expressions, (op, ty)) = beside(expressions_of(alloc, parts), (op, ty))?;
+    let ((op, ty), expressions) = beside((op, ty), expressions_of(alloc, parts))?;
     Ok(TypedExpression {
         expression: Expression::Apply(op, expressions),
         ty,
@@ -77,7 +77,7 @@ pub(crate) fn constant(alloc: Global, op: Op, ty: Ty) -> TypedExpression
 fn on_one(alloc: Global, op: Op, ty: Ty, a: TypedExpression) -> Result<TypedExpression, AllocError>
     ensures { IfOk result (λ t. t ≡ operation op ty (a ∷ [])) }
 {
-    let (parts, (op, ty)) = beside(one(alloc, a), (op, ty))?;
+    let ((op, ty), parts) = beside((op, ty), one(alloc, a))?;
     operation(alloc, op, ty, parts)
 }
 
@@ -98,7 +98,7 @@ fn on_two(
 ) -> Result<TypedExpression, AllocError>
     ensures { IfOk result (λ t. t ≡ operation op ty (a ∷ b ∷ [])) }
 {
-    let (parts, (op, ty)) = beside(two(alloc, a, b), (op, ty))?;
+    let ((op, ty), parts) = beside((op, ty), two(alloc, a, b))?;
     operation(alloc, op, ty, parts)
 }
 
@@ -174,7 +174,7 @@ fn implied_parts(
     let Some(last) = front.pop() else {
         return Ok(Items::new(alloc));
     };
-    let (mut made, last) = beside(negations(alloc, front), last)?;
+    let (last, mut made) = beside(last, negations(alloc, front))?;
     made.push(last)?;
     Ok(made)
 }
@@ -474,7 +474,8 @@ fn chosen(
 ) -> Result<TypedExpression, AllocError>
     ensures { IfOk result (λ t. t ≡ operation Ite a.ty (condition ∷ a ∷ b ∷ [])) }
 {
-    let (ty, (condition, (a, b))) = beside(copy_ty(alloc, &a.ty), (condition, (a, b)))?;
+    let ty = copy_ty(alloc, &a.ty);
+    let ((condition, (a, b)), ty) = beside((condition, (a, b)), ty)?;
     let parts = three(alloc, condition, a, b)?;
     operation(alloc, Op::Ite, ty, parts)
 }
@@ -508,7 +509,8 @@ pub(crate) fn field_selected(
 ) -> Result<TypedExpression, FlatError>
     ensures { IsAnswer (field_selected a name) result }
 {
-    let ((place, ty), a) = beside(named_field(alloc, &a.ty, name), a)?;
+    let found = named_field(alloc, &a.ty, name);
+    let (a, (place, ty)) = beside(a, found)?;
     let t = on_one(alloc, Op::GetField(place), ty, a)?;
     Ok(t)
 }

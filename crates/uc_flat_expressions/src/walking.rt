@@ -12,11 +12,10 @@ use crate::building::{
     Chain, choice, comparison, constant, field_selected, from_left, implication, junction, on_bits,
     range_selected, sum, unary_of,
 };
-use crate::holding::beside;
 use crate::typed::{FlatError, Meant, TypedArm, TypedExpression};
 use std::alloc::{AllocError, Global};
 use uc_flat::Expression;
-use uc_items::{Items, at};
+use uc_items::{Items, at, beside};
 use uc_ops::Op;
 use uc_syntax::{
     BitFunction, Branch, Comparison, Expr, Primary, Selection, SumSign, UnaryOperator,
@@ -37,7 +36,7 @@ pub fn flat_expression(
     match e {
         Expr::If(_, branches, otherwise) => {
             let rest = flat_expression(alloc, names, otherwise.get())?;
-            let (arms, rest) = beside(flat_arms(alloc, names, branches.as_slice()), rest)?;
+            let (rest, arms) = beside(rest, flat_arms(alloc, names, branches.as_slice()))?;
             joined_arms(alloc, arms, rest)
         }
         Expr::Iff(_, operands, _) => chained(alloc, names, Chain::Equal, operands.as_slice()),
@@ -46,7 +45,7 @@ pub fn flat_expression(
         Expr::And(_, operands, _) => joined_truths(alloc, names, Op::And, operands.as_slice()),
         Expr::Compare(_, how, _, a, b) => {
             let left = flat_expression(alloc, names, a.get())?;
-            let (right, left) = beside(flat_expression(alloc, names, b.get()), left)?;
+            let (left, right) = beside(left, flat_expression(alloc, names, b.get()))?;
             comparison(alloc, *how, left, right)
         }
         Expr::BitOr(_, operands, _) => chained(alloc, names, Chain::Or, operands.as_slice()),
@@ -120,7 +119,7 @@ fn joined_truths(
 ) -> Result<TypedExpression, FlatError>
     ensures { IsAnswer (option_and_then (junction op) (all_of (map (flat_of names.now) es.now))) result }
 {
-    let (parts, op) = beside(flat_all(alloc, names, es), op)?;
+    let (op, parts) = beside(op, flat_all(alloc, names, es))?;
     junction(alloc, op, parts)
 }
 
@@ -162,7 +161,7 @@ fn flat_arms(
     let mut arms = Items::new(alloc);
     for branch in branches {
         let condition = flat_expression(alloc, names, &branch.condition)?;
-        let (value, condition) = beside(flat_expression(alloc, names, &branch.value), condition)?;
+        let (condition, value) = beside(condition, flat_expression(alloc, names, &branch.value))?;
         arms.push(TypedArm { condition, value })?;
     }
     Ok(arms)

@@ -4,7 +4,6 @@
 //! it gives what that form gives. `levels` is the count of nested forms that may still be opened.
 #![tactic(auto)]
 
-mod beside;
 mod chain;
 mod head;
 mod level;
@@ -13,4 +12,4 @@ mod parser;
 mod signs;
 
 pub use name_in_parens::in_name;
-pub use parser::{arguments, expr, expression, expressions};
+pub use parser::{arguments, expr, expr_before, expression, expressions};

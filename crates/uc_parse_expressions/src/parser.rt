@@ -18,7 +18,6 @@ ghost use Rattle.uc_parse_expressions.specs.Parts.{element_of};
 ghost use Rattle.uc_parse_expressions.specs.Signs.{minus, sum_codes};
 ghost use Rattle.uc_reader.specs.Reading.{state, form, nested};
 
-use crate::beside::beside;
 use crate::chain::Chain;
 use crate::head::Head;
 use crate::level::{Level, next_level};
@@ -29,7 +28,7 @@ use crate::signs::{
 };
 use uc_forms::Stop;
 use uc_grammar::{Kind, Word};
-use uc_items::{Boxed, Items};
+use uc_items::{Boxed, Items, beside};
 use uc_reader::{Reader, name_of, value_of, width_of};
 use uc_syntax::{Branch, Expr, Place, Primary, Selection, SumSign};
 
@@ -60,7 +59,7 @@ pub fn expr(reader: &mut Reader<'_>, levels: u8) -> Result<Expr, Stop>
 
 /// An expression, with a word of this kind behind it.
 #[cycle(expressions)]
-fn expr_before(reader: &mut Reader<'_>, levels: u8, kind: Kind) -> Result<Expr, Stop>
+pub fn expr_before(reader: &mut Reader<'_>, levels: u8, kind: Kind) -> Result<Expr, Stop>
     ensures { Counts result (state reader.new) (form levels (before syntax.expr kind) (state reader.old)) }
 {
     let tree = expr(reader, levels)?;

@@ -11,12 +11,11 @@ ghost use Rattle.uc_grammar.specs.Syntax.{words, block, statements, statement, a
 ghost use Rattle.uc_parse_statements.specs.Parts.{nested_block, conditions, branching, else_branches, case_arm, case_arms, default_arm, loop_variable};
 ghost use Rattle.uc_reader.specs.Reading.{state, form, nested};
 
-use crate::behind::beside;
 use crate::bounds::range_bounds;
 use crate::simple::{assertion, assumption, changes, havoc, local, skip};
 use uc_forms::Stop;
 use uc_grammar::{Kind, Word};
-use uc_items::Items;
+use uc_items::{Items, beside};
 use uc_parse_expressions::expr;
 use uc_parse_types::typed_name;
 use uc_reader::Reader;

@@ -4,7 +4,6 @@
 //! it gives what that form gives. `levels` is the count of nested forms that may still be opened.
 #![tactic(auto)]
 
-mod behind;
 mod blocks;
 mod bounds;
 mod simple;

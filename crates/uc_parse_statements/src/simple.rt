@@ -6,13 +6,12 @@ ghost use Rattle.uc_grammar.specs.Syntax.{call_statement, called_targets, place_
 ghost use Rattle.uc_parse_statements.specs.Parts.{local, skip, assertion, assumption, havoc, instance_step, assignment, written_targets, changes};
 ghost use Rattle.uc_reader.specs.Reading.{state, form};
 
-use crate::behind::{beside, expr_before};
 use crate::targets::{call_targets, is_there, optional_prime, targets};
 use std::alloc::Global;
 use uc_forms::Stop;
 use uc_grammar::Kind;
-use uc_items::Items;
-use uc_parse_expressions::{arguments, expressions, in_name};
+use uc_items::{Items, beside};
+use uc_parse_expressions::{arguments, expr_before, expressions, in_name};
 use uc_parse_types::{new_ids, ty};
 use uc_reader::{Reader, name_of};
 use uc_syntax::{Identifier, Place, Stmt, Target};

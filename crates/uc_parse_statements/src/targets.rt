@@ -10,10 +10,10 @@ ghost use Rattle.uc_grammar.specs.declared.word.Kind.TheVariants.{Comma, Prime, 
 ghost use Rattle.uc_grammar.specs.Syntax.{words, listed, optional, has, target, targets, target_part, target_index, call_targets};
 ghost use Rattle.uc_reader.specs.Reading.{state, form, nested};
 
-use crate::behind::expr_before;
 use uc_forms::Stop;
 use uc_grammar::{Kind, Word};
 use uc_items::Items;
+use uc_parse_expressions::expr_before;
 use uc_reader::{Reader, name_of};
 use uc_syntax::{Target, TargetPart};
 

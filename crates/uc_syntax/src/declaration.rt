@@ -2,13 +2,12 @@
 
 ghost use Rattle.std.specs.Prelude.{◌≡◌, IfOk};
 
-use crate::beside::beside;
 use crate::expression::Expr;
 use crate::place::{Identifier, Place};
 use crate::statement::{Stmt, copy_block, copy_named};
 use crate::type_expression::{Parameter, TypeExpr, copy_parameters};
 use std::alloc::{AllocError, Global};
-use uc_items::Items;
+use uc_items::{Items, beside};
 
 #[derive(Clone, Copy, PartialEq, Eq)]
 pub enum VariableKind {

@@ -2,10 +2,9 @@
 
 ghost use Rattle.std.specs.Prelude.{◌≡◌, IfOk};
 
-use crate::beside::beside;
 use crate::place::{Identifier, Place};
 use std::alloc::{AllocError, Global};
-use uc_items::{Boxed, Items};
+use uc_items::{Boxed, Items, beside};
 
 #[derive(Clone, Copy, PartialEq, Eq)]
 pub enum UnaryOperator {

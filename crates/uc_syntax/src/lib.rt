@@ -1,7 +1,6 @@
 //! The syntax tree of a design, as the grammar has it. Grouping parentheses leave no node.
 #![tactic(auto)]
 
-mod beside;
 mod declaration;
 mod design;
 mod expression;

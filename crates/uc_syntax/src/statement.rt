@@ -2,12 +2,11 @@
 
 ghost use Rattle.std.specs.Prelude.{◌≡◌, IfOk};
 
-use crate::beside::beside;
 use crate::expression::{Expr, copy_expressions};
 use crate::place::{Identifier, Place};
 use crate::type_expression::TypeExpr;
 use std::alloc::{AllocError, Global};
-use uc_items::Items;
+use uc_items::{Items, beside};
 
 #[derive(Drop)]
 pub enum TargetPart {

@@ -69,11 +69,20 @@ fn stored(
     for (place, old) in rows {
         let here = !found && same_scalar(place, index);
         let new = if here { element } else { old };
-        changed.push((copy(alloc, place)?, copy(alloc, new)?))?;
+        changed.push(copied_row(alloc, place, new)?)?;
         found = found || here;
     }
     if !found {
-        changed.push((copy(alloc, index)?, copy(alloc, element)?))?;
+        changed.push(copied_row(alloc, index, element)?)?;
     }
     Ok(changed)
+}
+
+/// An exception with the same index and the same element.
+fn copied_row(alloc: Global, index: &Value, element: &Value) -> Result<(Value, Value), AllocError>
+    ensures { IfOk result (λ row. row ≡ (index.now, element.now)) }
+{
+    let index = copy(alloc, index)?;
+    let element = copy(alloc, element)?;
+    Ok((index, element))
 }

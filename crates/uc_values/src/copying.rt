@@ -24,8 +24,8 @@ pub fn copy_ty(alloc: Global, ty: &Ty) -> Result<Ty, AllocError>
         }
         Ty::Arr(index, element) => {
             let index = copy_ty(alloc, index.get())?;
-            let element = copy_ty(alloc, element.get())?;
             let index = Boxed::new(alloc, index)?;
+            let element = copy_ty(alloc, element.get())?;
             let element = Boxed::new(alloc, element)?;
             Ok(Ty::Arr(index, element))
         }
@@ -64,8 +64,8 @@ pub fn copy(alloc: Global, value: &Value) -> Result<Value, AllocError>
         }
         Value::Arr(default, exceptions) => {
             let default = copy(alloc, default.get())?;
-            let exceptions = copy_exceptions(alloc, exceptions.as_slice())?;
             let default = Boxed::new(alloc, default)?;
+            let exceptions = copy_exceptions(alloc, exceptions.as_slice())?;
             Ok(Value::Arr(default, Items::from_vec(exceptions)))
         }
     }
