@@ -64,8 +64,7 @@ pub(crate) fn low_inner(
     ensures grown { Grows terms.old terms.new }
 {
     let op = copy_op(alloc, terms.op(t))?;
-    let low = low_by_operation(alloc, terms, lowered, t, op)?;
-    Ok(low)
+    low_by_operation(alloc, terms, lowered, t, &op)
 }
 
 /// The same, by the operation of the term.
@@ -74,15 +73,15 @@ fn low_by_operation(
     terms: &mut Terms,
     lowered: &[Items<TermId>],
     t: TermId,
-    op: Op,
+    op: &Op,
 ) -> Result<Vec<TermId>, AllocError>
     requires well { WellTyped terms.old }
-    requires ready { IsReady terms.old lowered.now t op }
-    requires inner { IsInner op }
+    requires ready { IsReady terms.old lowered.now t op.now }
+    requires inner { IsInner op.now }
     ensures low { IfOk result (λ us. IsLowOf terms.old terms.new lowered.now t us.items) }
     ensures grown { Grows terms.old terms.new }
 {
-    match &op {
+    match op {
         Op::Const(ty, value) => constant(alloc, terms, lowered, t, ty, value),
         Op::Eq => low_equality(alloc, terms, lowered, t),
         Op::Ite => low_choice(alloc, terms, lowered, t),
@@ -236,15 +235,16 @@ fn plain(
     terms: &mut Terms,
     lowered: &[Items<TermId>],
     t: TermId,
-    op: Op,
+    op: &Op,
 ) -> Result<Vec<TermId>, AllocError>
     requires well { WellTyped terms.old }
-    requires ready { IsReady terms.old lowered.now t op }
-    requires plain { IsPlain op }
+    requires ready { IsReady terms.old lowered.now t op.now }
+    requires plain { IsPlain op.now }
     ensures low { IfOk result (λ us. IsLowOf terms.old terms.new lowered.now t us.items) }
     ensures grown { Grows terms.old terms.new }
 {
     let parts = low_parts(alloc, lowered, terms.parts(t))?;
+    let op = copy_op(alloc, op)?;
     let same = made(alloc, terms, op, parts.as_slice())?;
     let low = one(alloc, same)?;
     Ok(low)

@@ -1,6 +1,7 @@
 use Rattle.std.proofs.Common.{arith, subst, sym, ◌+◌}
 use Rattle.uc_lower.specs.Steps.{AreTests}
 use Rattle.uc_lower.proofs.Building.{here, tests_suit, test_step}
+use Rattle.uc_lower.proofs.Growing.{grows_on}
 use Rattle.uc_lower.proofs.build.tests.Goals as goal
 
 pub made-requires-clause-suits : goal.made-requires-clause-suits
@@ -16,3 +17,15 @@ loop-place-preserved c =
     subst (AreTests c.args.terms.now c.made.new.terms c.args.left.now c.args.right.now (c.loop-place.place + 1)) (sym c.in_ok-push.ensures.items)
     (test_step c.args.terms.now c.loop-place.terms c.made.new.terms c.args.left.now c.args.right.now c.loop-place.place c.index-left-place.result c.index-right-place.result c.in_ok-test.test c.loop-place.tests.items
     c.requires.well c.loop-place.invariant c.in_ok-test.ensures.made c.requires.left c.requires.right c.requires.same c.index-left-place.is c.index-right-place.is (omega arith))
+
+pub made-requires-clause-well : goal.made-requires-clause-well
+made-requires-clause-well c = c.loop-place.invariant.grown.well
+
+pub returns-in_err-test-clause-grown : goal.returns-in_err-test-clause-grown
+returns-in_err-test-clause-grown c = grows_on _ _ _ c.loop-place.invariant.grown c.in_err-test.ensures.grown
+
+pub returns-in_err-push-clause-grown : goal.returns-in_err-push-clause-grown
+returns-in_err-push-clause-grown c = grows_on _ _ _ c.loop-place.invariant.grown c.in_ok-test.ensures.grown
+
+pub returns-clause-grown : goal.returns-clause-grown
+returns-clause-grown c = c.loop-place.invariant.grown

@@ -4,7 +4,7 @@ use Rattle.std.proofs.lemmas.List.Elements.{All-cons, All-nil}
 use Rattle.uc_lower.specs.Steps.{lows, IsLowerable}
 use Rattle.uc_lower.specs.Walk.{IsStep, IsFresh}
 use Rattle.uc_lower.specs.Lowering.{CorrespondBy, IsMapOf}
-use Rattle.uc_lower.proofs.Growing.{grows_not}
+use Rattle.uc_lower.proofs.Growing.{grows_not, grows_on}
 use Rattle.uc_lower.proofs.Walking.{Walked}
 use Rattle.uc_lower.proofs.Stepping.{walked_start, walked_step, lowerable, place_bits, place_in}
 use Rattle.uc_lower.proofs.Ending.{Ended, ended, RootLow, root_some, root_low, corresponds, mapped, evenly, lowered_term, no_more_bits}
@@ -126,3 +126,15 @@ returns-clause-bits c =
     let low : c.low_of.result.now ≡ lows c.loop-place.lowered.items c.args.t = c.low_of.ensures ∙ ap (λ x. lows x c.args.t) c.as_slice-done.ensures.value in
     let root : RootLow c.loop-place.terms c.loop-place.lowered.items c.args.t c.index-low_of-0.result = root_low c.args.terms.now c.args.t c.in_ok-marks.marks.items c.in_ok-next.next c.loop-place.terms c.loop-place.lowered.items c.loop-place.pairs.items c.loop-place.conditions.items c.loop-place.next c.index-low_of-0.result end (c.index-low_of-0.is ∙ ap (λ us. get_or us 0 c.index-low_of-0.result) low) in
     (no_more_bits c.args.terms.now c.args.t c.in_ok-marks.marks.items c.in_ok-next.next c.loop-place.terms c.goal.new.terms c.loop-place.lowered.items c.loop-place.pairs.items c.loop-place.conditions.items c.loop-place.next c.index-low_of-0.result c.in_ok-goal.goal end root c.in_ok-goal.ensures.goal)
+
+pub returns-in_err-low-clause-grown : goal.returns-in_err-low-clause-grown
+returns-in_err-low-clause-grown c = grows_on _ _ _ c.loop-place.invariant.grown c.in_err-low.ensures.grown
+
+pub returns-in_err-push-clause-grown : goal.returns-in_err-push-clause-grown
+returns-in_err-push-clause-grown c = grows_on _ _ _ c.loop-place.invariant.grown c.in_ok-low.ensures.grown
+
+pub returns-in_err-goal-clause-grown : goal.returns-in_err-goal-clause-grown
+returns-in_err-goal-clause-grown c = grows_on _ _ _ c.loop-place.invariant.grown c.in_err-goal.ensures.grown
+
+pub returns-clause-grown : goal.returns-clause-grown
+returns-clause-grown c = grows_on _ _ _ c.loop-place.invariant.grown c.in_ok-goal.ensures.grown

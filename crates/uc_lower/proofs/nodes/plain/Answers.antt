@@ -14,10 +14,10 @@ made-requires-clause-there c =
 pub made-requires-clause-suits : goal.made-requires-clause-suits
 made-requires-clause-suits c =
     let is : c.as_slice.result.now ≡ joined_lows c.args.lowered.now (parts_at c.args.terms.now c.args.t) = c.as_slice.ensures.value ∙ c.in_ok-parts.ensures ∙ ap (joined_lows c.args.lowered.now) c.parts.ensures.parts in
-    subst (λ us. Suits c.args.op (types_at c.args.terms.now us)) (sym is) (plain_suits c.args.terms.now c.args.lowered.now c.args.t c.args.op c.requires.well c.requires.ready c.requires.plain)
+    subst (λ op. Suits op (types_at c.args.terms.now c.as_slice.result.now)) (sym c.in_ok-op.ensures) (subst (λ us. Suits c.args.op.now (types_at c.args.terms.now us)) (sym is) (plain_suits c.args.terms.now c.args.lowered.now c.args.t c.args.op.now c.requires.well c.requires.ready c.requires.plain))
 
 pub returns-clause-low : goal.returns-clause-low
 returns-clause-low c =
     let is : c.as_slice.result.now ≡ joined_lows c.args.lowered.now (parts_at c.args.terms.now c.args.t) = c.as_slice.ensures.value ∙ c.in_ok-parts.ensures ∙ ap (joined_lows c.args.lowered.now) c.parts.ensures.parts in
     subst (IsLowOf c.args.terms.now c.made.new.terms c.args.lowered.now c.args.t) (sym c.in_ok-low.ensures)
-    (plain_low c.args.terms.now c.made.new.terms c.args.lowered.now c.args.t c.in_ok-same.same c.args.op c.requires.well c.requires.ready c.requires.plain (subst (IsMade c.args.terms.now c.made.new.terms c.in_ok-same.same c.args.op) is c.in_ok-same.ensures.made))
+    (plain_low c.args.terms.now c.made.new.terms c.args.lowered.now c.args.t c.in_ok-same.same c.args.op.now c.requires.well c.requires.ready c.requires.plain (subst (IsMade c.args.terms.now c.made.new.terms c.in_ok-same.same c.args.op.now) is (subst (λ op. IsMade c.args.terms.now c.made.new.terms c.in_ok-same.same op c.as_slice.result.now) c.in_ok-op.ensures c.in_ok-same.ensures.made)))
