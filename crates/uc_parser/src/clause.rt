@@ -8,10 +8,10 @@ ghost use Rattle.uc_grammar.specs.Syntax.{words, clause};
 ghost use Rattle.uc_parser.specs.Parts.{clause_codes};
 ghost use Rattle.uc_reader.specs.Reading.{state, form};
 
+use crate::behind::expr_before;
 use uc_forms::Stop;
 use uc_grammar::Kind;
 use uc_items::Items;
-use uc_parse_expressions::expr;
 use uc_parse_types::ids;
 use uc_reader::Reader;
 use uc_syntax::Clause;
@@ -32,14 +32,12 @@ fn clause(reader: &mut Reader<'_>, levels: u8) -> Result<Clause, Stop>
 {
     if reader.is_at(Kind::KwRequires) {
         let word = reader.take(Kind::KwRequires)?;
-        let condition = expr(reader, levels)?;
-        reader.take(Kind::Semicolon)?;
+        let condition = expr_before(reader, levels, Kind::Semicolon)?;
         return Ok(Clause::Requires(word.place, condition));
     }
     if reader.is_at(Kind::KwEnsures) {
         let word = reader.take(Kind::KwEnsures)?;
-        let condition = expr(reader, levels)?;
-        reader.take(Kind::Semicolon)?;
+        let condition = expr_before(reader, levels, Kind::Semicolon)?;
         return Ok(Clause::Ensures(word.place, condition));
     }
     let word = reader.take(Kind::KwModifies)?;

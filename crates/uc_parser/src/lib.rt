@@ -3,6 +3,7 @@
 //! The contract of `parse` is `IsParsedText` in `specs/Verdict.antt`: the modules that the tokens spell, or the first fault.
 #![tactic(auto)]
 
+mod behind;
 mod block;
 mod clause;
 mod declaration;

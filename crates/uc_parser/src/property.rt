@@ -9,9 +9,9 @@ ghost use Rattle.uc_grammar.specs.Syntax.{words, hyper_number, hyper_of};
 ghost use Rattle.uc_parser.specs.Parts.{axiom_declaration, hyper, invariant};
 ghost use Rattle.uc_reader.specs.Reading.{state, form, nested};
 
+use crate::behind::expr_before;
 use uc_forms::Stop;
 use uc_grammar::{Kind, Word};
-use uc_parse_expressions::expr;
 use uc_reader::{Reader, name_of, value_of};
 use uc_syntax::{Decl, Expr, Identifier};
 
@@ -25,8 +25,7 @@ pub(crate) fn invariant(reader: &mut Reader<'_>, levels: u8) -> Result<Decl, Sto
     let word = reader.take(Kind::KwInvariant)?;
     let name = reader.new_id()?;
     reader.take(Kind::Colon)?;
-    let formula = expr(reader, levels)?;
-    reader.take(Kind::Semicolon)?;
+    let formula = expr_before(reader, levels, Kind::Semicolon)?;
     Ok(Decl::Invariant(word.place, name, formula))
 }
 
@@ -39,16 +38,14 @@ pub(crate) fn axiom_declaration(reader: &mut Reader<'_>, levels: u8) -> Result<D
         let label = reader.take_name()?;
         reader.take(Kind::Colon)?;
         reader.names.declare(label);
-        let formula = expr(reader, levels)?;
-        reader.take(Kind::Semicolon)?;
+        let formula = expr_before(reader, levels, Kind::Semicolon)?;
         let name = Identifier {
             place: label.place,
             name: name_of(label.kind),
         };
         return Ok(Decl::Axiom(word.place, Some(name), formula));
     }
-    let formula = expr(reader, levels)?;
-    reader.take(Kind::Semicolon)?;
+    let formula = expr_before(reader, levels, Kind::Semicolon)?;
     Ok(Decl::Axiom(word.place, None, formula))
 }
 
@@ -93,7 +90,6 @@ pub(crate) fn hyper(reader: &mut Reader<'_>, levels: u8) -> Result<Decl, Stop>
     let copies = hyper_number(reader, levels)?;
     let name = reader.new_id()?;
     reader.take(Kind::Colon)?;
-    let formula = expr(reader, levels)?;
-    reader.take(Kind::Semicolon)?;
+    let formula = expr_before(reader, levels, Kind::Semicolon)?;
     Ok(hyper_of(word, copies, name, formula))
 }

@@ -6,10 +6,10 @@ ghost use Rattle.uc_grammar.specs.Syntax.{type_declaration};
 ghost use Rattle.uc_parser.specs.Parts.{own_type, imported_types, own_type_of};
 ghost use Rattle.uc_reader.specs.Reading.{state, form};
 
+use crate::behind::ty_before;
 use uc_forms::Stop;
 use uc_grammar::Kind;
 use uc_lexer::Place;
-use uc_parse_types::ty;
 use uc_reader::Reader;
 use uc_syntax::{Decl, Identifier};
 
@@ -23,8 +23,7 @@ fn own_type(reader: &mut Reader<'_>, levels: u8, place: Place) -> Result<Decl, S
         return Ok(Decl::OpaqueType(place, name));
     }
     reader.take(Kind::Assign)?;
-    let ty = ty(reader, levels)?;
-    reader.take(Kind::Semicolon)?;
+    let ty = ty_before(reader, levels, Kind::Semicolon)?;
     Ok(Decl::TypeAlias(place, name, ty))
 }
 

@@ -3,20 +3,20 @@
 ghost use Rattle.std.specs.Prelude.{◌≡◌};
 ghost use Rattle.uc_counted.specs.Counted.{count_any};
 ghost use Rattle.uc_counted.specs.Gives.{Counts};
-ghost use Rattle.uc_forms.specs.Form.{codes_of, member, quiet};
+ghost use Rattle.uc_forms.specs.Form.{after, before, codes_of, member, quiet};
 ghost use Rattle.uc_forms.specs.Reading.{is_at};
 ghost use Rattle.uc_grammar.specs.Code.{code_of};
-ghost use Rattle.uc_grammar.specs.declared.word.Kind.TheVariants.{KwVar};
-ghost use Rattle.uc_grammar.specs.Syntax.{words, variable_kind};
+ghost use Rattle.uc_grammar.specs.declared.word.Kind.TheVariants.{KwVar, Assign, Semicolon};
+ghost use Rattle.uc_grammar.specs.Syntax.{words, variable_kind, expr};
 ghost use Rattle.uc_parser.specs.Parts.{define, function, variables, variable_kinds};
 ghost use Rattle.uc_reader.specs.Reading.{state, form};
 
+use crate::behind::{beside, expr_before, ty_before};
 use uc_forms::{Fault, Stop};
 use uc_grammar::{Kind, Word};
-use uc_parse_expressions::expr;
 use uc_parse_types::{new_ids, params, ty};
 use uc_reader::Reader;
-use uc_syntax::{Decl, VariableKind};
+use uc_syntax::{Decl, Expr, VariableKind};
 
 /// Whether words of this kind begin a declaration of variables.
 fn is_variable_kind(kind: Kind) -> bool
@@ -70,8 +70,7 @@ pub(crate) fn variables(reader: &mut Reader<'_>, levels: u8) -> Result<Decl, Sto
     let word = take_variable_kind(reader)?;
     let names = new_ids(reader, levels)?;
     reader.take(Kind::Colon)?;
-    let ty = ty(reader, levels)?;
-    reader.take(Kind::Semicolon)?;
+    let ty = ty_before(reader, levels, Kind::Semicolon)?;
     Ok(Decl::Variables(word.place, variable_kind(word.kind), names, ty))
 }
 
@@ -83,9 +82,17 @@ pub(crate) fn function(reader: &mut Reader<'_>, levels: u8) -> Result<Decl, Stop
     let name = reader.new_id()?;
     let parameters = params(reader, levels)?;
     reader.take(Kind::Colon)?;
-    let ty = ty(reader, levels)?;
-    reader.take(Kind::Semicolon)?;
+    let ty = ty_before(reader, levels, Kind::Semicolon)?;
     Ok(Decl::Function(word.place, name, parameters, ty))
+}
+
+/// What a define stands for, up to the semicolon.
+fn defined(reader: &mut Reader<'_>, levels: u8) -> Result<Expr, Stop>
+    ensures { Counts result (state reader.new) (form levels (after Assign (before expr Semicolon)) (state reader.old)) }
+{
+    reader.take(Kind::Assign)?;
+    let body = expr_before(reader, levels, Kind::Semicolon)?;
+    Ok(body)
 }
 
 /// A define, up to the semicolon.
@@ -97,8 +104,6 @@ pub(crate) fn define(reader: &mut Reader<'_>, levels: u8) -> Result<Decl, Stop>
     let parameters = params(reader, levels)?;
     reader.take(Kind::Colon)?;
     let ty = ty(reader, levels)?;
-    reader.take(Kind::Assign)?;
-    let body = expr(reader, levels)?;
-    reader.take(Kind::Semicolon)?;
+    let (ty, body) = beside(ty, defined(reader, levels))?;
     Ok(Decl::Define(word.place, name, parameters, ty, body))
 }

@@ -13,8 +13,5 @@ returns-in_err-take c = rw (one_deeper c.args.levels bind_value (state c.args.re
 pub returns-in_err-value : goal.returns-in_err-value
 returns-in_err-value c = rw (one_deeper c.args.levels bind_value (state c.args.reader.now) (omega arith)) (search rules)
 
-pub returns-in_err-take-2 : goal.returns-in_err-take-2
-returns-in_err-take-2 c = rw (one_deeper c.args.levels bind_value (state c.args.reader.now) (omega arith)) (search rules)
-
 pub returns : goal.returns
 returns c = rw (one_deeper c.args.levels bind_value (state c.args.reader.now) (omega arith)) (search rules)
