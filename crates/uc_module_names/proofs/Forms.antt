@@ -1,6 +1,6 @@
 -- The labels in each form of a written type, and the names of a module.
 use Rattle.std.proofs.Common.{◌≡◌, ℕ, ◌≤◌, List, [], ◌∷◌, ◌++◌, length, map, refl, sym, ap, ◌∙◌, ◌<◌, zero, suc, get_or, Option, Some, None}
-use Rattle.std.specs.Prelude.{slice_get, unwrap_or}
+use Rattle.std.specs.Prelude.{Result, Ok, Err, OnOk, slice_get, unwrap_or}
 use Rattle.std.proofs.lemmas.Option.{get_or_from_slice_get, slice_get-get_or, unwrap_or-slice_get}
 use Rattle.std.specs.List.{flat_map}
 use Rattle.std.proofs.lemmas.List.{map-append}
@@ -14,8 +14,9 @@ use Rattle.uc_syntax.specs.declared.type_expression.TypeExpr.TheViews.{roll-Type
 use Rattle.uc_syntax.specs.declared.type_expression.TypeExpr.TheVariants.{Boolean, Integer, Bits, Enumeration, Named, OfModule}
 use Rattle.uc_syntax.specs.declared.type_expression.TypeExpr.TheFolds.{fold-TypeExpr, fold-roll-TypeExpr}
 use Rattle.uc_syntax.specs.declared.declaration.Decl.{Decl}
-use Rattle.uc_syntax.specs.declared.declaration.Decl.TheVariants.{OpaqueType, TypeAlias}
+use Rattle.uc_syntax.specs.declared.declaration.Decl.TheVariants.{OpaqueType, TypeAlias, TypeImport, Variables, Function, Define, Procedure, Instance, Init, Next, Invariant, Axiom, Hyperinvariant, Hyperaxiom, Control}
 use Rattle.uc_syntax.specs.declared.declaration.Module.{Module}
+use Rattle.uc_syntax.specs.declared.declaration.VariableKind.{VariableKind}
 use Rattle.uc_syntax.specs.WrittenTypes.{enums_of_module}
 use Rattle.uc_syntax.proofs.Added.{AddedUpTo, added_end, append_nil}
 use Rattle.uc_syntax.proofs.Labels.{flat_map_map}
@@ -28,7 +29,7 @@ use Rattle.uc_name_table.specs.declared.senses.Sense.TheVariants.{Declared}
 use Rattle.uc_name_table.specs.Senses.{entries_meant, entry_at, module_in, no_module, sense_meant}
 use Rattle.uc_written_types.specs.declared.enums.WrittenEnum.{WrittenEnum}
 use Rattle.uc_written_types.specs.Lent.{lent, meant, enum_meant}
-use Rattle.uc_module_names.specs.Entries.{labels_by_types, labels_of_enum, names_by}
+use Rattle.uc_module_names.specs.Entries.{labels_by_types, labels_of_enum, names_by, own_names}
 
 module _ (system : System) where
   pub labels_boolean : (place : Place) → labels_in system (Boolean place) ≡ []
@@ -138,3 +139,42 @@ meant_none = refl
 pub meant_joined : (es fs : List WrittenEnum) → meant (es ++ fs) ≡ meant es ++ meant fs
 unfolding meant
 meant_joined es fs = map-append enum_meant es fs
+
+-- ---- the name that a declaration has
+
+pub own_by : (s : System) (m : Module) (d e : Decl) (xs : List Meant) → d ≡ e → xs ≡ own_names s m e → xs ≡ own_names s m d
+own_by s m d e xs is found = found ∙ sym (ap (own_names s m) is)
+
+pub own_opaque : (s : System) (t : DeclaredType) (d : Decl) (place : Place) (i : Identifier) → slice_get (module_in s.modules t.home).decls t.declaration ≡ Some d → d ≡ OpaqueType place i →
+    enters i (sense_meant s.modules (Declared t)) ∷ [] ≡ own_names s (module_in s.modules t.home) d
+own_opaque s t d place i there is =
+    own_by s (module_in s.modules t.home) d (OpaqueType place i) (enters i (sense_meant s.modules (Declared t)) ∷ []) is (named_opaque s t d place i there is ∙ ap (names_of s (module_in s.modules t.home)) is)
+
+pub own_alias : (s : System) (t : DeclaredType) (d : Decl) (place : Place) (i : Identifier) (type : TypeExpr) → slice_get (module_in s.modules t.home).decls t.declaration ≡ Some d → d ≡ TypeAlias place i type →
+    enters i (sense_meant s.modules (Declared t)) ∷ [] ≡ own_names s (module_in s.modules t.home) d
+own_alias s t d place i type there is =
+    own_by s (module_in s.modules t.home) d (TypeAlias place i type) (enters i (sense_meant s.modules (Declared t)) ∷ []) is (named_alias s t d place i type there is ∙ ap (names_of s (module_in s.modules t.home)) is)
+
+-- a declaration that brings nothing in and declares no variables has at most its own name
+pub own_all : (s : System) (m : Module) (d : Decl) → ((p : Place) (i : Identifier) → d ≡ TypeImport p i → ⊥) → ((p : Place) (k : VariableKind) (is : List Identifier) (t : TypeExpr) → d ≡ Variables p k is t → ⊥) →
+    own_names s m d ≡ names_of s m d
+own_all s m (OpaqueType p i) brings lists = refl
+own_all s m (TypeAlias p i t) brings lists = refl
+own_all s m (TypeImport p i) brings lists = absurd (brings p i refl)
+own_all s m (Variables p k is t) brings lists = absurd (lists p k is t refl)
+own_all s m (Function p i ps t) brings lists = refl
+own_all s m (Define p i ps t e) brings lists = refl
+own_all s m (Procedure p q) brings lists = refl
+own_all s m (Instance p i n bs) brings lists = refl
+own_all s m (Init p block) brings lists = refl
+own_all s m (Next p block) brings lists = refl
+own_all s m (Invariant p i e) brings lists = refl
+own_all s m (Axiom p i e) brings lists = refl
+own_all s m (Hyperinvariant p n i e) brings lists = refl
+own_all s m (Hyperaxiom p n i e) brings lists = refl
+own_all s m (Control p cs) brings lists = refl
+
+-- what a call says of its success, and what follows from it
+pub on_ok : {A E : Type 0} {P Q : Type 0} (r : Result A E) → (P → Q) → OnOk r P → OnOk r Q
+on_ok (Ok a) more held = more held
+on_ok (Err e) more held = held

@@ -1,10 +1,11 @@
 -- The names that the parts of a module give.
-use Rattle.std.specs.Prelude.{List, ◌++◌, map}
+use Rattle.std.specs.Prelude.{List, [], ◌++◌, map}
 use Rattle.std.specs.List.{flat_map}
 use Rattle.std.specs.Borrow.{Bor}
 use Rattle.uc_lexer.specs.declared.place.Place.{Place}
 use Rattle.uc_syntax.specs.declared.type_expression.TypeExpr.{TypeExpr}
 use Rattle.uc_syntax.specs.declared.declaration.Decl.{Decl}
+use Rattle.uc_syntax.specs.declared.declaration.Decl.TheVariants.{TypeImport, Variables}
 use Rattle.uc_syntax.specs.declared.declaration.Module.{Module}
 use Rattle.uc_syntax.specs.WrittenTypes.{types_in}
 use Rattle.uc_meaning.specs.Lookup.{System}
@@ -23,3 +24,9 @@ labels_by_types system ts = flat_map (λ t. labels_in system t.now) ts
 -- the names of a declaration, and the labels of the types that it writes
 abbrev pub names_by : System → Module → Decl → List Meant
 names_by system m d = names_of system m d ++ flat_map (labels_in system) (types_in d)
+
+-- the name that a declaration has, but for those of variables and those that are brought in
+abbrev pub own_names : System → Module → Decl → List Meant
+own_names system m (TypeImport place n) = []
+own_names system m (Variables place kind is type) = []
+own_names system m other = names_of system m other

@@ -1,12 +1,14 @@
 //! The names of a module, in the order of the text.
 
-ghost use Rattle.std.specs.Prelude.{◌≡◌, ◌++◌, ◌∷◌, [], List, Some, map, slice_get, IfOk, OnOk};
+ghost use Rattle.std.specs.Prelude.{◌≡◌, ◌++◌, List, Some, map, slice_get, IfOk, OnOk};
+ghost use Rattle.std.specs.Option.{option_map};
 ghost use Rattle.uc_syntax.specs.declared.declaration.Module.{Module};
-ghost use Rattle.uc_meaning.specs.Lookup.{module_named};
+ghost use Rattle.uc_meaning.specs.Cells.{as_list};
+ghost use Rattle.uc_meaning.specs.Lookup.{System, module_named};
 ghost use Rattle.uc_rules.specs.Names.{enters, formula_name, labels_brought, names_in, names_of, types_brought, SenseVariable};
-ghost use Rattle.uc_name_table.specs.Senses.{entries_meant, module_in, sense_meant};
+ghost use Rattle.uc_name_table.specs.Senses.{entries_meant, entry_meant, module_in};
 ghost use Rattle.uc_name_table.specs.Tables.{Holds};
-ghost use Rattle.uc_module_names.specs.Entries.{names_by};
+ghost use Rattle.uc_module_names.specs.Entries.{names_by, own_names};
 
 use crate::design::DesignNames;
 use crate::labels::{add_brought, add_types_labels, push};
@@ -27,33 +29,99 @@ fn add_variables<'a>(
     ensures { OnOk result ((ms : List Module) → entries_meant ms entries.new ≡ entries_meant ms entries.old ++ map (λ i. enters i (SenseVariable variable.entry.kind variable.entry.ty.now)) identifiers.now) }
 {
     for identifier in identifiers {
-        enter(*identifier, Sense::Variable(variable), entries)?;
+        let entry = Entry {
+            identifier: *identifier,
+            sense: Sense::Variable(variable),
+        };
+        push(entry, entries)?;
     }
     Ok(())
 }
 
-/// Adds a name with what it stands for.
-fn enter<'a>(
-    identifier: Identifier,
-    sense: Sense<'a>,
-    entries: &mut Items<Entry<'a>>,
-) -> Result<(), AllocError>
-    ensures { OnOk result ((ms : List Module) → entries_meant ms entries.new ≡ entries_meant ms entries.old ++ enters identifier (sense_meant ms sense.entry) ∷ []) }
-{
-    push(Entry { identifier, sense }, entries)
-}
-
-/// Adds the name of a formula, if it has one.
-#[tactic(auto, using(uc_syntax::proofs::Added::append_nil))]
-fn add_formula<'a>(
-    identifier: Option<Identifier>,
-    entries: &mut Items<Entry<'a>>,
-) -> Result<(), AllocError>
-    ensures { OnOk result ((ms : List Module) → entries_meant ms entries.new ≡ entries_meant ms entries.old ++ formula_name identifier) }
+/// The entry of a formula, if it has a name.
+fn formula_entry<'a>(identifier: Option<Identifier>) -> Option<Entry<'a>>
+    ensures { (ms : List Module) → as_list (option_map (entry_meant ms) result) ≡ formula_name identifier }
 {
     match identifier {
+        None => None,
+        Some(identifier) => {
+            let sense = Sense::Formula;
+            Some(Entry { identifier, sense })
+        }
+    }
+}
+
+/// The entry of the name that a declaration has, if it has one.
+fn own_entry<'a>(declared: DeclaredType, declaration: &'a Decl) -> Option<Entry<'a>>
+    ensures { (s : System) → slice_get (module_in s.modules declared.home).decls declared.declaration ≡ Some declaration.now → as_list (option_map (entry_meant s.modules) result) ≡ own_names s (module_in s.modules declared.home) declaration.now }
+{
+    match declaration {
+        Decl::OpaqueType(_, identifier) => Some(Entry {
+            identifier: *identifier,
+            sense: Sense::Declared(declared),
+        }),
+        Decl::TypeAlias(_, identifier, _) => Some(Entry {
+            identifier: *identifier,
+            sense: Sense::Declared(declared),
+        }),
+        Decl::Function(_, identifier, parameters, ty) => {
+            let parameters = parameters.as_slice();
+            Some(Entry {
+                identifier: *identifier,
+                sense: Sense::Function(Signature { parameters, ty }),
+            })
+        }
+        Decl::Define(_, identifier, parameters, ty, body) => {
+            let parameters = parameters.as_slice();
+            let defined = Defined {
+                parameters,
+                ty,
+                body,
+            };
+            Some(Entry {
+                identifier: *identifier,
+                sense: Sense::Define(defined),
+            })
+        }
+        Decl::Procedure(_, procedure) => Some(Entry {
+            identifier: procedure.identifier,
+            sense: Sense::Procedure(procedure),
+        }),
+        Decl::Instance(_, identifier, other, bindings) => {
+            let bindings = bindings.as_slice();
+            let instance = InstanceParts {
+                name: identifier.name,
+                module_name: other.name,
+                bindings,
+            };
+            Some(Entry {
+                identifier: *identifier,
+                sense: Sense::Instance(instance),
+            })
+        }
+        Decl::Invariant(_, identifier, _) => formula_entry(Some(*identifier)),
+        Decl::Axiom(_, identifier, _) => formula_entry(*identifier),
+        Decl::Hyperinvariant(_, _, identifier, _) => formula_entry(Some(*identifier)),
+        Decl::Hyperaxiom(_, _, identifier, _) => formula_entry(Some(*identifier)),
+        Decl::TypeImport(..) => None,
+        Decl::Variables(..) => None,
+        Decl::Init(..) => None,
+        Decl::Next(..) => None,
+        Decl::Control(..) => None,
+    }
+}
+
+/// Adds the name that a declaration has, if it has one.
+fn add_own<'a>(
+    declared: DeclaredType,
+    declaration: &'a Decl,
+    entries: &mut Items<Entry<'a>>,
+) -> Result<(), AllocError>
+    ensures { OnOk result ((s : System) → slice_get (module_in s.modules declared.home).decls declared.declaration ≡ Some declaration.now → entries_meant s.modules entries.new ≡ entries_meant s.modules entries.old ++ own_names s (module_in s.modules declared.home) declaration.now) }
+{
+    match own_entry(declared, declaration) {
         None => Ok(()),
-        Some(identifier) => { enter(identifier, Sense::Formula, entries) }
+        Some(entry) => push(entry, entries),
     }
 }
 
@@ -74,7 +142,6 @@ fn add_import<'a>(
 }
 
 /// Adds the names that a declaration begins with.
-#[tactic(auto, using(uc_syntax::proofs::Added::append_nil, uc_syntax::proofs::Added::adds_nothing))]
 fn add_names<'a>(
     alloc: Global,
     design: &DesignNames<'a>,
@@ -86,70 +153,12 @@ fn add_names<'a>(
     ensures { OnOk result (entries_meant design.now.modules entries.new ≡ entries_meant design.now.modules entries.old ++ names_of design.now (module_in design.now.modules declared.home) declaration.now) }
 {
     match declaration {
-        Decl::OpaqueType(_, identifier) => {
-            enter(*identifier, Sense::Declared(declared), entries)?;
-            Ok(())
-        }
-        Decl::TypeAlias(_, identifier, _) => {
-            enter(*identifier, Sense::Declared(declared), entries)?;
-            Ok(())
-        }
-        Decl::TypeImport(place, other) => {
-            add_import(alloc, design, *place, other.name, entries)?;
-            Ok(())
-        }
+        Decl::TypeImport(place, other) => add_import(alloc, design, *place, other.name, entries),
         Decl::Variables(_, kind, identifiers, ty) => {
             let variable = Variable { kind: *kind, ty };
-            add_variables(variable, identifiers.as_slice(), entries)?;
-            Ok(())
+            add_variables(variable, identifiers.as_slice(), entries)
         }
-        Decl::Function(_, identifier, parameters, ty) => {
-            let parameters = parameters.as_slice();
-            let signature = Signature { parameters, ty };
-            enter(*identifier, Sense::Function(signature), entries)?;
-            Ok(())
-        }
-        Decl::Define(_, identifier, parameters, ty, body) => {
-            let parameters = parameters.as_slice();
-            let defined = Defined {
-                parameters,
-                ty,
-                body,
-            };
-            enter(*identifier, Sense::Define(defined), entries)?;
-            Ok(())
-        }
-        Decl::Procedure(_, procedure) => {
-            enter(procedure.identifier, Sense::Procedure(procedure), entries)?;
-            Ok(())
-        }
-        Decl::Instance(_, identifier, other, bindings) => {
-            let bindings = bindings.as_slice();
-            let instance = InstanceParts {
-                name: identifier.name,
-                module_name: other.name,
-                bindings,
-            };
-            enter(*identifier, Sense::Instance(instance), entries)?;
-            Ok(())
-        }
-        Decl::Invariant(_, identifier, _) => {
-            enter(*identifier, Sense::Formula, entries)?;
-            Ok(())
-        }
-        Decl::Axiom(_, identifier, _) => {
-            add_formula(*identifier, entries)?;
-            Ok(())
-        }
-        Decl::Hyperinvariant(_, _, identifier, _) => {
-            enter(*identifier, Sense::Formula, entries)?;
-            Ok(())
-        }
-        Decl::Hyperaxiom(_, _, identifier, _) => {
-            enter(*identifier, Sense::Formula, entries)?;
-            Ok(())
-        }
-        _ => Ok(()),
+        _ => add_own(declared, declaration, entries),
     }
 }
 

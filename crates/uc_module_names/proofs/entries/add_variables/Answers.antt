@@ -12,7 +12,7 @@ loop-identifier-init c = λ ms. added_begin _ c.args.identifiers.now _
 pub loop-identifier-preserved : goal.loop-identifier-preserved
 loop-identifier-preserved c =
     λ ms. added_turn (λ i. enters i (SenseVariable c.args.variable.kind c.args.variable.ty.now) ∷ []) c.args.identifiers.now _ _ _ c.loop-identifier.identifier-index _ (record { place = record { file = 0; line = 0; col = 0 }; name = 0 }) (c.loop-identifier.invariant ms)
-    c.loop-identifier-test.true refl (c.in_ok-enter.ensures ms)
+    c.loop-identifier-test.true refl (c.in_ok-push.ensures ms)
 
 pub returns : goal.returns
 returns c =
