@@ -70,15 +70,8 @@ impl Runnable {
         ensures none { IfErr result (IsNoneFor (system_of design main)) }
     {
         let tables = Tables::of(alloc, design, main)?;
-        let system = tables.system();
-        if !is_only_plain(alloc, system.main, system.modules)? {
-            return Err(not_built(alloc, &tables));
-        }
-        match flat_design(alloc, &tables) {
-            Ok(flat) => Ok(Runnable { tables, flat }),
-            Err(FlatError::NoMemory) => Err(NotRunnable::NoMemory),
-            Err(FlatError::NotBuilt) => Err(not_built(alloc, &tables)),
-        }
+        let flat = over_cells(alloc, &tables)?;
+        Ok(Runnable { tables, flat })
     }
 
     /// What the type keeps, as a fact for callers.
@@ -118,6 +111,22 @@ impl Runnable {
             Some(code) => code.decls.as_slice(),
             None => &[],
         }
+    }
+}
+
+/// The design over numbered cells, where the design runs.
+fn over_cells(alloc: Global, tables: &Tables) -> Result<Flat, NotRunnable>
+    ensures flat { IfOk result (RunsOver tables.now) }
+    ensures none { IfErr result (IsNoneFor tables.now) }
+{
+    let system = tables.system();
+    if !is_only_plain(alloc, system.main, system.modules)? {
+        return Err(not_built(alloc, tables));
+    }
+    match flat_design(alloc, tables) {
+        Ok(flat) => Ok(flat),
+        Err(FlatError::NoMemory) => Err(NotRunnable::NoMemory),
+        Err(FlatError::NotBuilt) => Err(not_built(alloc, tables)),
     }
 }
 
