@@ -6,7 +6,7 @@ ghost use Rattle.uc_log.specs.Atoms.{IsMeant};
 ghost use Rattle.uc_log.specs.Entries.{Meets};
 ghost use Rattle.uc_learner.specs.Opened.{known_now};
 ghost use Rattle.uc_learner.specs.Recorded.{IsRecorded};
-ghost use Rattle.uc_learner.specs.Learners.{HasTakenFor};
+ghost use Rattle.uc_learner.specs.Learners.{HasTaken, HasTakenFor};
 
 use crate::searching::{Outcome, searched};
 use std::alloc::{AllocError, Global};
@@ -44,6 +44,7 @@ pub(crate) struct Resumed {
 
 fn resume<M: Meter>(
     alloc: Global,
+    terms: &Terms,
     p: Problem,
     first_budget: u64,
     budget: u64,
@@ -51,24 +52,42 @@ fn resume<M: Meter>(
 ) -> Result<Resumed, AllocError>
     requires { M.total meter.old < 2 ^ 120 }
 {
-    let terms = Terms::new(alloc)?;
-    let goal = p.goal();
-    let mut log = Log::new(alloc)?;
     let mut first = Learner::new(alloc, &p)?;
     let mut second = Learner::new(alloc, &p)?;
-    meter.open(p);
-    let before = searched(
+    resume_by(
         alloc,
-        &terms,
+        terms,
+        p,
         &mut first,
-        &mut log,
-        goal,
+        &mut second,
         first_budget,
+        budget,
         meter,
-    )?;
+    )
+}
+
+/// The first learner searches, and the second one goes on.
+fn resume_by<M: Meter>(
+    alloc: Global,
+    terms: &Terms,
+    p: Problem,
+    first: &mut Learner,
+    second: &mut Learner,
+    first_budget: u64,
+    budget: u64,
+    meter: &mut M,
+) -> Result<Resumed, AllocError>
+    requires first { HasTaken p [] first.old }
+    requires second { HasTaken p [] second.old }
+    requires total { M.total meter.old < 2 ^ 120 }
+{
+    let mut log = Log::new(alloc)?;
+    let goal = p.goal();
+    meter.open(p);
+    let before = searched(alloc, terms, first, &mut log, goal, first_budget, meter)?;
     let entries = log.len();
-    take_over(&terms, &log, meter, &mut second)?;
-    let after = searched(alloc, &terms, &mut second, &mut log, goal, budget, meter)?;
+    take_over(terms, &log, meter, second)?;
+    let after = searched(alloc, terms, second, &mut log, goal, budget, meter)?;
     Ok(Resumed {
         before,
         entries,
@@ -83,8 +102,9 @@ pub(crate) fn resumed_alone(
     first_budget: u64,
     budget: u64,
 ) -> Result<Resumed, AllocError> {
+    let terms = Terms::new(alloc)?;
     let mut meter = CountMeter::new();
-    resume(alloc, p, first_budget, budget, &mut meter)
+    resume(alloc, &terms, p, first_budget, budget, &mut meter)
 }
 
 /// Adds an entry to the log and spends it.
@@ -144,16 +164,33 @@ fn extended<M: Meter>(
 {
     let mut terms = Terms::new(alloc)?;
     let atom = new_atom(alloc, &mut terms)?;
+    let mut learner = Learner::new(alloc, &p)?;
+    extend_by(alloc, &terms, p, atom, &mut learner, budget, meter)
+}
+
+/// The learner takes over a gate on the goal and the atom, and searches.
+fn extend_by<M: Meter>(
+    alloc: Global,
+    terms: &Terms,
+    p: Problem,
+    atom: Atom,
+    learner: &mut Learner,
+    budget: u64,
+    meter: &mut M,
+) -> Result<(Outcome, bool), AllocError>
+    requires meant { IsMeant terms.now atom }
+    requires taken { HasTaken p [] learner.old }
+    requires total { M.total meter.old < 2 ^ 120 }
+{
+    let mut log = Log::new(alloc)?;
     let goal = p.goal();
     let gate = gate_of(&p, goal)?;
     let number = p.circuit().len();
-    let mut log = Log::new(alloc)?;
-    let mut learner = Learner::new(alloc, &p)?;
     meter.open(p);
-    enter(&terms, &mut log, meter, Entry::Gate(gate))?;
-    enter(&terms, &mut log, meter, Entry::Atom(atom))?;
-    take_over(&terms, &log, meter, &mut learner)?;
-    let outcome = searched(alloc, &terms, &mut learner, &mut log, goal, budget, meter)?;
+    enter(terms, &mut log, meter, Entry::Gate(gate))?;
+    enter(terms, &mut log, meter, Entry::Atom(atom))?;
+    take_over(terms, &log, meter, learner)?;
+    let outcome = searched(alloc, terms, learner, &mut log, goal, budget, meter)?;
     Ok((outcome, learner.value(Lit::positive(number))))
 }
 

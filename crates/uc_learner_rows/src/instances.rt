@@ -79,21 +79,54 @@ fn inputs(alloc: Global, circuit: &mut Circuit, count: u32) -> Result<Vec<Lit>, 
     Ok(literals)
 }
 
+/// The rules that two pigeons are in no hole together.
+fn add_apart(
+    circuit: &mut Circuit,
+    rules: &mut Vec<Lit>,
+    row: &[Lit],
+    other: &[Lit],
+) -> Result<(), AllocError> {
+    for (mine, theirs) in row.iter().zip(other.iter()) {
+        rules.push(gate(circuit, Gate::And(*mine, *theirs))?.negate())?;
+    }
+    Ok(())
+}
+
+/// A pigeon more, with its rules.
+fn add_pigeon(
+    alloc: Global,
+    circuit: &mut Circuit,
+    rules: &mut Vec<Lit>,
+    rows: &mut Vec<Vec<Lit>>,
+    holes: u32,
+) -> Result<(), AllocError> {
+    let row = inputs(alloc, circuit, holes)?;
+    rules.push(one_of(alloc, circuit, row.as_slice())?)?;
+    for other in rows.as_slice() {
+        add_apart(circuit, rules, row.as_slice(), other.as_slice())?;
+    }
+    rows.push(row)?;
+    Ok(())
+}
+
+fn pigeon_rules(
+    alloc: Global,
+    circuit: &mut Circuit,
+    count: u32,
+    holes: u32,
+) -> Result<Vec<Lit>, AllocError> {
+    let mut rules = Vec::new(alloc);
+    let mut rows = Vec::new(alloc);
+    for _pigeon in 0..count {
+        add_pigeon(alloc, circuit, &mut rules, &mut rows, holes)?;
+    }
+    Ok(rules)
+}
+
 /// Each pigeon has a hole, and no two have one.
 pub(crate) fn pigeons(alloc: Global, count: u32, holes: u32) -> Result<Problem, AllocError> {
     let mut circuit = Circuit::new(alloc)?;
-    let mut rules = Vec::new(alloc);
-    let mut rows: Vec<Vec<Lit>> = Vec::new(alloc);
-    for _pigeon in 0..count {
-        let row = inputs(alloc, &mut circuit, holes)?;
-        rules.push(one_of(alloc, &mut circuit, row.as_slice())?)?;
-        for other in &rows {
-            for (mine, theirs) in row.iter().zip(other.iter()) {
-                rules.push(gate(&mut circuit, Gate::And(*mine, *theirs))?.negate())?;
-            }
-        }
-        rows.push(row)?;
-    }
+    let rules = pigeon_rules(alloc, &mut circuit, count, holes)?;
     let goal = all_of(&mut circuit, rules.as_slice())?;
     problem_of(alloc, circuit, goal)
 }
@@ -125,19 +158,36 @@ fn product(
     right: &[Lit],
 ) -> Result<Vec<Lit>, AllocError> {
     let mut total = Vec::new(alloc);
-    for _bit in left {
-        total.push(zero)?;
-    }
-    let mut shift = Vec::new(alloc);
-    for digit in right {
-        let mut row = Vec::from_slice(alloc, shift.as_slice())?;
-        for bit in left {
-            row.push(gate(circuit, Gate::And(*bit, *digit))?)?;
-        }
+    add_zeros(&mut total, zero, left.len())?;
+    for place in 0..right.len() {
+        let row = row_of(alloc, circuit, zero, left, place, right[place])?;
         total = sum(alloc, circuit, zero, total.as_slice(), row.as_slice())?;
-        shift.push(zero)?;
     }
     Ok(total)
+}
+
+fn add_zeros(bits: &mut Vec<Lit>, zero: Lit, count: usize) -> Result<(), AllocError> {
+    for _bit in 0..count {
+        bits.push(zero)?;
+    }
+    Ok(())
+}
+
+/// The product of a number and a digit, shifted to the place of the digit.
+fn row_of(
+    alloc: Global,
+    circuit: &mut Circuit,
+    zero: Lit,
+    left: &[Lit],
+    place: usize,
+    digit: Lit,
+) -> Result<Vec<Lit>, AllocError> {
+    let mut row = Vec::new(alloc);
+    add_zeros(&mut row, zero, place)?;
+    for bit in left {
+        row.push(gate(circuit, Gate::And(*bit, digit))?)?;
+    }
+    Ok(row)
 }
 
 /// A literal that is never true.
@@ -151,39 +201,94 @@ pub(crate) fn commutativity(alloc: Global, bits: u32) -> Result<Problem, AllocEr
     let mut circuit = Circuit::new(alloc)?;
     let left = inputs(alloc, &mut circuit, bits)?;
     let right = inputs(alloc, &mut circuit, bits)?;
-    let zero = never(&mut circuit, left.as_slice())?;
-    let here = product(alloc, &mut circuit, zero, left.as_slice(), right.as_slice())?;
-    let there = product(alloc, &mut circuit, zero, right.as_slice(), left.as_slice())?;
+    let goal = products_differ(alloc, &mut circuit, left.as_slice(), right.as_slice())?;
+    problem_of(alloc, circuit, goal)
+}
+
+fn products_differ(
+    alloc: Global,
+    circuit: &mut Circuit,
+    left: &[Lit],
+    right: &[Lit],
+) -> Result<Lit, AllocError> {
+    let zero = never(circuit, left)?;
+    let here = product(alloc, circuit, zero, left, right)?;
+    let there = product(alloc, circuit, zero, right, left)?;
+    differ(alloc, circuit, here.as_slice(), there.as_slice())
+}
+
+/// A literal that is true where two numbers differ.
+fn differ(
+    alloc: Global,
+    circuit: &mut Circuit,
+    here: &[Lit],
+    there: &[Lit],
+) -> Result<Lit, AllocError> {
     let mut differ = Vec::new(alloc);
     for (x, y) in here.iter().zip(there.iter()) {
-        differ.push(gate(&mut circuit, Gate::Xor(*x, *y))?)?;
+        differ.push(gate(circuit, Gate::Xor(*x, *y))?)?;
     }
-    let goal = one_of(alloc, &mut circuit, differ.as_slice())?;
-    problem_of(alloc, circuit, goal)
+    one_of(alloc, circuit, differ.as_slice())
 }
 
 /// A number of twice as many bits is a product of two numbers above 1.
 pub(crate) fn factors(alloc: Global, bits: u32, number: u64) -> Result<Problem, AllocError> {
     let mut circuit = Circuit::new(alloc)?;
-    let mut left = inputs(alloc, &mut circuit, bits)?;
+    let left = inputs(alloc, &mut circuit, bits)?;
     let right = inputs(alloc, &mut circuit, bits)?;
-    let zero = never(&mut circuit, left.as_slice())?;
+    let goal = factors_give(
+        alloc,
+        &mut circuit,
+        left.as_slice(),
+        right.as_slice(),
+        number,
+    )?;
+    problem_of(alloc, circuit, goal)
+}
+
+/// A literal that is true where both factors are above 1 and their product is the number.
+fn factors_give(
+    alloc: Global,
+    circuit: &mut Circuit,
+    left: &[Lit],
+    right: &[Lit],
+    number: u64,
+) -> Result<Lit, AllocError> {
+    let zero = never(circuit, left)?;
     let mut rules = Vec::new(alloc);
-    for factor in [left.as_slice(), right.as_slice()] {
-        let above = factor.get(1..).ok_or(AllocError)?;
-        rules.push(one_of(alloc, &mut circuit, above)?)?;
-    }
-    for _bit in 0..bits {
-        left.push(zero)?;
-    }
-    let product = product(alloc, &mut circuit, zero, left.as_slice(), right.as_slice())?;
+    rules.push(is_above_one(alloc, circuit, left)?)?;
+    rules.push(is_above_one(alloc, circuit, right)?)?;
+    let product = wide_product(alloc, circuit, zero, left, right)?;
+    add_number(&mut rules, product.as_slice(), number)?;
+    all_of(circuit, rules.as_slice())
+}
+
+fn is_above_one(alloc: Global, circuit: &mut Circuit, factor: &[Lit]) -> Result<Lit, AllocError> {
+    let above = factor.get(1..).ok_or(AllocError)?;
+    one_of(alloc, circuit, above)
+}
+
+/// The product of two numbers, with twice as many bits as the first.
+fn wide_product(
+    alloc: Global,
+    circuit: &mut Circuit,
+    zero: Lit,
+    left: &[Lit],
+    right: &[Lit],
+) -> Result<Vec<Lit>, AllocError> {
+    let mut wide = Vec::from_slice(alloc, left)?;
+    add_zeros(&mut wide, zero, left.len())?;
+    product(alloc, circuit, zero, wide.as_slice(), right)
+}
+
+/// The rules that the bits are those of the number.
+fn add_number(rules: &mut Vec<Lit>, bits: &[Lit], number: u64) -> Result<(), AllocError> {
     let mut rest = number;
-    for bit in &product {
+    for bit in bits {
         rules.push(if rest % 2 == 1 { *bit } else { bit.negate() })?;
         rest /= 2;
     }
-    let goal = all_of(&mut circuit, rules.as_slice())?;
-    problem_of(alloc, circuit, goal)
+    Ok(())
 }
 
 /// Gate 1, which is input 0 and its negation, is to be true.
@@ -220,13 +325,24 @@ pub(crate) fn random_clauses(
 ) -> Result<Problem, AllocError> {
     let mut circuit = Circuit::new(alloc)?;
     let variables = inputs(alloc, &mut circuit, variables)?;
+    let goal = random_rules(alloc, &mut circuit, random, variables.as_slice(), clauses)?;
+    problem_of(alloc, circuit, goal)
+}
+
+/// A literal that is true where so many random clauses are.
+fn random_rules(
+    alloc: Global,
+    circuit: &mut Circuit,
+    random: &mut Random,
+    variables: &[Lit],
+    clauses: u32,
+) -> Result<Lit, AllocError> {
     let mut rules = Vec::new(alloc);
     for _clause in 0..clauses {
-        let clause = random_clause(alloc, random, variables.as_slice())?;
-        rules.push(one_of(alloc, &mut circuit, clause.as_slice())?)?;
+        let clause = random_clause(alloc, random, variables)?;
+        rules.push(one_of(alloc, circuit, clause.as_slice())?)?;
     }
-    let goal = all_of(&mut circuit, rules.as_slice())?;
-    problem_of(alloc, circuit, goal)
+    all_of(circuit, rules.as_slice())
 }
 
 fn random_clause(

@@ -1,8 +1,8 @@
 //! Searches of the learner, with each refutation given to the checker.
 
-ghost use Rattle.std.specs.Prelude.{◌≡◌, ◌<◌, ◌+◌, ◌^◌, OnOk};
+ghost use Rattle.std.specs.Prelude.{◌≡◌, ◌<◌, ◌+◌, ◌^◌, [], OnOk};
 ghost use Rattle.uc_learner.specs.Recorded.{IsRecorded};
-ghost use Rattle.uc_learner.specs.Learners.{HasTakenFor};
+ghost use Rattle.uc_learner.specs.Learners.{HasTaken, HasTakenFor};
 
 use std::alloc::{AllocError, Global};
 use uc_circuit::Lit;
@@ -78,21 +78,37 @@ fn is_accepted<M: Meter>(
 /// How a search from the start ends.
 fn ended<M: Meter>(
     alloc: Global,
+    terms: &Terms,
     p: Problem,
     budget: u64,
     meter: &mut M,
 ) -> Result<Outcome, AllocError>
     requires { M.total meter.old < 2 ^ 126 }
 {
-    let terms = Terms::new(alloc)?;
-    let goal = p.goal();
     let mut learner = Learner::new(alloc, &p)?;
+    search_by(alloc, terms, p, &mut learner, budget, meter)
+}
+
+/// How the first search of a learner ends.
+fn search_by<M: Meter>(
+    alloc: Global,
+    terms: &Terms,
+    p: Problem,
+    learner: &mut Learner,
+    budget: u64,
+    meter: &mut M,
+) -> Result<Outcome, AllocError>
+    requires taken { HasTaken p [] learner.old }
+    requires total { M.total meter.old < 2 ^ 126 }
+{
     let mut log = Log::new(alloc)?;
+    let goal = p.goal();
     meter.open(p);
-    searched(alloc, &terms, &mut learner, &mut log, goal, budget, meter)
+    searched(alloc, terms, learner, &mut log, goal, budget, meter)
 }
 
 pub(crate) fn ended_alone(alloc: Global, p: Problem, budget: u64) -> Result<Outcome, AllocError> {
+    let terms = Terms::new(alloc)?;
     let mut meter = CountMeter::new();
-    ended(alloc, p, budget, &mut meter)
+    ended(alloc, &terms, p, budget, &mut meter)
 }

@@ -3,7 +3,7 @@
 ghost use Rattle.std.specs.Prelude.{◌≡◌, ℕ, ◌+◌, ◌*◌, ◌<◌, ◌≤◌, ◌^◌, [], length, slice_index_or};
 ghost use Rattle.uc_rings.specs.Lists.{Lists, place_of};
 ghost use Rattle.uc_watches.specs.Watched.{IsWatched};
-ghost use Rattle.uc_learner.specs.Learners.{HasTakenFor};
+ghost use Rattle.uc_learner.specs.Learners.{HasTaken, HasTakenFor};
 
 use crate::entries::take_over;
 use std::alloc::{AllocError, Global};
@@ -195,28 +195,45 @@ pub(crate) struct Watched {
 
 fn observed<M: Meter>(
     alloc: Global,
+    terms: &Terms,
     p: Problem,
     budget: u64,
     meter: &mut M,
 ) -> Result<Watched, AllocError>
     requires { M.total meter.old < 2 ^ 120 }
 {
-    let terms = Terms::new(alloc)?;
-    let mut log = Log::new(alloc)?;
     let mut searching = Learner::new(alloc, &p)?;
     let mut taking = Learner::new(alloc, &p)?;
+    observe(alloc, terms, p, &mut searching, &mut taking, budget, meter)
+}
+
+/// The one learner searches, and the other one takes over.
+fn observe<M: Meter>(
+    alloc: Global,
+    terms: &Terms,
+    p: Problem,
+    searching: &mut Learner,
+    taking: &mut Learner,
+    budget: u64,
+    meter: &mut M,
+) -> Result<Watched, AllocError>
+    requires searching { HasTaken p [] searching.old }
+    requires taking { HasTaken p [] taking.old }
+    requires total { M.total meter.old < 2 ^ 120 }
+{
+    let mut log = Log::new(alloc)?;
     meter.open(p);
-    let first = look(alloc, &log, meter, &searching)?;
-    let candidate = match searching.next(&terms, &mut log, budget, meter) {
-        Ok(Search::Candidate) => Some(look(alloc, &log, meter, &searching)?),
+    let first = look(alloc, &log, meter, searching)?;
+    let candidate = match searching.next(terms, &mut log, budget, meter) {
+        Ok(Search::Candidate) => Some(look(alloc, &log, meter, searching)?),
         _ => None,
     };
-    take_over(&terms, &log, meter, &mut taking)?;
+    take_over(terms, &log, meter, taking)?;
     Ok(Watched {
         first,
         candidate,
         entries: log.len(),
-        taken: look(alloc, &log, meter, &taking)?,
+        taken: look(alloc, &log, meter, taking)?,
     })
 }
 
@@ -226,6 +243,7 @@ pub(crate) fn observed_alone(
     p: Problem,
     budget: u64,
 ) -> Result<Watched, AllocError> {
+    let terms = Terms::new(alloc)?;
     let mut meter = CountMeter::new();
-    observed(alloc, p, budget, &mut meter)
+    observed(alloc, &terms, p, budget, &mut meter)
 }
