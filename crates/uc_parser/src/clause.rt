@@ -8,10 +8,10 @@ ghost use Rattle.uc_grammar.specs.Syntax.{words, clause};
 ghost use Rattle.uc_parser.specs.Parts.{clause_codes};
 ghost use Rattle.uc_reader.specs.Reading.{state, form};
 
-use crate::behind::expr_before;
 use uc_forms::Stop;
 use uc_grammar::Kind;
 use uc_items::Items;
+use uc_parse_expressions::expr_before;
 use uc_parse_types::ids;
 use uc_reader::Reader;
 use uc_syntax::Clause;

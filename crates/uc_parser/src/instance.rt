@@ -10,10 +10,10 @@ ghost use Rattle.uc_grammar.specs.Syntax.{words, listed, binds, bind_value};
 ghost use Rattle.uc_parser.specs.Parts.{bind, instance};
 ghost use Rattle.uc_reader.specs.Reading.{state, form, nested};
 
-use crate::behind::expr_before;
 use uc_forms::Stop;
 use uc_grammar::Kind;
 use uc_items::Items;
+use uc_parse_expressions::expr_before;
 use uc_reader::Reader;
 use uc_syntax::{Binding, Decl, Expr};
 

@@ -9,9 +9,9 @@ ghost use Rattle.uc_grammar.specs.Syntax.{words, hyper_number, hyper_of};
 ghost use Rattle.uc_parser.specs.Parts.{axiom_declaration, hyper, invariant};
 ghost use Rattle.uc_reader.specs.Reading.{state, form, nested};
 
-use crate::behind::expr_before;
 use uc_forms::Stop;
 use uc_grammar::{Kind, Word};
+use uc_parse_expressions::expr_before;
 use uc_reader::{Reader, name_of, value_of};
 use uc_syntax::{Decl, Expr, Identifier};
 

@@ -11,9 +11,11 @@ ghost use Rattle.uc_grammar.specs.Syntax.{words, variable_kind, expr};
 ghost use Rattle.uc_parser.specs.Parts.{define, function, variables, variable_kinds};
 ghost use Rattle.uc_reader.specs.Reading.{state, form};
 
-use crate::behind::{beside, expr_before, ty_before};
+use crate::behind::ty_before;
 use uc_forms::{Fault, Stop};
 use uc_grammar::{Kind, Word};
+use uc_items::beside;
+use uc_parse_expressions::expr_before;
 use uc_parse_types::{new_ids, params, ty};
 use uc_reader::Reader;
 use uc_syntax::{Decl, Expr, VariableKind};

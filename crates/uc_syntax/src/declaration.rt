@@ -9,7 +9,7 @@ use crate::type_expression::{Parameter, TypeExpr, copy_parameters};
 use std::alloc::{AllocError, Global};
 use uc_items::{Items, beside};
 
-#[derive(Clone, Copy, PartialEq, Eq)]
+#[derive(Clone, Copy, Debug, PartialEq, Eq)]
 pub enum VariableKind {
     Variable,
     Input,
@@ -40,7 +40,7 @@ pub struct Binding {
     pub expression: Expr,
 }
 
-#[derive(Clone, Copy, PartialEq, Eq)]
+#[derive(Clone, Copy, Debug, PartialEq, Eq)]
 pub enum WrittenRun {
     Unroll(u128),
     Induction(Option<u128>),

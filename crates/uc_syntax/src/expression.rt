@@ -6,7 +6,7 @@ use crate::place::{Identifier, Place};
 use std::alloc::{AllocError, Global};
 use uc_items::{Boxed, Items, beside};
 
-#[derive(Clone, Copy, PartialEq, Eq)]
+#[derive(Clone, Copy, Debug, PartialEq, Eq)]
 pub enum UnaryOperator {
     /// `!`
     Not,
@@ -16,7 +16,7 @@ pub enum UnaryOperator {
     Complement,
 }
 
-#[derive(Clone, Copy, PartialEq, Eq)]
+#[derive(Clone, Copy, Debug, PartialEq, Eq)]
 pub enum Comparison {
     Equal,
     Unequal,
@@ -31,7 +31,7 @@ pub enum Comparison {
 }
 
 /// `+` or `-` between two operands of a sum.
-#[derive(Clone, Copy, PartialEq, Eq)]
+#[derive(Clone, Copy, Debug, PartialEq, Eq)]
 pub struct SumSign {
     pub place: Place,
     pub is_minus: bool,

@@ -33,7 +33,7 @@ pub struct Arm<S> {
 }
 
 /// A bound of `range`: whether it has a minus and its number, or a bit-vector literal by value and width.
-#[derive(Clone, Copy, PartialEq, Eq)]
+#[derive(Clone, Copy, Debug, PartialEq, Eq)]
 pub enum RangeBound {
     Number(Place, bool, u128),
     BitsLiteral(Place, u128, u32),

@@ -7,7 +7,7 @@ use std::alloc::{AllocError, Global};
 use uc_items::{Boxed, Items};
 
 /// A name with its type: a parameter, a result or a field.
-#[derive(Drop)]
+#[derive(Debug, Drop)]
 pub struct Parameter<T> {
     pub identifier: Identifier,
     pub ty: T,
