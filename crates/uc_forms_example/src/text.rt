@@ -160,11 +160,160 @@ mod tests {
         Colon, LeftBrace, LeftParen, Let, Name, Number, Plus, RightBrace, RightParen, Scope,
         Semicolon, Show,
     };
+    use std::process::Abort;
 
     /// No word in more than three brackets, and two names in a scope.
     const LEVELS: u8 = 3;
 
     const NAMES: u32 = 2;
+
+    /// What the words are answered.
+    #[derive(Clone, Copy)]
+    enum Outcome {
+        /// So many scopes, and so many items in them.
+        Read(usize, usize),
+        /// A fault, with its column.
+        Syntax(u32),
+        TooDeep(u32),
+        TooManyNames(u32),
+    }
+
+    use Outcome::{Read, Syntax, TooDeep, TooManyNames};
+
+    type Row = (&'static [Kind], Outcome);
+
+    const SCOPES: [Row; 3] = [
+        (&[], Read(0, 0)),
+        (
+            &[
+                Scope,
+                LeftBrace,
+                RightBrace,
+                Scope,
+                LeftBrace,
+                Let,
+                Name(7),
+                Semicolon,
+                RightBrace,
+            ],
+            Read(2, 1),
+        ),
+        (
+            &[
+                Scope,
+                LeftBrace,
+                Show,
+                Name(1),
+                Colon,
+                Number(2),
+                Plus,
+                LeftParen,
+                Name(1),
+                Plus,
+                Number(3),
+                RightParen,
+                Semicolon,
+                RightBrace,
+            ],
+            Read(1, 1),
+        ),
+    ];
+
+    const FAULTS: [Row; 7] = [
+        (&[Show], Syntax(1)),
+        (&[Scope, LeftBrace], Syntax(3)),
+        (&[Scope, LeftBrace, Let, Semicolon, RightBrace], Syntax(4)),
+        (&[Scope, LeftBrace, Show, Name(1), Colon, Colon], Syntax(6)),
+        (
+            &[Scope, LeftBrace, RightBrace, Semicolon, Semicolon],
+            Syntax(4),
+        ),
+        (
+            &[
+                Scope, LeftBrace, Show, LeftParen, LeftParen, LeftParen, Semicolon,
+            ],
+            TooDeep(6),
+        ),
+        (
+            &[Scope, LeftBrace, Show, LeftParen, LeftParen, Semicolon],
+            Syntax(6),
+        ),
+    ];
+
+    const COUNTS: [Row; 4] = [
+        (
+            &[
+                Scope,
+                LeftBrace,
+                Let,
+                Name(1),
+                Semicolon,
+                Show,
+                Name(1),
+                Colon,
+                Name(1),
+                Semicolon,
+                RightBrace,
+                Scope,
+                LeftBrace,
+                Let,
+                Name(1),
+                Semicolon,
+                RightBrace,
+            ],
+            Read(2, 3),
+        ),
+        (
+            &[
+                Scope,
+                LeftBrace,
+                Let,
+                Name(1),
+                Semicolon,
+                Let,
+                Name(1),
+                Semicolon,
+                Let,
+                Name(1),
+                Semicolon,
+                Scope,
+            ],
+            TooManyNames(10),
+        ),
+        (
+            &[
+                Scope,
+                LeftBrace,
+                Let,
+                Name(1),
+                Semicolon,
+                Let,
+                Name(1),
+                Semicolon,
+                Show,
+                Name(1),
+                Colon,
+                LeftBrace,
+            ],
+            TooManyNames(10),
+        ),
+        (
+            &[
+                Scope,
+                LeftBrace,
+                Let,
+                Name(1),
+                Semicolon,
+                Let,
+                Name(1),
+                Semicolon,
+                Show,
+                Name(1),
+                LeftBrace,
+            ],
+            Syntax(11),
+        ),
+    ];
 
     /// The count of the scopes and of their items, or the fault. The words stand in the columns from 1 on.
     fn answer(alloc: Global, kinds: &[Kind]) -> Result<(usize, usize), ParseError> {
@@ -186,184 +335,38 @@ mod tests {
         Ok((scopes.len(), items))
     }
 
-    fn syntax(column: u32) -> Result<(usize, usize), ParseError> {
-        Err(ParseError::Syntax(Place { line: 1, column }))
+    fn wanted(outcome: Outcome) -> Result<(usize, usize), ParseError> {
+        match outcome {
+            Read(scopes, items) => Ok((scopes, items)),
+            Syntax(column) => Err(ParseError::Syntax(Place { line: 1, column })),
+            TooDeep(column) => Err(ParseError::TooDeep(Place { line: 1, column })),
+            TooManyNames(column) => Err(ParseError::TooManyNames(Place { line: 1, column })),
+        }
     }
 
-    fn too_deep(column: u32) -> Result<(usize, usize), ParseError> {
-        Err(ParseError::TooDeep(Place { line: 1, column }))
-    }
-
-    fn too_many(column: u32) -> Result<(usize, usize), ParseError> {
-        Err(ParseError::TooManyNames(Place { line: 1, column }))
+    fn check_row(rt: &impl Abort, alloc: Global, row: &Row) {
+        let (kinds, expected) = row;
+        assert_eq!(rt; answer(alloc, kinds), wanted(*expected), "{kinds:?}");
     }
 
     #[test]
     fn reads_scopes(rt: HostRuntime) {
-        let alloc = rt.alloc();
-        assert_eq!(rt; answer(alloc, &[]), Ok((0, 0)));
-        assert_eq!(rt;
-            answer(
-                alloc,
-                &[
-                    Scope,
-                    LeftBrace,
-                    RightBrace,
-                    Scope,
-                    LeftBrace,
-                    Let,
-                    Name(7),
-                    Semicolon,
-                    RightBrace
-                ]
-            ),
-            Ok((2, 1))
-        );
-        assert_eq!(rt;
-            answer(
-                alloc,
-                &[
-                    Scope,
-                    LeftBrace,
-                    Show,
-                    Name(1),
-                    Colon,
-                    Number(2),
-                    Plus,
-                    LeftParen,
-                    Name(1),
-                    Plus,
-                    Number(3),
-                    RightParen,
-                    Semicolon,
-                    RightBrace
-                ]
-            ),
-            Ok((1, 1))
-        );
+        for row in &SCOPES {
+            check_row(&rt, rt.alloc(), row);
+        }
     }
 
     #[test]
     fn faults_come_at_the_first_word(rt: HostRuntime) {
-        let alloc = rt.alloc();
-        assert_eq!(rt; answer(alloc, &[Show]), syntax(1));
-        assert_eq!(rt; answer(alloc, &[Scope, LeftBrace]), syntax(3));
-        assert_eq!(rt;
-            answer(alloc, &[Scope, LeftBrace, Let, Semicolon, RightBrace]),
-            syntax(4)
-        );
-        assert_eq!(rt;
-            answer(alloc, &[Scope, LeftBrace, Show, Name(1), Colon, Colon]),
-            syntax(6)
-        );
-        assert_eq!(rt;
-            answer(alloc, &[Scope, LeftBrace, RightBrace, Semicolon, Semicolon]),
-            syntax(4)
-        );
-        assert_eq!(rt;
-            answer(
-                alloc,
-                &[
-                    Scope, LeftBrace, Show, LeftParen, LeftParen, LeftParen, Semicolon
-                ]
-            ),
-            too_deep(6)
-        );
-        assert_eq!(rt;
-            answer(
-                alloc,
-                &[Scope, LeftBrace, Show, LeftParen, LeftParen, Semicolon]
-            ),
-            syntax(6)
-        );
+        for row in &FAULTS {
+            check_row(&rt, rt.alloc(), row);
+        }
     }
 
     #[test]
     fn names_are_counted_in_each_scope(rt: HostRuntime) {
-        let alloc = rt.alloc();
-        assert_eq!(rt;
-            answer(
-                alloc,
-                &[
-                    Scope,
-                    LeftBrace,
-                    Let,
-                    Name(1),
-                    Semicolon,
-                    Show,
-                    Name(1),
-                    Colon,
-                    Name(1),
-                    Semicolon,
-                    RightBrace,
-                    Scope,
-                    LeftBrace,
-                    Let,
-                    Name(1),
-                    Semicolon,
-                    RightBrace
-                ]
-            ),
-            Ok((2, 3))
-        );
-        assert_eq!(rt;
-            answer(
-                alloc,
-                &[
-                    Scope,
-                    LeftBrace,
-                    Let,
-                    Name(1),
-                    Semicolon,
-                    Let,
-                    Name(1),
-                    Semicolon,
-                    Let,
-                    Name(1),
-                    Semicolon,
-                    Scope
-                ]
-            ),
-            too_many(10)
-        );
-        assert_eq!(rt;
-            answer(
-                alloc,
-                &[
-                    Scope,
-                    LeftBrace,
-                    Let,
-                    Name(1),
-                    Semicolon,
-                    Let,
-                    Name(1),
-                    Semicolon,
-                    Show,
-                    Name(1),
-                    Colon,
-                    LeftBrace
-                ]
-            ),
-            too_many(10)
-        );
-        assert_eq!(rt;
-            answer(
-                alloc,
-                &[
-                    Scope,
-                    LeftBrace,
-                    Let,
-                    Name(1),
-                    Semicolon,
-                    Let,
-                    Name(1),
-                    Semicolon,
-                    Show,
-                    Name(1),
-                    LeftBrace
-                ]
-            ),
-            syntax(11)
-        );
+        for row in &COUNTS {
+            check_row(&rt, rt.alloc(), row);
+        }
     }
 }
