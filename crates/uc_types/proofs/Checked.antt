@@ -1,5 +1,6 @@
 -- From the first fault that was noted to what is answered.
 use Rattle.std.proofs.Common.{◌≡◌, ℕ, List, [], ◌++◌, Option, Some, None, refl, ap, ◌∙◌, sym}
+use Rattle.std.specs.Prelude.{Result, Ok, Err, OnOk}
 use Rattle.std.specs.List.{flat_map}
 use Rattle.uc_syntax.specs.declared.declaration.Module.{Module}
 use Rattle.uc_syntax.specs.Contents.{Contents}
@@ -8,7 +9,7 @@ use Rattle.uc_rules.specs.declared.fault.Fault.{Fault}
 use Rattle.uc_rules.specs.Faults.{first_of}
 use Rattle.uc_rules.specs.Declarations.{KeepsRules, design_faults, main_faults, main_number, module_faults, repeated_modules}
 use Rattle.uc_rules.proofs.Chains.{first_of_append}
-use Rattle.uc_types.specs.Typed.{KeepsTypes, main_or_first}
+use Rattle.uc_types.specs.Typed.{main_or_first}
 
 -- the faults of a design besides that of main, where main is at a place
 abbrev others : Contents → ℕ → List Fault
@@ -49,5 +50,7 @@ main_is d main found k found-is k-is keeps =
     main_there (main_number d main) (others d (main_or_first (main_number d main))) keeps
     ∙ ap (λ n. Some n) (sym (k-is ∙ ap main_or_first found-is))
 
-pub types_kept : (d : Contents) (main : List ℕ) (found : Option ℕ) (k : ℕ) → found ≡ main_number d main → k ≡ main_or_first found → KeepsRules d main → KeepsTypes (record { contents = d; main = k })
-types_kept d main found k found-is k-is keeps = record { name = main; is_main = main_is d main found k found-is k-is keeps; keeps = keeps }
+-- what a call says of its success, and what follows from it
+pub on_ok : {A E : Type 0} {P Q : Type 0} (r : Result A E) → (P → Q) → OnOk r P → OnOk r Q
+on_ok (Ok a) more held = more held
+on_ok (Err e) more held = held

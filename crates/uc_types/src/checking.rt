@@ -32,13 +32,23 @@ pub fn check(alloc: Global, design: Design, main: &str) -> Result<TypedDesign, T
     ensures kept { IsOk result → KeepsRules design main.now }
     ensures refused { IfErr result (IsTypeError (IsFirstFault design main.now)) }
 {
-    let found = main_number(&design, main);
+    let number = judged_main(alloc, &design, main)?;
+    Ok(TypedDesign::of(design, number))
+}
+
+/// The place of main, where no static rule is broken.
+fn judged_main(alloc: Global, design: &Design, main: &str) -> Result<u32, TypeError>
+    ensures main { IfOk result (λ n. main_number design.now main.now ≡ Some n) }
+    ensures kept { OnOk result (KeepsRules design.now main.now) }
+    ensures refused { IfErr result (IsTypeError (IsFirstFault design.now main.now)) }
+{
+    let found = main_number(design, main);
     let number = main_or_first(found)?;
     let mut first = None;
     note_main(found, &mut first);
-    note_design(alloc, &design, number, &mut first)?;
+    note_design(alloc, design, number, &mut first)?;
     match verdict(first) {
-        Ok(()) => Ok(TypedDesign::of(design, number)),
+        Ok(()) => Ok(number),
         Err(fault) => Err(TypeError::Fault(fault)),
     }
 }
@@ -75,6 +85,5 @@ fn note_design(
     let modules = design.modules().as_slice();
     note_repeated_modules(alloc, modules, first)?;
     let types = KnownTypes::of(alloc, SystemRef::of(design, main))?;
-    note_modules(alloc, &types, modules, first)?;
-    Ok(())
+    note_modules(alloc, &types, modules, first)
 }

@@ -50,8 +50,7 @@ fn note_module(
     note_cycles(cycles, whole, first);
     let reading = reading_defines(alloc, homes, number)?;
     let home = Home::of(types, &reading, number);
-    note_declarations(alloc, &home, whole.decls.as_slice(), first)?;
-    Ok(())
+    note_declarations(alloc, &home, whole.decls.as_slice(), first)
 }
 
 /// Notes the faults of the declarations of a module.
