@@ -5,7 +5,6 @@ use Rattle.std.specs.List.{list_any, list_all}
 use Rattle.uc_ops.specs.declared.op.Op.{Op}
 use Rattle.uc_flat.specs.declared.expression.Expression.{Expression}
 use Rattle.uc_flat.specs.declared.expression.Expression.TheOpen.Expression-F.{Cell as CellForm, Apply as ApplyForm}
-use Rattle.uc_flat.specs.declared.expression.Expression.TheViews.{roll-Expression}
 use Rattle.uc_flat.specs.declared.expression.Expression.TheVariants.{Cell, Apply, rolls-Cell, rolls-Apply}
 use Rattle.uc_flat.specs.declared.expression.Expression.TheFolds.{fold-roll-Expression}
 use Rattle.uc_flat_code.specs.Code.{spares, spares_form}

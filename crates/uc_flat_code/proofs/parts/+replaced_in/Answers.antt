@@ -27,16 +27,16 @@ returns-in_err-inner t c =
     let k = c.in_ok-place.place in
     let p = err_from_is_err_and c.from_residual-in_err-inner.result c.from_residual-in_err-inner.ensures.1 in
     let there = subst (λ o. IfSome o (λ j. j < length (fields_of c.args.ty.now))) c.in_ok-place.ensures.ok.0 c.named_place.ensures.there in
-    let deeper = ap (λ xs. Some (xs ++ k ∷ [])) (sym c.as_slice.ensures) ∙ subst (IsAnswer (Some (c.as_slice.result.now ++ k ∷ []))) c.in_ok-deeper.ensures.ok.0 c.deeper.ensures in
-    let own = inner_err c.args.cell c.args.places c.in_ok-deeper.deeper c.args.ty.now c.args.parts.now c.in-Some.first.now c.in-Some.rest.now c.in_ok-deeper.t k c.index-fields_of-place.result c.in_err-inner.field-0.0
+    let deeper = ap (λ xs. Some (xs ++ k ∷ [])) (sym c.as_slice.ensures) ∙ subst (IsAnswer (Some (c.as_slice.result.now ++ k ∷ []))) c.in_ok-t.ensures.1 c.deeper.ensures in
+    let own = inner_err c.args.cell c.args.places c.in_ok-t.deeper c.args.ty.now c.args.parts.now c.in-Some.first.now c.in-Some.rest.now c.in_ok-t.t k c.index-fields_of-place.result c.in_err-inner.field-0.0
     (search rules) (sym c.named_place.ensures.place ∙ c.in_ok-place.ensures.ok.0) (field_at _ _ k _ c.fields_of.ensures there c.index-fields_of-place.is) deeper c.in_err-inner.ensures in
-    let same = subst (λ u. IsAnswer {A = Expression} (replaced_in whole c.args.ty.now c.args.parts.now u) (Err c.in_err-inner.field-0.0)) (c.in_ok-deeper.ensures.ok.1 ∙ c.in_ok-place.ensures.ok.1) own in
+    let same = subst (λ u. IsAnswer {A = Expression} (replaced_in whole c.args.ty.now c.args.parts.now u) (Err c.in_err-inner.field-0.0)) (c.in_ok-t.ensures.0 ∙ c.in_ok-place.ensures.ok.1) own in
     subst (IsAnswer {A = Expression} (replaced_in whole c.args.ty.now c.args.parts.now c.args.t)) (sym p.1) (subst (λ e. IsAnswer {A = Expression} (replaced_in whole c.args.ty.now c.args.parts.now c.args.t) (Err e)) (sym p.2) same)
 
 pub returns : goal.returns
 returns t c =
     let k = c.in_ok-place.place in
     let there = subst (λ o. IfSome o (λ j. j < length (fields_of c.args.ty.now))) c.in_ok-place.ensures.ok.0 c.named_place.ensures.there in
-    let deeper = ap (λ xs. Some (xs ++ k ∷ [])) (sym c.as_slice.ensures) ∙ subst (IsAnswer (Some (c.as_slice.result.now ++ k ∷ []))) c.in_ok-deeper.ensures.ok.0 c.deeper.ensures in
-    outer_answer c.args.cell c.args.places c.in_ok-deeper.deeper c.args.ty.now c.args.parts.now c.in-Some.first.now c.in-Some.rest.now c.args.t c.in_ok-deeper.t k c.index-fields_of-place.result c.in_ok-inner.inner _ (c.in_ok-deeper.ensures.ok.1 ∙ c.in_ok-place.ensures.ok.1)
+    let deeper = ap (λ xs. Some (xs ++ k ∷ [])) (sym c.as_slice.ensures) ∙ subst (IsAnswer (Some (c.as_slice.result.now ++ k ∷ []))) c.in_ok-t.ensures.1 c.deeper.ensures in
+    outer_answer c.args.cell c.args.places c.in_ok-t.deeper c.args.ty.now c.args.parts.now c.in-Some.first.now c.in-Some.rest.now c.args.t c.in_ok-t.t k c.index-fields_of-place.result c.in_ok-inner.inner _ (c.in_ok-t.ensures.0 ∙ c.in_ok-place.ensures.ok.1)
     (search rules) (sym c.named_place.ensures.place ∙ c.in_ok-place.ensures.ok.0) (field_at _ _ k _ c.fields_of.ensures there c.index-fields_of-place.is) deeper c.in_ok-inner.ensures (search rules)
