@@ -167,9 +167,27 @@ fn compared(
     };
     let left = sum_of(alloc, terms, first, &sides.left)?;
     let right = sum_of(alloc, terms, second, &sides.right)?;
-    let pair = Items::from_slice(alloc, &[left, right])?;
-    let whole = put(alloc, terms, copy_op(alloc, op)?, pair)?;
+    let whole = put_two(alloc, terms, op, left, right)?;
     Ok(Some(whole))
+}
+
+/// The operation on two terms, after steps.
+fn put_two(
+    alloc: Global,
+    terms: &mut Terms,
+    op: &Op,
+    left: TermId,
+    right: TermId,
+) -> Result<TermId, AllocError>
+    requires there { All (λ p. p < length terms.old) (left ∷ right ∷ []) }
+    requires suits { Suits op.now (types_at terms.old (left ∷ right ∷ [])) }
+    ensures rebuilt { IfOk result (λ r. Rebuilds terms.new r terms.old op.now (left ∷ right ∷ [])) }
+    ensures grown { Grows terms.old terms.new }
+    ensures well { WellTyped terms.new }
+{
+    let _count = terms.len();
+    let pair = Items::from_slice(alloc, &[left, right])?;
+    put(alloc, terms, copy_op(alloc, op)?, pair)
 }
 
 /// Pairs of which each coefficient is positive, unless they have been the other way round.

@@ -11,6 +11,7 @@ use crate::linear::normal;
 use crate::records::two_records;
 use std::alloc::{AllocError, Global};
 use uc_items::Items;
+use uc_ops::copy_op;
 use uc_simplify_steps::{Step, settle};
 use uc_terms::{Op, TermId, Terms};
 
@@ -51,7 +52,7 @@ fn rebuilt(
     let _count = terms.len();
     match settle(alloc, terms, op, parts)? {
         Step::Known(t) => Ok(t),
-        Step::Other(op, parts) => made(alloc, terms, op, parts.as_slice(), depth),
+        Step::Other(op, parts) => made(alloc, terms, &op, parts.as_slice(), depth),
     }
 }
 
@@ -60,13 +61,13 @@ fn rebuilt(
 fn made(
     alloc: Global,
     terms: &mut Terms,
-    op: Op,
+    op: &Op,
     parts: &[TermId],
     depth: u32,
 ) -> Result<TermId, AllocError>
     requires there { All (λ p. p < length terms.old) parts.now }
-    requires suits { Suits op (types_at terms.old parts.now) }
-    ensures rebuilt { IfOk result (λ r. Rebuilds terms.new r terms.old op parts.now) }
+    requires suits { Suits op.now (types_at terms.old parts.now) }
+    ensures rebuilt { IfOk result (λ r. Rebuilds terms.new r terms.old op.now parts.now) }
     ensures grown { Grows terms.old terms.new }
     ensures well { WellTyped terms.new }
 {
@@ -74,7 +75,7 @@ fn made(
         return on_integers(alloc, terms, op, parts);
     }
     let _count = terms.len();
-    let Some((left, right)) = two_records(alloc, terms, &op, parts)? else {
+    let Some((left, right)) = two_records(alloc, terms, op, parts)? else {
         return on_integers(alloc, terms, op, parts);
     };
     let equal = equalities(alloc, terms, &left, &right, depth - 1)?;
@@ -85,19 +86,19 @@ fn made(
 fn on_integers(
     alloc: Global,
     terms: &mut Terms,
-    op: Op,
+    op: &Op,
     parts: &[TermId],
 ) -> Result<TermId, AllocError>
     requires there { All (λ p. p < length terms.old) parts.now }
-    requires suits { Suits op (types_at terms.old parts.now) }
-    ensures rebuilt { IfOk result (λ r. Rebuilds terms.new r terms.old op parts.now) }
+    requires suits { Suits op.now (types_at terms.old parts.now) }
+    ensures rebuilt { IfOk result (λ r. Rebuilds terms.new r terms.old op.now parts.now) }
     ensures grown { Grows terms.old terms.new }
     ensures well { WellTyped terms.new }
 {
     let _count = terms.len();
-    match normal(alloc, terms, &op, parts)? {
+    match normal(alloc, terms, op, parts)? {
         Some(t) => Ok(t),
-        None => build(alloc, terms, op, parts),
+        None => build(alloc, terms, copy_op(alloc, op)?, parts),
     }
 }
 

@@ -113,8 +113,8 @@ fn simplified(
     ensures well { WellTyped terms.new }
 {
     let node = terms.node(place);
-    let op = copy_op(alloc, &node.op)?;
     let parts = answered(alloc, node.parts.as_slice(), answers)?;
+    let op = copy_op(alloc, &node.op)?;
     rebuild(alloc, terms, op, parts)
 }
 

@@ -6,6 +6,7 @@ use mir.Val.{SFits}
 use Rattle.uc_linear.specs.Linear.{Pair}
 use Rattle.uc_ops.specs.Typing.{type_at}
 use Rattle.uc_simplify.specs.Integers.{IsTimes}
+use Rattle.uc_simplify.proofs.Standing.{Grows-trans}
 use Rattle.uc_simplify.proofs.Gathered.{Adding-start, multiples_next, multiples_end, variable_there}
 use Rattle.uc_simplify.proofs.linear.multiples.Goals as goal
 
@@ -35,3 +36,12 @@ loop-place-preserved c =
 pub returns-clause-adding : goal.returns-clause-adding
 returns-clause-adding c =
     multiples_end c.args.terms.now c.loop-place.terms c.loop-place.parts.items c.args.pairs.now c.loop-place.place (omega (arith, c.loop-place-test.false)) c.loop-place.invariant
+
+pub returns-in_err-part-clause-grown : goal.returns-in_err-part-clause-grown
+returns-in_err-part-clause-grown c = Grows-trans _ _ _ c.loop-place.invariant.grown c.times.ensures.grown
+
+pub returns-in_err-push-clause-grown : goal.returns-in_err-push-clause-grown
+returns-in_err-push-clause-grown c = Grows-trans _ _ _ c.loop-place.invariant.grown c.times.ensures.grown
+
+pub returns-clause-grown : goal.returns-clause-grown
+returns-clause-grown c = c.loop-place.invariant.grown

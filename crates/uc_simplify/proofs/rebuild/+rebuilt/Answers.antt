@@ -21,8 +21,8 @@ rebuilt-returns-in-Other-clause-rebuilt t c =
 
 pub made-equalities-requires : goal.made-equalities-requires
 made-equalities-requires t c =
-    let x = subst (λ o. IfSome o (λ r. AreRecords c.args.terms.now c.args.op c.args.parts.now r.0.items r.1.items)) c.in-Some.is c.in_ok-left.ensures in
-    let z = compared c.args.terms.now c.args.op c.args.parts.now c.in-Some.left.items c.in-Some.right.items x c.requires.suits in (
+    let x = subst (λ o. IfSome o (λ r. AreRecords c.args.terms.now c.args.op.now c.args.parts.now r.0.items r.1.items)) c.in-Some.is c.in_ok-left.ensures in
+    let z = compared c.args.terms.now c.args.op.now c.args.parts.now c.in-Some.left.items c.in-Some.right.items x c.requires.suits in (
       omega arith,
       (rw c.deref.ensures.value x.first.applied.there, (rw c.deref-2.ensures.value x.second.applied.there, rw (c.deref.ensures.value, c.deref-2.ensures.value) z.alike)),
     )
@@ -32,13 +32,13 @@ made-put-requires-clause-there t c = rw c.from_vec.ensures (equal_there c.equali
 
 pub made-put-requires-clause-suits : goal.made-put-requires-clause-suits
 made-put-requires-clause-suits t c =
-    let x = subst (λ o. IfSome o (λ r. AreRecords c.args.terms.now c.args.op c.args.parts.now r.0.items r.1.items)) c.in-Some.is c.in_ok-left.ensures in
+    let x = subst (λ o. IfSome o (λ r. AreRecords c.args.terms.now c.args.op.now c.args.parts.now r.0.items r.1.items)) c.in-Some.is c.in_ok-left.ensures in
     rw c.from_vec.ensures (equal_suits c.equalities.new.terms c.args.terms.now c.in_ok-equal.equal.items c.deref.result.now c.deref-2.result.now (omega (arith, x.some, ap length c.deref.ensures.value)) c.in_ok-equal.ensures.equal)
 
 pub made-returns-clause-rebuilt : goal.made-returns-clause-rebuilt
 made-returns-clause-rebuilt t c =
-    let x = subst (λ o. IfSome o (λ r. AreRecords c.args.terms.now c.args.op c.args.parts.now r.0.items r.1.items)) c.in-Some.is c.in_ok-left.ensures in
-    call_records c.args.terms.now c.equalities.new.terms c.put.new.terms c.args.op c.args.parts.now c.in-Some.left.items c.in-Some.right.items c.in_ok-equal.equal.items c.deref.result.now c.deref-2.result.now c.from_vec.result c.put.result
+    let x = subst (λ o. IfSome o (λ r. AreRecords c.args.terms.now c.args.op.now c.args.parts.now r.0.items r.1.items)) c.in-Some.is c.in_ok-left.ensures in
+    call_records c.args.terms.now c.equalities.new.terms c.put.new.terms c.args.op.now c.args.parts.now c.in-Some.left.items c.in-Some.right.items c.in_ok-equal.equal.items c.deref.result.now c.deref-2.result.now c.from_vec.result c.put.result
     c.requires.suits x c.deref.ensures.value c.deref-2.ensures.value c.from_vec.ensures c.in_ok-equal.ensures.equal c.put.ensures.rebuilt
 
 pub equalities-rebuilt-requires : goal.equalities-rebuilt-requires

@@ -1,5 +1,5 @@
 use Rattle.std.proofs.Common.{arith, ◌<◌, length}
-use Rattle.uc_simplify.proofs.Standing.{AllAnswered-push, all_parts_known}
+use Rattle.uc_simplify.proofs.Standing.{Grows-trans, AllAnswered-push, all_parts_known}
 use Rattle.uc_simplify.proofs.simplifier.all_standing.Goals as goal
 
 pub answer_from-requires-clause-answered : goal.answer_from-requires-clause-answered
@@ -15,3 +15,12 @@ loop-place-preserved c =
           c.answer_from.ensures.grown c.in_ok-answer.ensures.stands c.in_ok-push.ensures.items c.loop-place.invariant.answered;
       well = c.answer_from.ensures.well;
     }
+
+pub returns-in_err-answer-clause-grown : goal.returns-in_err-answer-clause-grown
+returns-in_err-answer-clause-grown c = Grows-trans _ _ _ c.loop-place.invariant.answered.grown c.answer_from.ensures.grown
+
+pub returns-in_err-push-clause-grown : goal.returns-in_err-push-clause-grown
+returns-in_err-push-clause-grown c = Grows-trans _ _ _ c.loop-place.invariant.answered.grown c.answer_from.ensures.grown
+
+pub returns-clause-grown : goal.returns-clause-grown
+returns-clause-grown c = c.loop-place.invariant.answered.grown
