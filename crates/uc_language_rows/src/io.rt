@@ -3,6 +3,7 @@ ghost use Rattle.uc_io.specs.Faults.{Rose};
 ghost use Rattle.uc_io.specs.Sink.{GrewByFront};
 
 use std::alloc::{AllocError, Global};
+use std::process::Abort;
 use std::test::Fail;
 use uc_io::{MemSink, MemTexts, ReadError, Sink, Texts, read_all, write_whole};
 
@@ -50,19 +51,39 @@ fn texts(alloc: Global, piece: usize, fails: &[u64]) -> Result<MemTexts, AllocEr
 
 const LETTERS: &str = "abcdefghijklmnopqrstuvwxyz";
 
-#[test]
-fn a_text_comes_whole_in_pieces(rt: HostRuntime) -> Result<(), Fail> {
-    let alloc = rt.alloc();
-    for (piece, limit) in [(1, 26), (10, 26), (26, 27), (100, u64::MAX)] {
-        let text = read_all(alloc, &mut texts(alloc, piece, &[])?, "letters", limit)?;
-        assert_eq!(rt; text.as_slice(), LETTERS.as_bytes(), "in pieces of {piece}");
-    }
+/// The letters, read in pieces.
+fn letters(alloc: Global, piece: usize, fails: &[u64], limit: u64) -> Result<Vec<u8>, ReadError>
+    requires { 1 ≤ piece }
+{
+    let mut texts = texts(alloc, piece, fails)?;
+    read_all(alloc, &mut texts, "letters", limit)
+}
+
+fn check_letters(rt: &impl Abort, alloc: Global, piece: usize, limit: u64) -> Result<(), ReadError>
+    requires { 1 ≤ piece }
+{
+    let text = letters(alloc, piece, &[], limit)?;
+    assert_eq!(rt; text.as_slice(), LETTERS.as_bytes(), "in pieces of {piece}");
     Ok(())
 }
 
 #[test]
-fn each_refusal_has_its_cause(rt: HostRuntime) -> Result<(), Fail> {
-    let alloc = rt.alloc();
+fn a_text_comes_whole_in_pieces(rt: HostRuntime) -> Result<(), Fail> {
+    for (piece, limit) in [(1, 26), (10, 26), (26, 27), (100, u64::MAX)] {
+        check_letters(&rt, rt.alloc(), piece, limit)?;
+    }
+    Ok(())
+}
+
+/// How many bytes are read of a text in pieces of 10.
+fn length_of(alloc: Global, name: &str, limit: u64) -> Result<usize, ReadError> {
+    let mut texts = texts(alloc, 10, &[])?;
+    let text = read_all(alloc, &mut texts, name, limit)?;
+    Ok(text.len())
+}
+
+#[test]
+fn each_refusal_has_its_cause(rt: HostRuntime) {
     let cases = [
         ("letters", 25, Err(ReadError::TooLong)),
         ("letters", 0, Err(ReadError::TooLong)),
@@ -72,10 +93,18 @@ fn each_refusal_has_its_cause(rt: HostRuntime) -> Result<(), Fail> {
         ("letters", 26, Ok(26)),
     ];
     for (name, limit, wanted) in cases {
-        let read = read_all(alloc, &mut texts(alloc, 10, &[])?, name, limit);
-        assert_eq!(rt; read.map(|text| text.len()), wanted, "{name} up to {limit}");
+        assert_eq!(rt;
+            length_of(rt.alloc(), name, limit),
+            wanted,
+            "{name} up to {limit}"
+        );
     }
-    Ok(())
+}
+
+/// How many letters are read in pieces of 10, where a call fails.
+fn letters_but(alloc: Global, call: u64) -> Result<usize, ReadError> {
+    let text = letters(alloc, 10, &[call], 100)?;
+    Ok(text.len())
 }
 
 #[test]
@@ -83,35 +112,48 @@ fn a_text_fails_at_each_of_its_reads_in_turn(rt: HostRuntime) -> Result<(), Fail
     let alloc = rt.alloc();
     // One call opens it, three give 10, 10 and 6 bytes, and one finds the end.
     for call in 0..5 {
-        let read = read_all(alloc, &mut texts(alloc, 10, &[call])?, "letters", 100);
         assert_eq!(rt;
-            read.map(|text| text.len()),
+            letters_but(alloc, call),
             Err(ReadError::ReadFault),
             "at call {call}"
         );
     }
-    let read = read_all(alloc, &mut texts(alloc, 10, &[5, 6])?, "letters", 100)?;
+    let read = letters(alloc, 10, &[5, 6], 100)?;
     assert_eq!(rt; read.as_slice(), LETTERS.as_bytes());
+    Ok(())
+}
+
+/// Copies the letters, in pieces of 7 bytes.
+fn copy_letters(alloc: Global, sink: &mut MemSink) -> Result<Copied, AllocError> {
+    let mut texts = texts(alloc, 7, &[])?;
+    Ok(copy(alloc, &mut texts, "letters", sink))
+}
+
+/// Copies to a sink that fails at a call.
+fn check_copy(
+    rt: &impl Abort,
+    alloc: Global,
+    call: u64,
+    wanted: Copied,
+    front: &[u8],
+) -> Result<(), AllocError> {
+    let mut sink = MemSink::new(alloc, 10, vec![in alloc; call]?);
+    let copied = copy_letters(alloc, &mut sink)?;
+    assert_eq!(rt; copied, wanted, "at call {call}");
+    assert_eq!(rt; sink.bytes(), front, "at call {call}");
     Ok(())
 }
 
 #[test]
 fn a_sink_fails_at_each_of_its_writes_in_turn(rt: HostRuntime) -> Result<(), Fail> {
-    let alloc = rt.alloc();
     for (call, taken) in [(0, 0), (1, 10), (2, 20), (3, 26)] {
-        let mut sink = MemSink::new(alloc, 10, vec![in alloc; call]?);
-        let copied = copy(alloc, &mut texts(alloc, 7, &[])?, "letters", &mut sink);
         let wanted = if call < 3 {
             Copied::NotWritten
         } else {
             Copied::Whole
         };
-        assert_eq!(rt; copied, wanted, "at call {call}");
-        assert_eq!(rt;
-            sink.bytes(),
-            LETTERS.as_bytes().get(..taken).ok_or("26 letters")?,
-            "at call {call}"
-        );
+        let front = LETTERS.as_bytes().get(..taken).ok_or("26 letters")?;
+        check_copy(&rt, rt.alloc(), call, wanted, front)?;
     }
     Ok(())
 }

@@ -26,10 +26,7 @@ fn check_case(rt: &impl Abort, text: &[u8], kinds: &[TokenKind], fault: Option<(
     assert!(rt; text.len() <= MAX_TEXT);
     let mut lexer = Lexer::new(7, text);
     for kind in kinds {
-        match lexer.next() {
-            Ok(Some(token)) => assert_eq!(rt; token.kind, *kind, "in {text:?}"),
-            _ => panic!(rt; "a token is missing in {text:?}"),
-        }
+        check_next(rt, text, lexer.next(), *kind);
     }
     let end = match fault {
         Some((fault, col)) => Err(fault_at(fault, 1, col)),
@@ -37,6 +34,18 @@ fn check_case(rt: &impl Abort, text: &[u8], kinds: &[TokenKind], fault: Option<(
     };
     assert_eq!(rt; lexer.next(), end, "behind {text:?}");
     assert_eq!(rt; lexer.next(), end, "behind {text:?} once more");
+}
+
+fn check_next(
+    rt: &impl Abort,
+    text: &[u8],
+    next: Result<Option<Token>, LexFault>,
+    kind: TokenKind,
+) {
+    match next {
+        Ok(Some(token)) => assert_eq!(rt; token.kind, kind, "in {text:?}"),
+        _ => panic!(rt; "a token is missing in {text:?}"),
+    }
 }
 
 const CASES: [Case; 53] = [
@@ -270,11 +279,15 @@ const CASES: [Case; 53] = [
     (b" \t\r\n", &[], None),
 ];
 
+fn check_cases(rt: &impl Abort, cases: &[Case]) {
+    for &(text, kinds, fault) in cases {
+        check_case(rt, text, kinds, fault);
+    }
+}
+
 #[test]
 fn each_token_and_its_neighbours(rt: HostRuntime) {
-    for (text, kinds, fault) in CASES {
-        check_case(&rt, text, kinds, fault);
-    }
+    check_cases(&rt, &CASES);
 }
 
 #[test]

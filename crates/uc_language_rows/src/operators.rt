@@ -5,6 +5,7 @@ ghost use Rattle.uc_values.specs.Values.{width_in};
 ghost use Rattle.uc_operators.specs.Words.{IsWord, total_width};
 
 use std::alloc::Global;
+use std::process::Abort;
 use uc_items::Items;
 use uc_meaning::{Wide, WideOp};
 use uc_operators::{BitOperator, EvalError, bitwise, concatenated, multiplied, summed};
@@ -33,20 +34,43 @@ fn sign(is_minus: bool) -> SumSign {
     SumSign { place, is_minus }
 }
 
+fn difference(alloc: Global) -> Result<Value, EvalError> {
+    let numbers = two(alloc, Value::Int(5), Value::Int(7))?;
+    summed(alloc, &[sign(true)], numbers.as_slice())
+}
+
+/// The words 12 and 10 of 4 bits.
+fn words(alloc: Global) -> Result<Items<Value>, EvalError>
+    ensures words { IfOk result (All IsWord) }
+    ensures width { IfOk result (λ vs. total_width vs ≡ 8) }
+{
+    two(alloc, Value::Bv(4, 12), Value::Bv(4, 10))
+}
+
+fn is_number(value: Value, number: i128) -> bool {
+    value == Value::Int(number)
+}
+
+fn is_word(value: Value, width: u8, bits: u64) -> bool {
+    value == Value::Bv(width, bits)
+}
+
+fn check_words(rt: &impl Abort, alloc: Global, words: &[Value]) -> Result<(), EvalError>
+    requires words { All IsWord words.now }
+    requires width { total_width words.now ≡ 8 }
+{
+    assert!(rt; is_word(multiplied(alloc, words)?, 4, 8));
+    assert!(rt; is_word(concatenated(alloc, words)?, 8, 202));
+    assert!(rt; is_word(bitwise(alloc, BitOperator::Xor, words)?, 4, 6));
+    Ok(())
+}
+
 #[test]
 fn operators_give_the_defined_values(rt: HostRuntime) -> Result<(), EvalError> {
     let alloc = rt.alloc();
-    let numbers = two(alloc, Value::Int(5), Value::Int(7))?;
-    let difference = summed(alloc, &[sign(true)], numbers.as_slice())?;
-    assert!(rt; difference == Value::Int(-2));
-    let words = two(alloc, Value::Bv(4, 12), Value::Bv(4, 10))?;
-    let product = multiplied(alloc, words.as_slice())?;
-    assert!(rt; product == Value::Bv(4, 8));
-    let joined = concatenated(alloc, words.as_slice())?;
-    assert!(rt; joined == Value::Bv(8, 202));
-    let either = bitwise(alloc, BitOperator::Xor, words.as_slice())?;
-    assert!(rt; either == Value::Bv(4, 6));
-    Ok(())
+    assert!(rt; is_number(difference(alloc)?, -2));
+    let words = words(alloc)?;
+    check_words(&rt, alloc, words.as_slice())
 }
 
 #[test]

@@ -1,9 +1,10 @@
 use std::alloc::{AllocError, Global};
 use std::process::Abort;
 use std::test::Fail;
+use uc_items::Items;
 use uc_lexer::{MAX_TEXT, tokens};
 use uc_parser::{MAX_NAMES, ParseError, parse};
-use uc_syntax::Names;
+use uc_syntax::{Module, Names};
 
 /// What a text is answered.
 #[derive(Clone, Copy, Debug, PartialEq, Eq)]
@@ -28,11 +29,19 @@ fn parsed(alloc: Global, text: &[u8]) -> Answer {
         return NoTokens;
     };
     let mut names = Names::new(alloc);
-    match parse(alloc, &mut names, 0, text, tokens.as_slice()) {
-        Ok(modules) => match modules.get(0) {
-            None => Read(modules.len(), 0),
-            Some(first) => Read(modules.len(), first.decls.len()),
-        },
+    answered(parse(alloc, &mut names, 0, text, tokens.as_slice()))
+}
+
+fn sizes(modules: &[Module]) -> Answer {
+    match modules.first() {
+        None => Read(modules.len(), 0),
+        Some(first) => Read(modules.len(), first.decls.len()),
+    }
+}
+
+fn answered(read: Result<Items<Module>, ParseError>) -> Answer {
+    match read {
+        Ok(modules) => sizes(modules.as_slice()),
         Err(ParseError::NoMemory) => NoMemory,
         Err(ParseError::Syntax(place)) => Syntax(place.line, place.col),
         Err(ParseError::TooDeep(place)) => TooDeep(place.line, place.col),
@@ -174,12 +183,15 @@ const ROWS: [(&[u8], Answer); 61] = [
     (b"module m { type t = ; }", Syntax(1, 21)),
 ];
 
-#[test]
-fn texts_are_read_or_refused_at_their_place(rt: HostRuntime) {
-    let alloc = rt.alloc();
-    for (text, expected) in ROWS {
+fn check_rows(rt: &impl Abort, alloc: Global, rows: &[(&[u8], Answer)]) {
+    for &(text, expected) in rows {
         assert_eq!(rt; parsed(alloc, text), expected, "{text:?}");
     }
+}
+
+#[test]
+fn texts_are_read_or_refused_at_their_place(rt: HostRuntime) {
+    check_rows(&rt, rt.alloc(), &ROWS);
 }
 
 /// A text with a part again and again.
@@ -199,7 +211,9 @@ fn repeated(
 }
 
 /// A part that stands so many times between a front and a back, and the answer.
-const LONG_ROWS: [(&[u8], &[u8], u32, &[u8], Answer); 9] = [
+type LongRow = (&'static [u8], &'static [u8], u32, &'static [u8], Answer);
+
+const LONG_ROWS: [LongRow; 9] = [
     (
         b"module m { axiom true",
         b" && true",
@@ -247,12 +261,16 @@ const LONG_ROWS: [(&[u8], &[u8], u32, &[u8], Answer); 9] = [
     ),
 ];
 
-#[test]
-fn long_texts_are_read_or_refused(rt: HostRuntime) -> Result<(), Fail> {
-    let alloc = rt.alloc();
-    for (front, part, times, back, expected) in LONG_ROWS {
+fn check_long(rt: &impl Abort, alloc: Global, rows: &[LongRow]) -> Result<(), AllocError> {
+    for &(front, part, times, back, expected) in rows {
         let text = repeated(alloc, front, part, times, back)?;
         assert_eq!(rt; parsed(alloc, &text), expected);
     }
+    Ok(())
+}
+
+#[test]
+fn long_texts_are_read_or_refused(rt: HostRuntime) -> Result<(), Fail> {
+    check_long(&rt, rt.alloc(), &LONG_ROWS)?;
     Ok(())
 }

@@ -1,6 +1,8 @@
+use std::alloc::{AllocError, Global};
+use std::process::Abort;
 use std::test::Fail;
-use uc_grammar::Kind;
 use uc_grammar::Kind::*;
+use uc_grammar::{Kind, Word};
 use uc_lexer::{LexError, LexFault, Place};
 use uc_syntax::{BitFunction, Names};
 use uc_words::words_of_text;
@@ -116,26 +118,30 @@ const KINDS: [Kind; 100] = [
     KwWhile,
 ];
 
-#[test]
-fn each_kind_of_word(rt: HostRuntime) -> Result<(), Fail> {
-    let alloc = rt.alloc();
-    let mut names = Names::new(alloc);
-    names.intern(alloc, b"m.ucl".as_slice())?;
-    let words = words_of_text(alloc, &mut names, 3, TEXT).expect(&rt, "words");
-    assert_eq!(rt; words.len(), KINDS.len());
-    for (word, kind) in words.iter().zip(KINDS) {
-        assert_eq!(rt; word.kind, kind);
+fn check_kinds(rt: &impl Abort, words: &[Word], kinds: &[Kind]) {
+    assert_eq!(rt; words.len(), kinds.len());
+    for (word, kind) in words.iter().zip(kinds.iter()) {
+        assert_eq!(rt; word.kind, *kind);
     }
+}
+
+fn check_all(rt: &impl Abort, alloc: Global, names: &mut Names) -> Result<(), AllocError> {
+    names.intern(alloc, b"m.ucl".as_slice())?;
+    let words = words_of_text(alloc, names, 3, TEXT).expect(rt, "words");
+    check_kinds(rt, words.as_slice(), &KINDS);
     assert_eq!(rt; names.len(), 16);
     Ok(())
 }
 
 #[test]
-fn a_second_text_keeps_the_numbers(rt: HostRuntime) -> Result<(), Fail> {
+fn each_kind_of_word(rt: HostRuntime) -> Result<(), Fail> {
     let alloc = rt.alloc();
     let mut names = Names::new(alloc);
-    let first = words_of_text(alloc, &mut names, 0, b"check a").expect(&rt, "two words");
-    let second = words_of_text(alloc, &mut names, 1, b"b\n  a").expect(&rt, "two words");
+    check_all(&rt, alloc, &mut names)?;
+    Ok(())
+}
+
+fn check_two(rt: &impl Abort, first: &[Word], second: &[Word]) {
     assert_eq!(rt; first.len(), 2);
     assert_eq!(rt; second.len(), 2);
     let word = second[1];
@@ -146,7 +152,16 @@ fn a_second_text_keeps_the_numbers(rt: HostRuntime) -> Result<(), Fail> {
         col: 3,
     };
     assert_eq!(rt; word.place, place);
-    let fault = words_of_text(alloc, &mut names, 1, b"c #");
+}
+
+fn check_texts(rt: &impl Abort, alloc: Global, names: &mut Names) {
+    let first = words_of_text(alloc, names, 0, b"check a").expect(rt, "two words");
+    let second = words_of_text(alloc, names, 1, b"b\n  a").expect(rt, "two words");
+    check_two(rt, first.as_slice(), second.as_slice());
+}
+
+fn check_fault(rt: &impl Abort, alloc: Global, names: &mut Names) {
+    let fault = words_of_text(alloc, names, 1, b"c #");
     let place = Place {
         file: 1,
         line: 1,
@@ -156,6 +171,13 @@ fn a_second_text_keeps_the_numbers(rt: HostRuntime) -> Result<(), Fail> {
         fault.err(),
         Some(LexError::Fault(LexFault::BadByte(place)))
     );
+}
+
+#[test]
+fn a_second_text_keeps_the_numbers(rt: HostRuntime) {
+    let alloc = rt.alloc();
+    let mut names = Names::new(alloc);
+    check_texts(&rt, alloc, &mut names);
+    check_fault(&rt, alloc, &mut names);
     assert_eq!(rt; names.len(), 3);
-    Ok(())
 }
