@@ -1,5 +1,5 @@
 -- The types of the rows are valid, and suit the operations.
-use Rattle.std.specs.Prelude.{◌≡◌, ℕ, ℤ, ◌<◌, ◌^◌, Bool as Truth, true, ◌&&◌, [], ◌∷◌}
+use Rattle.std.specs.Prelude.{◌≡◌, ℕ, ℤ, ◌<◌, ◌^◌, Bool as Truth, true, ◌&&◌, List, [], ◌∷◌, Option, Some, None, IfSome}
 use Rattle.std.proofs.Common.{refl, ap, ◌∙◌, subst, sym, arith}
 use Rattle.uc_values.specs.Types.{is_flat}
 use Rattle.uc_values.specs.declared.ty.Ty.{Ty}
@@ -9,7 +9,8 @@ use Rattle.uc_values.proofs.Shapes.{valid-Bool, valid-Int, valid-Bv, valid-Arr, 
 use Rattle.uc_values.proofs.Fitting.{Truth-fits, Int-fits, fits-IsBits}
 use Rattle.uc_ops.specs.declared.op.Op.{Op}
 use Rattle.uc_ops.specs.declared.op.Op.TheVariants.{Symbol, Const, Eq, Ite, Select, Store, MkRec, GetField}
-use Rattle.uc_ops.specs.Typing.{Suits, Valid}
+use Rattle.uc_ops.specs.declared.node.Node.{Node}
+use Rattle.uc_ops.specs.Typing.{Suits, Valid, type_at}
 use Rattle.uc_simplify_rows.specs.Types.{array_of_bytes, two_fields, pair_of_bytes}
 
 flat_byte : is_flat (Bv 8) ≡ true
@@ -42,11 +43,13 @@ byte_suits n h = (refl, valid-Bv 8, refl, fits-IsBits 8 n h)
 pub wide_suits : (n : ℕ) → n < 2 ^ 16 → Suits (Const (Bv 16) (Bits 16 n)) []
 wide_suits n h = (refl, valid-Bv 16, refl, fits-IsBits 16 n h)
 
-pub one_suits : (op : Op) (s t : Ty) → Suits op (s ∷ []) → t ≡ s → Suits op (t ∷ [])
-one_suits op s t h e = subst (λ u. Suits op (u ∷ [])) (sym e) h
+pub one_suits : (op : Op) (s : Ty) (nodes : List Node) (part : Option ℕ) → Suits op (s ∷ []) → IfSome part (λ p. type_at nodes p ≡ s) → IfSome part (λ p. Suits op (type_at nodes p ∷ []))
+one_suits op s nodes None h e = tt
+one_suits op s nodes (Some p) h e = subst (λ u. Suits op (u ∷ [])) (sym e) h
 
-pub two_suit : (op : Op) (s t u v : Ty) → Suits op (s ∷ t ∷ []) → u ≡ s → v ≡ t → Suits op (u ∷ v ∷ [])
-two_suit op s t u v h e f = subst (λ x. Suits op (x ∷ v ∷ [])) (sym e) (subst (λ y. Suits op (s ∷ y ∷ [])) (sym f) h)
+pub two_suit : (op : Op) (s t : Ty) (nodes : List Node) (parts : Option (ℕ × ℕ)) → Suits op (s ∷ t ∷ []) → IfSome parts (λ r. type_at nodes r.0 ≡ s) → IfSome parts (λ r. type_at nodes r.1 ≡ t) → IfSome parts (λ r. Suits op (type_at nodes r.0 ∷ type_at nodes r.1 ∷ []))
+two_suit op s t nodes None h e f = tt
+two_suit op s t nodes (Some r) h e f = subst (λ x. Suits op (x ∷ type_at nodes r.1 ∷ [])) (sym e) (subst (λ y. Suits op (s ∷ y ∷ [])) (sym f) h)
 
 pub alike_suit : (s t : Ty) → s ≡ t → Suits Eq (s ∷ t ∷ [])
 alike_suit s t e = (t, ap (λ u. u ∷ t ∷ []) e)

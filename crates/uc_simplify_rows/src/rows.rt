@@ -160,11 +160,16 @@ const PLACES: [Row; 5] = [
 /// Whether a term is simplified to the other.
 fn holds(alloc: Global, row: &Row) -> Result<bool, AllocError> {
     let mut terms = Terms::new(alloc)?;
-    let Some(before) = built(&mut terms, alloc, row.0)? else {
+    holds_among(alloc, &mut terms, row)
+}
+
+/// Whether it is where both are made among these terms.
+fn holds_among(alloc: Global, terms: &mut Terms, row: &Row) -> Result<bool, AllocError> {
+    let Some(before) = built(terms, alloc, row.0)? else {
         return Ok(false);
     };
-    let answer = simplify(alloc, &mut terms, before)?;
-    let Some(after) = built(&mut terms, alloc, row.1)? else {
+    let answer = simplify(alloc, terms, before)?;
+    let Some(after) = built(terms, alloc, row.1)? else {
         return Ok(false);
     };
     Ok(answer == after)
