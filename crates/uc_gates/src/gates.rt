@@ -53,6 +53,13 @@ impl Gates {
     pub fn into_circuit(self, alloc: Global) -> Result<Circuit, AllocError>
         ensures { IfOk result (λ c. c ≡ nodes_of self) }
     {
+        self.circuit(alloc)
+    }
+
+    /// The inputs, and then the gates.
+    fn circuit(&self, alloc: Global) -> Result<Circuit, AllocError>
+        ensures { IfOk result (λ c. c ≡ nodes_of self.now) }
+    {
         let mut circuit = Circuit::new(alloc)?;
         for _input in 0..self.inputs {
             circuit.add_input()?;

@@ -1,5 +1,5 @@
 use Rattle.std.specs.Prelude.{◌≡◌, ◌++◌, None, Some, map, replicate, take}
-use Rattle.uc_gates.proofs.gates.Gates.into_circuit.Given as goal
+use Rattle.uc_gates.proofs.gates.Gates.circuit.Given as goal
 
 abbrev pub invariant-loop-input : goal.invariant-loop-input
 invariant-loop-input l = l.circuit ≡ replicate l._input None
