@@ -184,11 +184,11 @@ pub position_is : (values : List Value) (s : SymState) (cells choices : List Val
     → record { cells = cells; choices = choices; sites = sites } ≡ position_read values s
 position_is values s cells choices sites a b c = λ i. record { cells = a i; choices = b i; sites = c i }
 
-pub trace_is : (f : Flat) (nodes : List Node) (goal n k : ℕ) (states : List SymState) (constants own vs all : List Value) (ts others : List ℕ) (m : Model) (positions : List FlatPosition)
+pub trace_is : (f : Flat) (nodes : List Node) (goal n : ℕ) (states : List SymState) (constants own vs all : List Value) (ts others : List ℕ) (m : Model) (positions : List FlatPosition)
     → FitAll (constant_types f) constants → own ≡ constants → BeginsWith own m → n ≡ length nodes → AreNumbers n ts → others ≡ ts → vs ≡ values_at m nodes others → all ≡ vs
-    → goal < length nodes → truth_of (part all goal) ≡ true → positions ≡ map (position_read all) (take k states) → length states ≤ k
+    → goal < length nodes → truth_of (part all goal) ≡ true → positions ≡ map (position_read all) states
     → IsTraceOf f nodes goal states (record { constants = constants; positions = positions })
-trace_is f nodes goal n k states constants own vs all ts others m positions fit i b j a e v g l t p h =
+trace_is f nodes goal n states constants own vs all ts others m positions fit i b j a e v g l t p =
     let are : AreValues m nodes all = subst (AreValues m nodes) (sym g) (values_are m nodes n ts others vs j a e v) in
     record {
       model = m;
@@ -196,7 +196,7 @@ trace_is f nodes goal n k states constants own vs all ts others m positions fit 
       constants = record { fit = fit; others = b.others; symbols = b.symbols ∙ ap (λ ws. ws ++ b.others) i };
       are = are;
       goal_true = ap truth_of (sym (are goal l)) ∙ t;
-      positions = p ∙ ap (map (position_read all)) (take_all k states h);
+      positions = p;
     }
 
 record Mapped (values : List Value) (states : List SymState) (k : ℕ) (p : FlatPosition) : Type 0 where

@@ -22,7 +22,6 @@ use uc_symstep::{SymState, sym_formula};
 use uc_terms::{TermId, Terms};
 
 /// A term that is true where every axiom is.
-#[tactic(auto, using(uc_symstep::proofs::Grown::grows_on))]
 pub(crate) fn axioms_term(terms: &mut Terms, alloc: Global, f: &Flat) -> Result<TermId, AllocError>
     requires sound { IsSound f.now }
     ensures ok { IfOk result (λ t. IsTerm terms.old terms.new t Bool (λ m. Truth (axioms_hold f.now m))) }

@@ -39,11 +39,7 @@ pub(crate) fn trace_of(
     if !is_true(all_values, goal) {
         return Err(LinearError::NoMemory);
     }
-    let mut positions = Items::new(alloc);
-    for state in states {
-        let position = position(alloc, all_values, state)?;
-        positions.push(position)?;
-    }
+    let positions = positions(alloc, all_values, states)?;
     Ok(FlatTrace {
         constants,
         positions,
@@ -108,6 +104,22 @@ fn all_terms(alloc: Global, count: u32) -> Result<Items<TermId>, AllocError>
         all.push(term)?;
     }
     Ok(all)
+}
+
+/// The positions of states, given the value of each term.
+fn positions(
+    alloc: Global,
+    values: &[Value],
+    states: &[SymState],
+) -> Result<Items<FlatPosition>, AllocError>
+    ensures { IfOk result (λ ps. ps ≡ map (position_read values.now) states.now) }
+{
+    let mut positions = Items::new(alloc);
+    for state in states {
+        let position = position(alloc, values, state)?;
+        positions.push(position)?;
+    }
+    Ok(positions)
 }
 
 /// The position of a state, given the value of each term.

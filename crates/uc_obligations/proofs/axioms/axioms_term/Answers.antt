@@ -6,6 +6,7 @@ use Rattle.uc_symstep.specs.declared.state.SymState.{SymState}
 use Rattle.uc_symstep.specs.Known.{IsKnown}
 use Rattle.uc_symstep.proofs.Known.{known_grows}
 use Rattle.uc_obligations.proofs.Knowing.{axiom_read}
+use Rattle.uc_symstep.proofs.Grown.{grows_on}
 use Rattle.uc_obligations.proofs.axioms.axioms_term.Goals as goal
 
 pub sym_formula-requires-clause-copies : goal.sym_formula-requires-clause-copies
@@ -28,3 +29,12 @@ loop-place-preserved c = record {
 
 pub returns-clause-known : goal.returns-clause-known
 returns-clause-known c = c.loop-place.invariant.known
+
+pub returns-in_err-one-clause-grown : goal.returns-in_err-one-clause-grown
+returns-in_err-one-clause-grown c = grows_on _ _ _ c.loop-place.invariant.term.grown c.in_err-one.ensures.grown
+
+pub returns-in_err-all-2-clause-grown : goal.returns-in_err-all-2-clause-grown
+returns-in_err-all-2-clause-grown c = grows_on _ _ _ c.loop-place.invariant.term.grown (grows_on _ _ _ c.in_ok-one.ensures.grown c.in_err-all-2.ensures.grown)
+
+pub returns-clause-grown : goal.returns-clause-grown
+returns-clause-grown c = c.loop-place.invariant.term.grown

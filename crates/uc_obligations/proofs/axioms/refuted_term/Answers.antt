@@ -35,3 +35,15 @@ returns-clause-known c = λ supply next reads axioms last.
     let grown = grows_on _ _ _ c.in_ok-condition.ensures.grown c.in_ok-fails.ensures.grown in
     let broken = c.in_ok-broken.ensures.known supply (known_grows supply _ _ grown _ last.path) (c.in_ok-fails.ensures.known supply truth) in
     c.in_ok-all.ensures.known supply (known_grows supply _ _ (grows_on _ _ _ grown c.in_ok-broken.ensures.grown) _ axioms) broken
+
+pub returns-in_err-fails-clause-grown : goal.returns-in_err-fails-clause-grown
+returns-in_err-fails-clause-grown c = grows_on _ _ _ c.in_ok-condition.ensures.grown c.in_err-fails.ensures.grown
+
+pub returns-in_err-broken-clause-grown : goal.returns-in_err-broken-clause-grown
+returns-in_err-broken-clause-grown c = grows_on _ _ _ c.in_ok-condition.ensures.grown (grows_on _ _ _ c.in_ok-fails.ensures.grown c.in_err-broken.ensures.grown)
+
+pub returns-in_err-all-clause-grown : goal.returns-in_err-all-clause-grown
+returns-in_err-all-clause-grown c = grows_on _ _ _ c.in_ok-condition.ensures.grown (grows_on _ _ _ c.in_ok-fails.ensures.grown (grows_on _ _ _ c.in_ok-broken.ensures.grown c.in_err-all.ensures.grown))
+
+pub returns-clause-grown : goal.returns-clause-grown
+returns-clause-grown c = grows_on _ _ _ c.in_ok-condition.ensures.grown (grows_on _ _ _ c.in_ok-fails.ensures.grown (grows_on _ _ _ c.in_ok-broken.ensures.grown c.in_ok-all.ensures.grown))
