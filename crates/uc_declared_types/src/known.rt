@@ -6,10 +6,11 @@ ghost use Rattle.uc_name_table.specs.Senses.{module_in};
 ghost use Rattle.uc_rules.specs.Faults.{first_of};
 ghost use Rattle.uc_rules.specs.Expressions.{enum_of};
 ghost use Rattle.uc_rules.specs.Types.{type_faults, type_of};
-ghost use Rattle.uc_declared_types.specs.Aliases.{KnowsAliases};
+ghost use Rattle.uc_declared_types.specs.Aliases.{Agrees, Below, KnowsAliases, read_to_end};
 
 use crate::aliases::AliasTypes;
 use crate::counts::{label_counts, number_at};
+use crate::holding::beside;
 use crate::listed::aliases_of;
 use crate::named::word;
 use crate::needs::in_order;
@@ -58,7 +59,8 @@ impl<'a> KnownTypes<'a> {
         let count = system.modules.len();
         let counts = label_counts(alloc, system.modules)?;
         let homes = TypeHomes::of(alloc, system)?;
-        let aliases = read_aliases_of(alloc, &homes, count)?;
+        let aliases = read_aliases_of(alloc, &homes, count);
+        let ((counts, homes), aliases) = beside((counts, homes), aliases)?;
         Ok(KnownTypes {
             homes,
             aliases,
@@ -120,10 +122,23 @@ fn read_aliases_of(
 ) -> Result<AliasTypes, AllocError>
     ensures { IfOk result (λ t. length homes.now.modules ≤ count → KnowsAliases homes.now t) }
 {
+    let mut aliases = AliasTypes::new(alloc);
+    read_declared(alloc, homes, count, &mut aliases)?;
+    Ok(aliases)
+}
+
+/// Reads the aliases that the first so many modules of a design declare.
+fn read_declared(
+    alloc: Global,
+    homes: &TypeHomes<'_>,
+    count: usize,
+    aliases: &mut AliasTypes,
+) -> Result<(), AllocError>
+    ensures { OnOk result (Agrees Below homes.now aliases.old (read_to_end homes.now) → length homes.now.modules ≤ count → KnowsAliases homes.now aliases.new) }
+{
     let listed = aliases_of(alloc, homes, count)?;
     let ordered = in_order(alloc, homes, listed.as_slice())?;
-    let mut aliases = AliasTypes::new(alloc);
-    read_aliases(alloc, homes, &mut aliases, ordered.as_slice())?;
-    read_all(alloc, homes, &mut aliases, listed)?;
-    Ok(aliases)
+    read_aliases(alloc, homes, aliases, ordered.as_slice())?;
+    read_all(alloc, homes, aliases, listed)?;
+    Ok(())
 }

@@ -4,6 +4,7 @@
 mod aliases;
 mod counts;
 mod fields;
+mod holding;
 mod known;
 mod listed;
 mod named;

@@ -82,6 +82,35 @@ fn add_field_needs(
     Ok(())
 }
 
+/// What an alias needs of a list.
+fn needs_of(
+    alloc: Global,
+    homes: &TypeHomes<'_>,
+    numbers: &Numbers,
+    declared: DeclaredType,
+) -> Result<Items<usize>, AllocError> {
+    let mut needs = Items::new(alloc);
+    if let Some(ty) = alias_written(homes, declared) {
+        add_needs(homes, numbers, declared.home, ty, &mut needs)?;
+    }
+    Ok(needs)
+}
+
+/// Adds what each alias of a list needs of it.
+fn add_all_needs(
+    alloc: Global,
+    homes: &TypeHomes<'_>,
+    numbers: &Numbers,
+    listed: &[DeclaredType],
+    graph: &mut Items<Items<usize>>,
+) -> Result<(), AllocError> {
+    for declared in listed {
+        let needs = needs_of(alloc, homes, numbers, *declared)?;
+        graph.push(needs)?;
+    }
+    Ok(())
+}
+
 /// What the aliases of a list need of it, by their places.
 fn graph_of(
     alloc: Global,
@@ -90,14 +119,23 @@ fn graph_of(
 ) -> Result<Items<Items<usize>>, AllocError> {
     let numbers = Numbers::of(alloc, listed)?;
     let mut graph = Items::new(alloc);
-    for declared in listed {
-        let mut needs = Items::new(alloc);
-        if let Some(ty) = alias_written(homes, *declared) {
-            add_needs(homes, &numbers, declared.home, ty, &mut needs)?;
-        }
-        graph.push(needs)?;
-    }
+    add_all_needs(alloc, homes, &numbers, listed, &mut graph)?;
     Ok(graph)
+}
+
+/// What stands in a list at some places.
+fn listed_at(
+    alloc: Global,
+    listed: &[DeclaredType],
+    places: &[usize],
+) -> Result<Items<DeclaredType>, AllocError> {
+    let mut found = Items::new(alloc);
+    for place in places {
+        if let Some(declared) = listed.get(*place) {
+            found.push(*declared)?;
+        }
+    }
+    Ok(found)
 }
 
 /// The aliases of a list, each after those that it needs. What leads into a cycle is left out.
@@ -108,11 +146,5 @@ pub(crate) fn in_order(
 ) -> Result<Items<DeclaredType>, AllocError> {
     let graph = graph_of(alloc, homes, listed)?;
     let order = needed_first(alloc, graph.as_slice())?;
-    let mut ordered = Items::new(alloc);
-    for number in order.as_slice() {
-        if let Some(declared) = listed.get(*number) {
-            ordered.push(*declared)?;
-        }
-    }
-    Ok(ordered)
+    listed_at(alloc, listed, order.as_slice())
 }
