@@ -1,9 +1,12 @@
 //! What lies on a cycle in a design.
 
-ghost use Rattle.std.specs.Prelude.{◌≡◌, IfOk};
-ghost use Rattle.uc_cycles.specs.Numbers.{KnowsCycles, flag_at, is_alias_flagged, is_name_flagged};
+ghost use Rattle.std.specs.Prelude.{◌≡◌, ◌≤◌, ℕ, length, map, IfOk};
+ghost use Rattle.uc_graph_cycles.specs.Cycles.{MarksCycles};
+ghost use Rattle.uc_rules.specs.Cycles.{TypeName, alias_steps, instance_steps, on_alias_cycle, on_instance_cycle};
+ghost use Rattle.uc_cycles.specs.Numbers.{KnowsCycles, flag_at, is_alias_flagged, is_name_flagged, key_name, key_of, name_number, name_places, type_number, type_places};
 
 use crate::aliases::{alias_graph, alias_numbers};
+use crate::holding::beside;
 use crate::instances::{instance_graph, module_numbers};
 use crate::names::NameNumbers;
 use crate::types::{TypeKey, TypeNumbers};
@@ -26,18 +29,67 @@ pub fn cycles_of(alloc: Global, homes: &TypeHomes<'_>) -> Result<DesignCycles, A
     ensures { IfOk result (λ c. KnowsCycles homes.now c) }
 {
     let count = homes.design().system().modules.len();
-    let aliases = alias_numbers(alloc, homes, count)?;
-    let graph = alias_graph(alloc, homes, &aliases)?;
-    let alias_flags = on_cycles(alloc, graph.as_slice())?;
-    let modules = module_numbers(alloc, homes, count)?;
-    let graph = instance_graph(alloc, homes, &modules)?;
-    let module_flags = on_cycles(alloc, graph.as_slice())?;
+    let aliases = flagged_aliases(alloc, homes, count)?;
+    let modules = flagged_modules(alloc, homes, count);
+    let ((aliases, alias_flags), (modules, module_flags)) = beside(aliases, modules)?;
     Ok(DesignCycles {
         aliases,
         alias_flags,
         modules,
         module_flags,
     })
+}
+
+/// The aliases of the first so many modules of a design, with those that lie on a cycle.
+fn flagged_aliases(
+    alloc: Global,
+    homes: &TypeHomes<'_>,
+    count: usize,
+) -> Result<(TypeNumbers, Items<bool>), AllocError>
+    ensures { IfOk result (λ r. length homes.now.modules ≤ count → (p : TypeName) → flag_at r.1 (type_number r.0 (key_of p)) ≡ on_alias_cycle homes.now p) }
+{
+    let aliases = alias_numbers(alloc, homes, count)?;
+    let flags = alias_flags(alloc, homes, &aliases);
+    let (aliases, flags) = beside(aliases, flags)?;
+    Ok((aliases, flags))
+}
+
+fn alias_flags(
+    alloc: Global,
+    homes: &TypeHomes<'_>,
+    aliases: &TypeNumbers,
+) -> Result<Items<bool>, AllocError>
+    ensures { IfOk result (λ flags. MarksCycles (map (λ k. type_places aliases.now (alias_steps homes.now (key_name k))) aliases.now.keys) flags) }
+{
+    let graph = alias_graph(alloc, homes, aliases)?;
+    let flags = on_cycles(alloc, graph.as_slice())?;
+    Ok(flags)
+}
+
+/// The first so many modules of a design, with those that lie on a cycle.
+fn flagged_modules(
+    alloc: Global,
+    homes: &TypeHomes<'_>,
+    count: usize,
+) -> Result<(NameNumbers, Items<bool>), AllocError>
+    ensures { IfOk result (λ r. length homes.now.modules ≤ count → (x : ℕ) → flag_at r.1 (name_number r.0 x) ≡ on_instance_cycle homes.now x) }
+{
+    let modules = module_numbers(alloc, homes, count)?;
+    let flags = module_flags(alloc, homes, &modules);
+    let (modules, flags) = beside(modules, flags)?;
+    Ok((modules, flags))
+}
+
+fn module_flags(
+    alloc: Global,
+    homes: &TypeHomes<'_>,
+    modules: &NameNumbers,
+) -> Result<Items<bool>, AllocError>
+    ensures { IfOk result (λ flags. MarksCycles (map (λ x. name_places modules.now (instance_steps homes.now x)) modules.now.keys) flags) }
+{
+    let graph = instance_graph(alloc, homes, modules)?;
+    let flags = on_cycles(alloc, graph.as_slice())?;
+    Ok(flags)
 }
 
 impl DesignCycles {

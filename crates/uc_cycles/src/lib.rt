@@ -3,6 +3,7 @@
 
 mod aliases;
 mod cycles;
+mod holding;
 mod instances;
 mod mentioned;
 mod names;
