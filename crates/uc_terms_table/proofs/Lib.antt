@@ -1,1 +1,2 @@
 pub mod Suiting
+mod Symbols

@@ -1,6 +1,7 @@
 -- The types of the tables are valid, and suit the operations on arrays and records.
-use Rattle.std.specs.Prelude.{◌≡◌, ℕ, ◌<◌, true, ◌&&◌, [], ◌∷◌}
+use Rattle.std.specs.Prelude.{◌≡◌, ℕ, ◌<◌, true, ◌&&◌, [], ◌∷◌, All}
 use Rattle.std.proofs.Common.{refl, ap, ◌∙◌, subst, sym}
+use Rattle.std.proofs.lemmas.List.Elements.{All-cons, All-nil}
 use Rattle.uc_values.specs.Types.{is_flat}
 use Rattle.uc_values.specs.declared.ty.Ty.{Ty}
 use Rattle.uc_values.specs.declared.ty.Ty.TheVariants.{Bool, Int}
@@ -23,6 +24,18 @@ array_is_valid ty e = subst Valid (sym e) array_fine
 
 pub record_is_valid : (ty : Ty) → ty ≡ record_of_two → Valid ty
 record_is_valid ty e = subst Valid (sym e) record_fine
+
+pub none_valid : All Valid []
+none_valid = All-nil Valid
+
+pub one_valid : (a : Ty) → Valid a → All Valid (a ∷ [])
+one_valid a h = All-cons Valid a [] h none_valid
+
+pub two_valid : (a b : Ty) → Valid a → Valid b → All Valid (a ∷ b ∷ [])
+two_valid a b h i = All-cons Valid a (b ∷ []) h (one_valid b i)
+
+pub three_valid : (a b c : Ty) → Valid a → Valid b → Valid c → All Valid (a ∷ b ∷ c ∷ [])
+three_valid a b c h i j = All-cons Valid a (b ∷ c ∷ []) h (two_valid b c i j)
 
 pub select_suits : (ty : Ty) → ty ≡ array_of_integers → Suits Select (ty ∷ Int ∷ [])
 select_suits ty e = (Int, Int, ap (λ t. t ∷ Int ∷ []) e)

@@ -7,7 +7,7 @@ ghost use Rattle.uc_ops.specs.Typing.{Suits};
 use crate::building::{model_of_one, model_of_two, of_one, of_two};
 use std::alloc::Global;
 use uc_linear::LinearError;
-use uc_terms::Op;
+use uc_terms::{Model, Op};
 use uc_values::{Ty, Value};
 
 /// The greatest width.
@@ -104,12 +104,28 @@ pub(crate) fn on_single(
     if width == 0 || width > MOST {
         return Ok(None);
     }
-    let Some(op) = single_op(single, width) else {
-        return Ok(None);
-    };
     let model = model_of_one(alloc, Value::Bv(width, a))?;
-    let value = of_one(alloc, op, Ty::Bv(width), &model)?;
-    Ok(Some(value))
+    of_some(alloc, single_op(single, width), width, &model)
+}
+
+/// The value of the operation on a bit-vector, where there is one.
+fn of_some(
+    alloc: Global,
+    op: Option<Op>,
+    width: u8,
+    model: &Model,
+) -> Result<Option<Value>, LinearError>
+    requires some { 1 ≤ width }
+    requires most { width ≤ 64 }
+    requires suits { IfSome op (λ op. Suits op (Bv width ∷ [])) }
+{
+    match op {
+        Some(op) => {
+            let value = of_one(alloc, op, Ty::Bv(width), model)?;
+            Ok(Some(value))
+        }
+        None => Ok(None),
+    }
 }
 
 /// Two bit-vectors put together, the first being the high part, where the widths are not too large.
