@@ -25,14 +25,24 @@ pub(crate) fn agrees_everywhere(alloc: Global, op: Op, types: &[Ty]) -> Result<b
     requires bits { is_bits (type_of op types.now) ≡ true }
 {
     let mut terms = Terms::new(alloc)?;
-    let t = applied(alloc, &mut terms, op, types)?;
+    agrees_among(alloc, &mut terms, op, types)
+}
+
+/// Whether it has where its term is made among these.
+fn agrees_among(alloc: Global, terms: &mut Terms, op: Op, types: &[Ty]) -> Result<bool, Fail>
+    requires fine { All IsFine types.now }
+    requires few { length types.now ≤ 3 }
+    requires suits { Suits op types.now }
+    requires bits { is_bits (type_of op types.now) ≡ true }
+{
+    let t = applied(alloc, terms, op, types)?;
     match terms.ty(t) {
-        Ty::Bool => agrees_under_all(alloc, &terms, t, types, None),
+        Ty::Bool => agrees_under_all(alloc, terms, t, types, None),
         Ty::Bv(wide) => {
             let wide = *wide;
-            let other = symbol(&mut terms, alloc, types.len() as u32, Ty::Bv(wide))?;
-            let same = made(&mut terms, alloc, Op::Eq, &[t, other])?;
-            agrees_under_all(alloc, &terms, same, types, Some(wide))
+            let other = symbol(terms, alloc, types.len() as u32, Ty::Bv(wide))?;
+            let same = made(terms, alloc, Op::Eq, &[t, other])?;
+            agrees_under_all(alloc, terms, same, types, Some(wide))
         }
         _ => Ok(false),
     }
@@ -63,17 +73,37 @@ fn agrees_under_all(
     requires boolean { type_at terms.now t ≡ boolean }
 {
     let problem = blast(alloc, terms, t)?;
-    let mut width = more.unwrap_or(0);
-    for ty in types {
-        width = width.wrapping_add(width_of(ty));
-    }
-    for bits in 0..1u64 << (width % 64) {
-        let model = model_of(alloc, types, more, bits)?;
-        if !agrees(alloc, terms, t, &problem, &model)? {
+    for bits in 0..1u64 << (whole_width(types, more) % 64) {
+        if !agrees_under(alloc, terms, t, &problem, types, more, bits)? {
             return Ok(false);
         }
     }
     Ok(true)
+}
+
+/// How many bits the values of all types and of the bit-vector have.
+fn whole_width(types: &[Ty], more: Option<u8>) -> u8 {
+    let mut width = more.unwrap_or(0);
+    for ty in types {
+        width = width.wrapping_add(width_of(ty));
+    }
+    width
+}
+
+/// Whether it has under the model that these bits give.
+fn agrees_under(
+    alloc: Global,
+    terms: &Terms,
+    t: TermId,
+    problem: &Problem,
+    types: &[Ty],
+    more: Option<u8>,
+    bits: u64,
+) -> Result<bool, LinearError>
+    requires { t < length terms.now }
+{
+    let model = model_of(alloc, types, more, bits)?;
+    agrees(alloc, terms, t, problem, &model)
 }
 
 /// How many bits the values of the type have.
@@ -89,16 +119,20 @@ fn lowest(bits: u64, width: u8) -> u64 {
     bits & (1u64 << (width % 64)).wrapping_sub(1)
 }
 
+/// The value of the type that the lowest bits give.
+fn value_of(ty: &Ty, bits: u64) -> Value {
+    match ty {
+        Ty::Bv(width) => Value::Bv(*width, lowest(bits, *width)),
+        _ => Value::Bool(bits & 1 == 1),
+    }
+}
+
 /// The model that these bits give to the symbols, the first one from the lowest bits. It has no functions.
 fn model_of(alloc: Global, types: &[Ty], more: Option<u8>, bits: u64) -> Result<Model, AllocError> {
     let mut values = Vec::new(alloc);
     let mut rest = bits;
     for ty in types {
-        let value = match ty {
-            Ty::Bv(width) => Value::Bv(*width, lowest(rest, *width)),
-            _ => Value::Bool(rest & 1 == 1),
-        };
-        values.push(value)?;
+        values.push(value_of(ty, rest))?;
         rest >>= width_of(ty) % 64;
     }
     if let Some(width) = more {
@@ -120,10 +154,25 @@ fn agrees(
 ) -> Result<bool, LinearError>
     requires { t < length terms.now }
 {
+    let truth = truth_under(alloc, terms, problem, model)?;
+    Ok(is_truth(eval(alloc, terms, t, model)?, truth))
+}
+
+fn is_truth(value: Value, truth: bool) -> bool {
+    value == Value::Bool(truth)
+}
+
+/// What the circuit gives under the model.
+fn truth_under(
+    alloc: Global,
+    terms: &Terms,
+    problem: &Problem,
+    model: &Model,
+) -> Result<bool, LinearError> {
     let goal = problem.goal();
     let inputs = inputs_under(alloc, terms, problem.atoms(), model)?;
     let truth = problem.circuit().value(inputs.as_slice(), goal)?;
-    Ok(eval(alloc, terms, t, model)? == Value::Bool(truth))
+    Ok(truth)
 }
 
 /// The values of the inputs under a model.
@@ -151,12 +200,17 @@ fn input_under(
 ) -> Result<bool, LinearError> {
     match atom {
         Atom::Bit(term, bit) if term.number() < terms.len() => {
-            match eval(alloc, terms, *term, model)? {
-                Value::Bool(truth) => Ok(truth),
-                Value::Bv(_, bits) => Ok(bits >> (*bit % 64) & 1 == 1),
-                _ => Ok(false),
-            }
+            Ok(bit_of(eval(alloc, terms, *term, model)?, *bit))
         }
         _ => Ok(false),
+    }
+}
+
+/// A bit of a bit-vector, or the truth that a boolean is.
+fn bit_of(value: Value, bit: u8) -> bool {
+    match value {
+        Value::Bool(truth) => truth,
+        Value::Bv(_, bits) => bits >> (bit % 64) & 1 == 1,
+        _ => false,
     }
 }

@@ -1,5 +1,5 @@
 use Rattle.uc_blast_table.proofs.Pairs.{both_low}
-use Rattle.uc_blast_table.proofs.comparing.agrees_everywhere.Goals as goal
+use Rattle.uc_blast_table.proofs.comparing.agrees_among.Goals as goal
 
 pub made-requires-clause-parts : goal.made-requires-clause-parts
 made-requires-clause-parts c =
