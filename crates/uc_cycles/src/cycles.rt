@@ -6,13 +6,12 @@ ghost use Rattle.uc_rules.specs.Cycles.{TypeName, alias_steps, instance_steps, o
 ghost use Rattle.uc_cycles.specs.Numbers.{KnowsCycles, flag_at, is_alias_flagged, is_name_flagged, key_name, key_of, name_number, name_places, type_number, type_places};
 
 use crate::aliases::{alias_graph, alias_numbers};
-use crate::holding::beside;
 use crate::instances::{instance_graph, module_numbers};
 use crate::names::NameNumbers;
 use crate::types::{TypeKey, TypeNumbers};
 use std::alloc::{AllocError, Global};
 use uc_graph_cycles::on_cycles;
-use uc_items::Items;
+use uc_items::{Items, beside};
 use uc_type_homes::TypeHomes;
 
 /// The aliases and the modules of a design, with those that lie on a cycle.

@@ -3,7 +3,6 @@
 
 mod aliases;
 mod cycles;
-mod holding;
 mod instances;
 mod mentioned;
 mod names;

@@ -10,7 +10,6 @@ ghost use Rattle.uc_declared_types.specs.Aliases.{Agrees, Below, KnowsAliases, r
 
 use crate::aliases::AliasTypes;
 use crate::counts::{label_counts, number_at};
-use crate::holding::beside;
 use crate::listed::aliases_of;
 use crate::named::word;
 use crate::needs::in_order;
@@ -18,7 +17,7 @@ use crate::passes::{read_aliases, read_all};
 use crate::reading::note_type;
 use std::alloc::{AllocError, Global};
 use std::marker::Model;
-use uc_items::Items;
+use uc_items::{Items, beside};
 use uc_lookup::SystemRef;
 use uc_rules::Fault;
 use uc_syntax::TypeExpr;

@@ -4,7 +4,6 @@
 mod aliases;
 mod counts;
 mod fields;
-mod holding;
 mod known;
 mod listed;
 mod named;
