@@ -8,7 +8,8 @@ ghost use Rattle.uc_rules.specs.Names.{called_named, instance_named, is_entry, n
 ghost use Rattle.uc_lookup.specs.Parts.{instance_parts, system_in};
 ghost use Rattle.uc_name_table.specs.Senses.{called_meant, declared_meant, module_in, value_meant};
 
-use crate::lists::{all_names, all_own};
+use crate::holding::beside;
+use crate::lists::tables_of;
 use crate::numbers::OpaqueNumbers;
 use std::alloc::{AllocError, Global};
 use std::marker::Model;
@@ -49,11 +50,11 @@ impl<'a> TypeHomes<'a> {
     pub fn of(alloc: Global, system: SystemRef<'a>) -> Result<TypeHomes<'a>, AllocError>
         ensures { IfOk result (λ t. t ≡ system_in system.entry) }
     {
-        let design = DesignNames::of(alloc, system)?;
-        let count = system.modules.len();
-        let names = all_names(alloc, &design, count)?;
-        let own = all_own(alloc, &design, count)?;
         let opaques = OpaqueNumbers::of(alloc, system)?;
+        let design = DesignNames::of(alloc, system);
+        let (opaques, design) = beside(opaques, design)?;
+        let tables = tables_of(alloc, &design, system.modules.len());
+        let ((opaques, design), (names, own)) = beside((opaques, design), tables)?;
         Ok(TypeHomes {
             design,
             names,

@@ -2,6 +2,7 @@
 //! without a definition.
 #![tactic(auto)]
 
+mod holding;
 mod homes;
 mod listed;
 mod lists;

@@ -9,8 +9,22 @@ use uc_items::Items;
 use uc_module_names::{DesignNames, table_of};
 use uc_name_table::{DeclaredType, Firsts, NameTable};
 
+/// The names of the first so many modules of a design, and the types that they declare themselves.
+pub(crate) fn tables_of<'a>(
+    alloc: Global,
+    design: &DesignNames<'a>,
+    count: usize,
+) -> Result<(Items<NameTable<'a>>, Items<Firsts<DeclaredType>>), AllocError>
+    ensures names { IfOk result (λ tables. AllOf (HoldsNames design.now) tables.0 count) }
+    ensures own { IfOk result (λ tables. AllOf (HoldsOwn design.now) tables.1 count) }
+{
+    let names = all_names(alloc, design, count)?;
+    let own = all_own(alloc, design, count)?;
+    Ok((names, own))
+}
+
 /// The names of the first so many modules of a design.
-pub(crate) fn all_names<'a>(
+fn all_names<'a>(
     alloc: Global,
     design: &DesignNames<'a>,
     count: usize,
@@ -26,7 +40,7 @@ pub(crate) fn all_names<'a>(
 }
 
 /// The types that the first so many modules of a design declare themselves.
-pub(crate) fn all_own(
+fn all_own(
     alloc: Global,
     design: &DesignNames<'_>,
     count: usize,
