@@ -8,12 +8,11 @@ ghost use Rattle.uc_rules.specs.Names.{called_named, instance_named, is_entry, n
 ghost use Rattle.uc_lookup.specs.Parts.{instance_parts, system_in};
 ghost use Rattle.uc_name_table.specs.Senses.{called_meant, declared_meant, module_in, value_meant};
 
-use crate::holding::beside;
 use crate::lists::tables_of;
 use crate::numbers::OpaqueNumbers;
 use std::alloc::{AllocError, Global};
 use std::marker::Model;
-use uc_items::Items;
+use uc_items::{Items, beside};
 use uc_lookup::{InstanceParts, SystemRef};
 use uc_module_names::DesignNames;
 use uc_name_table::{Called, DeclaredType, Firsts, NameTable, Value};

@@ -2,7 +2,6 @@
 //! without a definition.
 #![tactic(auto)]
 
-mod holding;
 mod homes;
 mod listed;
 mod lists;
