@@ -2,6 +2,7 @@
 #![tactic(auto)]
 
 mod blocks;
+mod holding;
 mod making;
 mod parts;
 mod pieces;

@@ -1,6 +1,6 @@
 //! The declarations of a module.
 
-ghost use Rattle.std.specs.Prelude.{◌≡◌, List, Some, map};
+ghost use Rattle.std.specs.Prelude.{◌≡◌, [], List, Some, map};
 ghost use Rattle.std.specs.List.{list_all};
 ghost use Rattle.std.specs.Option.{option_and_then};
 ghost use Rattle.uc_flat_expressions.specs.Answers.{IsAnswer};
@@ -10,9 +10,10 @@ ghost use Rattle.uc_flat_design.specs.Next.{inputs_from};
 ghost use Rattle.uc_flat_design.specs.Design.{is_built, condition_of, formula_in, formulas_from};
 ghost use Rattle.uc_flat_making.specs.Parts.{inputs_by};
 
+use crate::holding::{built_where, one};
 use std::alloc::Global;
 use uc_flat::{Formula, Statement};
-use uc_flat_expressions::{FlatError, Meant, flat_expression, is_boolean};
+use uc_flat_expressions::{FlatError, Meant, TypedExpression, flat_expression, is_boolean};
 use uc_items::Items;
 use uc_syntax::{Decl, Expr, VariableKind};
 
@@ -60,17 +61,20 @@ fn condition_of(
     ensures { IsAnswer (option_and_then (condition_of decl) (flat_of names.now e.now)) result }
 {
     let t = flat_expression(alloc, names, e)?;
-    if !is_boolean(&t.ty) {
-        return Err(FlatError::NotBuilt);
-    }
-    let mut formulas = Items::new(alloc);
-    formulas.push(Formula {
+    let t = built_where(is_boolean(&t.ty), t)?;
+    let formulas = one(alloc, formula_of(alloc, decl, t))?;
+    Ok(formulas)
+}
+
+fn formula_of(alloc: Global, decl: u32, t: TypedExpression) -> Formula
+    ensures { result ≡ record { path = []; decl = decl; copies = 1; condition = t.expression } }
+{
+    Formula {
         path: Items::new(alloc),
         decl,
         copies: 1,
         condition: t.expression,
-    })?;
-    Ok(formulas)
+    }
 }
 
 fn formula_in(
