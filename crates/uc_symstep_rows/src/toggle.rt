@@ -31,9 +31,8 @@ fn gives(alloc: Global, cell: u32, e: Expression) -> Result<Items<Statement>, Al
     Ok(code)
 }
 
-/// The boolean is cell 0, and the formula says that it is true.
-pub(crate) fn toggle(alloc: Global) -> Result<Flat, AllocError>
-    ensures { IfOk result (λ f. f ≡ toggle) }
+fn cells(alloc: Global) -> Result<Items<Cell>, AllocError>
+    ensures { IfOk result (λ cs. cs ≡ toggle.cells) }
 {
     let mut cells = Items::new(alloc);
     cells.push(Cell {
@@ -41,6 +40,12 @@ pub(crate) fn toggle(alloc: Global) -> Result<Flat, AllocError>
         name: 0,
         ty: Ty::Bool,
     })?;
+    Ok(cells)
+}
+
+fn formulas(alloc: Global) -> Result<Items<Formula>, AllocError>
+    ensures { IfOk result (λ fs. fs ≡ toggle.formulas) }
+{
     let mut formulas = Items::new(alloc);
     formulas.push(Formula {
         path: Items::new(alloc),
@@ -48,10 +53,32 @@ pub(crate) fn toggle(alloc: Global) -> Result<Flat, AllocError>
         copies: 1,
         condition: Expression::Cell(0),
     })?;
-    let first = low(alloc);
-    let init = gives(alloc, 0, first)?;
+    Ok(formulas)
+}
+
+/// The boolean is false.
+fn init(alloc: Global) -> Result<Items<Statement>, AllocError>
+    ensures { IfOk result (λ code. code ≡ toggle.init) }
+{
+    gives(alloc, 0, low(alloc))
+}
+
+/// The boolean is turned.
+fn step(alloc: Global) -> Result<Items<Statement>, AllocError>
+    ensures { IfOk result (λ code. code ≡ toggle.step) }
+{
     let next = turned(alloc)?;
-    let step = gives(alloc, 1, next)?;
+    gives(alloc, 1, next)
+}
+
+/// The boolean is cell 0, and the formula says that it is true.
+pub(crate) fn toggle(alloc: Global) -> Result<Flat, AllocError>
+    ensures { IfOk result (λ f. f ≡ toggle) }
+{
+    let cells = cells(alloc)?;
+    let formulas = formulas(alloc)?;
+    let init = init(alloc)?;
+    let step = step(alloc)?;
     Ok(Flat {
         cells,
         constants: Items::new(alloc),
