@@ -22,7 +22,7 @@ fn name(alloc: Global, primed: bool) -> Expr {
     Expr::Selected(here(), Primary::Name(0, primed), Items::new(alloc))
 }
 
-fn assignment(alloc: Global, primed: bool, source: Expr) -> Result<Stmt, AllocError> {
+fn target(alloc: Global, primed: bool) -> Result<Items<Target>, AllocError> {
     let mut targets = Items::new(alloc);
     targets.push(Target {
         place: here(),
@@ -30,9 +30,20 @@ fn assignment(alloc: Global, primed: bool, source: Expr) -> Result<Stmt, AllocEr
         is_primed: primed,
         parts: Items::new(alloc),
     })?;
+    Ok(targets)
+}
+
+fn source(alloc: Global) -> Result<Items<Expr>, AllocError> {
     let mut sources = Items::new(alloc);
-    sources.push(source)?;
-    Ok(Stmt::Assign(here(), targets, sources))
+    sources.push(name(alloc, false))?;
+    Ok(sources)
+}
+
+/// The name, with a prime or without, takes the value of the name.
+fn assignment(alloc: Global, primed: bool) -> Result<Items<Stmt>, AllocError> {
+    let targets = target(alloc, primed)?;
+    let sources = source(alloc)?;
+    one(alloc, Stmt::Assign(here(), targets, sources))
 }
 
 fn havoc(primed: bool) -> Stmt {
@@ -56,28 +67,33 @@ fn names(alloc: Global) -> Result<Items<Meant>, AllocError> {
     Ok(names)
 }
 
-/// `if (x) { x' = x; } else { havoc x'; } assume x';`
-fn step(alloc: Global) -> Result<Items<Stmt>, AllocError> {
+/// `if (x) { x' = x; }`
+fn arm(alloc: Global) -> Result<Items<Arm<Stmt>>, AllocError> {
+    let body = assignment(alloc, true)?;
     let condition = name(alloc, false);
-    let source = name(alloc, false);
-    let write = assignment(alloc, true, source)?;
-    let body = one(alloc, write)?;
     let mut arms = Items::new(alloc);
     arms.push(Arm { condition, body })?;
+    Ok(arms)
+}
+
+/// `if (x) { x' = x; } else { havoc x'; }`
+fn choice(alloc: Global) -> Result<Items<Stmt>, AllocError> {
     let otherwise = one(alloc, havoc(true))?;
-    let mut code = Items::new(alloc);
-    code.push(Stmt::If(here(), arms, Some(otherwise)))?;
+    let arms = arm(alloc)?;
+    one(alloc, Stmt::If(here(), arms, Some(otherwise)))
+}
+
+/// `if (x) { x' = x; } else { havoc x'; } assume x';`
+fn step(alloc: Global) -> Result<Items<Stmt>, AllocError> {
+    let mut code = choice(alloc)?;
     code.push(Stmt::Assume(here(), name(alloc, true)))?;
     Ok(code)
 }
 
 /// `{ x = x; } havoc x;`
 fn init(alloc: Global) -> Result<Items<Stmt>, AllocError> {
-    let source = name(alloc, false);
-    let write = assignment(alloc, false, source)?;
-    let block = one(alloc, write)?;
-    let mut code = Items::new(alloc);
-    code.push(Stmt::Block(here(), block))?;
+    let block = assignment(alloc, false)?;
+    let mut code = one(alloc, Stmt::Block(here(), block))?;
     code.push(havoc(false))?;
     Ok(code)
 }
@@ -107,22 +123,37 @@ fn is_init(code: &[Statement]) -> bool {
     )
 }
 
+/// Whether the code of the step is built where new cells are written.
+fn is_step_built(alloc: Global, names: &[Meant], code: &[Stmt]) -> bool {
+    let writing = Writing {
+        primed: true,
+        shift: 1,
+    };
+    match flat_code(alloc, names, writing, code) {
+        Ok(code) => is_step(code.as_slice()),
+        Err(_) => false,
+    }
+}
+
 #[test]
 fn a_next_block_writes_the_new_cell(rt: HostRuntime) -> Result<(), Fail> {
     let alloc = rt.alloc();
     let names = names(alloc)?;
     let code = step(alloc)?;
-    let writing = Writing {
-        primed: true,
-        shift: 1,
-    };
-    let built = flat_code(alloc, names.as_slice(), writing, code.as_slice());
-    let is_right = match built {
-        Ok(code) => is_step(code.as_slice()),
-        Err(_) => false,
-    };
-    assert_eq!(rt; is_right, true);
+    assert!(rt; is_step_built(alloc, names.as_slice(), code.as_slice()));
     Ok(())
+}
+
+/// Whether the code of the init block is built where cells are written.
+fn is_init_built(alloc: Global, names: &[Meant], code: &[Stmt]) -> bool {
+    let writing = Writing {
+        primed: false,
+        shift: 0,
+    };
+    match flat_code(alloc, names, writing, code) {
+        Ok(code) => is_init(code.as_slice()),
+        Err(_) => false,
+    }
 }
 
 #[test]
@@ -130,15 +161,6 @@ fn an_init_block_writes_the_cell(rt: HostRuntime) -> Result<(), Fail> {
     let alloc = rt.alloc();
     let names = names(alloc)?;
     let code = init(alloc)?;
-    let writing = Writing {
-        primed: false,
-        shift: 0,
-    };
-    let built = flat_code(alloc, names.as_slice(), writing, code.as_slice());
-    let is_right = match built {
-        Ok(code) => is_init(code.as_slice()),
-        Err(_) => false,
-    };
-    assert_eq!(rt; is_right, true);
+    assert!(rt; is_init_built(alloc, names.as_slice(), code.as_slice()));
     Ok(())
 }
