@@ -53,12 +53,28 @@ fn resume<M: Meter>(
     requires { M.total meter.old < 2 ^ 120 }
 {
     let mut first = Learner::new(alloc, &p)?;
+    resume_from(alloc, terms, p, &mut first, first_budget, budget, meter)
+}
+
+/// The learner searches, and another one goes on.
+fn resume_from<M: Meter>(
+    alloc: Global,
+    terms: &Terms,
+    p: Problem,
+    first: &mut Learner,
+    first_budget: u64,
+    budget: u64,
+    meter: &mut M,
+) -> Result<Resumed, AllocError>
+    requires first { HasTaken p [] first.old }
+    requires total { M.total meter.old < 2 ^ 120 }
+{
     let mut second = Learner::new(alloc, &p)?;
     resume_by(
         alloc,
         terms,
         p,
-        &mut first,
+        first,
         &mut second,
         first_budget,
         budget,
@@ -162,10 +178,24 @@ fn extended<M: Meter>(
 ) -> Result<(Outcome, bool), AllocError>
     requires { M.total meter.old < 2 ^ 120 }
 {
+    let mut learner = Learner::new(alloc, &p)?;
+    extend_from(alloc, p, &mut learner, budget, meter)
+}
+
+/// The search of the learner, among terms of its own.
+fn extend_from<M: Meter>(
+    alloc: Global,
+    p: Problem,
+    learner: &mut Learner,
+    budget: u64,
+    meter: &mut M,
+) -> Result<(Outcome, bool), AllocError>
+    requires taken { HasTaken p [] learner.old }
+    requires total { M.total meter.old < 2 ^ 120 }
+{
     let mut terms = Terms::new(alloc)?;
     let atom = new_atom(alloc, &mut terms)?;
-    let mut learner = Learner::new(alloc, &p)?;
-    extend_by(alloc, &terms, p, atom, &mut learner, budget, meter)
+    extend_by(alloc, &terms, p, atom, learner, budget, meter)
 }
 
 /// The learner takes over a gate on the goal and the atom, and searches.

@@ -70,6 +70,11 @@ impl Report {
             write!(self.text, "products of {bits} bits that differ, ")?;
             self.add(alloc, commutativity(alloc, bits)?, budget)?;
         }
+        Ok(())
+    }
+
+    /// The budgets are 2 to the number of inputs.
+    fn add_factors(&mut self, alloc: Global) -> Result<(), AllocError> {
         for (bits, number, budget) in [
             (4u32, 15u64, 1u64 << 8),
             (4, 13, 1 << 8),
@@ -115,6 +120,11 @@ impl Report {
                 "5 pigeons in 4 holes: {before}; {entries} entries taken over: {after}\n"
             )?;
         }
+        Ok(())
+    }
+
+    /// A learner that takes over a gate and an input.
+    fn add_extended(&mut self, alloc: Global) -> Result<(), AllocError> {
         let (outcome, value) = extended_alone(alloc, pigeons(alloc, 3, 3)?, 1 << 12)?;
         let outcome = outcome.name();
         write!(
@@ -170,8 +180,10 @@ pub(crate) fn whole_report(alloc: Global) -> Result<Report, AllocError> {
     report.add_contradictions(alloc)?;
     report.add_pigeons(alloc)?;
     report.add_products(alloc)?;
+    report.add_factors(alloc)?;
     report.add_random(alloc)?;
     report.add_entries(alloc)?;
+    report.add_extended(alloc)?;
     report.add_watches(alloc)?;
     Ok(report)
 }

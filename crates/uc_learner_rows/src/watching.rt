@@ -203,8 +203,23 @@ fn observed<M: Meter>(
     requires { M.total meter.old < 2 ^ 120 }
 {
     let mut searching = Learner::new(alloc, &p)?;
+    observe_from(alloc, terms, p, &mut searching, budget, meter)
+}
+
+/// The learner searches, and another one takes over.
+fn observe_from<M: Meter>(
+    alloc: Global,
+    terms: &Terms,
+    p: Problem,
+    searching: &mut Learner,
+    budget: u64,
+    meter: &mut M,
+) -> Result<Watched, AllocError>
+    requires searching { HasTaken p [] searching.old }
+    requires total { M.total meter.old < 2 ^ 120 }
+{
     let mut taking = Learner::new(alloc, &p)?;
-    observe(alloc, terms, p, &mut searching, &mut taking, budget, meter)
+    observe(alloc, terms, p, searching, &mut taking, budget, meter)
 }
 
 /// The one learner searches, and the other one takes over.
