@@ -2,6 +2,7 @@
 
 ghost use Rattle.std.specs.Prelude.{◌≡◌, ◌++◌, [], map, OnOk, IfOk};
 ghost use Rattle.std.specs.List.{flat_map};
+ghost use Rattle.uc_syntax.specs.WrittenTypes.{enums_of_module};
 ghost use Rattle.uc_written_types.specs.Lent.{meant};
 ghost use Rattle.uc_fragment.specs.Plain.{names_by, declared, are_new};
 
@@ -75,17 +76,33 @@ pub(crate) fn declared(alloc: Global, code: &Module) -> Result<Items<u32>, Alloc
 {
     let mut names = Items::new(alloc);
     add_all_names(&mut names, code.decls.as_slice())?;
-    let enums = enums_of(alloc, code)?;
-    add_labels(&mut names, enums.as_slice())?;
+    add_all_labels(alloc, &mut names, code)?;
     Ok(names)
 }
 
+/// Adds the labels of the enums that a module writes.
+fn add_all_labels(alloc: Global, names: &mut Items<u32>, code: &Module) -> Result<(), AllocError>
+    ensures { OnOk result (names.new ≡ names.old ++ flat_map (λ e. e.labels) (enums_of_module code.now)) }
+{
+    let enums = enums_of(alloc, code)?;
+    add_labels(names, enums.as_slice())?;
+    Ok(())
+}
+
 /// Whether no name stands twice.
-#[tactic(auto, unfolding(crate::specs::Plain::are_new))]
 pub(crate) fn are_new(alloc: Global, names: &[u32]) -> Result<bool, AllocError>
     ensures { IfOk result (λ b. b ≡ are_new [] names.now) }
 {
     let mut seen = NameSet::new(alloc);
+    let are_new = are_new_after(&mut seen, names)?;
+    Ok(are_new)
+}
+
+/// Whether no name stands twice or is among those that were seen. They are added to these.
+#[tactic(auto, unfolding(crate::specs::Plain::are_new))]
+fn are_new_after(seen: &mut NameSet, names: &[u32]) -> Result<bool, AllocError>
+    ensures { IfOk result (λ b. b ≡ are_new seen.old names.now) }
+{
     for name in names {
         if seen.contains(*name) {
             return Ok(false);

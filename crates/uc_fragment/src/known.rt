@@ -94,16 +94,24 @@ fn add_type(before: &mut NameSet, decl: &Decl) -> Result<(), AllocError>
 }
 
 /// Whether each declaration has such a type, where one uses only types that are declared before.
-#[tactic(auto, unfolding(crate::specs::Plain::types_known))]
 pub(crate) fn types_known(alloc: Global, decls: &[Decl]) -> Result<bool, AllocError>
     ensures { IfOk result (λ b. b ≡ types_known [] decls.now) }
 {
     let mut before = NameSet::new(alloc);
+    let known = known_after(alloc, &mut before, decls)?;
+    Ok(known)
+}
+
+/// The same, where these types are declared already. They are added to these.
+#[tactic(auto, unfolding(crate::specs::Plain::types_known))]
+fn known_after(alloc: Global, before: &mut NameSet, decls: &[Decl]) -> Result<bool, AllocError>
+    ensures { IfOk result (λ b. b ≡ types_known before.old decls.now) }
+{
     for decl in decls {
-        if !has_known(alloc, &before, decl)? {
+        if !has_known(alloc, before, decl)? {
             return Ok(false);
         }
-        add_type(&mut before, decl)?;
+        add_type(before, decl)?;
     }
     Ok(true)
 }
@@ -120,16 +128,28 @@ fn typed_at(decl: &Decl) -> Option<Place>
 }
 
 /// The place of the first declaration with a type that uses one that is not declared before.
-#[tactic(auto, unfolding(crate::specs::Plain::unknown_type))]
 pub fn unknown_type(alloc: Global, decls: &[Decl]) -> Result<Option<Place>, AllocError>
     ensures { IfOk result (λ p. p ≡ unknown_type [] decls.now) }
 {
     let mut before = NameSet::new(alloc);
+    let place = unknown_after(alloc, &mut before, decls)?;
+    Ok(place)
+}
+
+/// The same, where these types are declared already. They are added to these.
+#[tactic(auto, unfolding(crate::specs::Plain::unknown_type))]
+fn unknown_after(
+    alloc: Global,
+    before: &mut NameSet,
+    decls: &[Decl],
+) -> Result<Option<Place>, AllocError>
+    ensures { IfOk result (λ p. p ≡ unknown_type before.old decls.now) }
+{
     for decl in decls {
-        if !has_known(alloc, &before, decl)? {
+        if !has_known(alloc, before, decl)? {
             return Ok(typed_at(decl));
         }
-        add_type(&mut before, decl)?;
+        add_type(before, decl)?;
     }
     Ok(None)
 }

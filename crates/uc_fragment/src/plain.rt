@@ -3,7 +3,7 @@
 ghost use Rattle.std.specs.Prelude.{◌≡◌, ◌&&◌, nat_le, [], IfOk, length};
 ghost use Rattle.std.specs.List.{list_all};
 ghost use Rattle.uc_meaning.specs.Fragment.{names_in, variable_names, most_variables};
-ghost use Rattle.uc_fragment.specs.Plain.{with_inputs, with_variables, is_plain_decl, is_plain};
+ghost use Rattle.uc_fragment.specs.Plain.{are_new, declared, with_inputs, with_variables, is_plain_decl, is_plain};
 
 use crate::blocks::{at_most_one_control, at_most_one_init, at_most_one_next};
 use crate::control::{runs_once, variables};
@@ -75,8 +75,25 @@ fn declarations_are_plain(alloc: Global, decls: &[Decl]) -> Result<bool, AllocEr
     ensures { IfOk result (λ b. b ≡ list_all (is_plain_decl (with_inputs [] decls.now) (with_variables [] decls.now)) decls.now) }
 {
     let inputs = inputs(alloc, decls)?;
+    let are_plain = are_plain_beside(alloc, &inputs, decls)?;
+    Ok(are_plain)
+}
+
+/// The same, where these are the inputs.
+fn are_plain_beside(alloc: Global, inputs: &NameSet, decls: &[Decl]) -> Result<bool, AllocError>
+    ensures { IfOk result (λ b. b ≡ list_all (is_plain_decl inputs.now (with_variables [] decls.now)) decls.now) }
+{
     let cells = variables(alloc, decls)?;
-    Ok(are_plain(&inputs, &cells, decls))
+    Ok(are_plain(inputs, &cells, decls))
+}
+
+/// Whether a module declares no name twice.
+fn has_new_names(alloc: Global, code: &Module) -> Result<bool, AllocError>
+    ensures { IfOk result (λ b. b ≡ are_new [] (declared code.now)) }
+{
+    let names = declared(alloc, code)?;
+    let are_new = are_new(alloc, names.as_slice())?;
+    Ok(are_new)
 }
 
 /// Whether the declarations of a module are of the fragment that runs.
@@ -90,8 +107,7 @@ pub fn is_plain(alloc: Global, code: &Module) -> Result<bool, AllocError>
     if !types_known(alloc, decls)? {
         return Ok(false);
     }
-    let names = declared(alloc, code)?;
-    if !are_new(alloc, names.as_slice())? {
+    if !has_new_names(alloc, code)? {
         return Ok(false);
     }
     if !at_most_one_init(decls) {
