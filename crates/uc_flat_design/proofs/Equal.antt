@@ -1,5 +1,5 @@
 -- Values are equal where their parts are.
-use Rattle.std.proofs.Common.{◌≡◌, ℕ, zero, suc, ◌+◌, ◌<◌, ◌≤◌, List, [], ◌∷◌, map, length, refl, sym, ap, ◌∙◌, subst, true, false, Bool, Some, None, get_or, cond, arith}
+use Rattle.std.proofs.Common.{◌≡◌, ℕ, zero, suc, ◌+◌, ◌<◌, ◌≤◌, List, [], ◌∷◌, length, refl, sym, ap, ◌∙◌, subst, true, false, Bool, Some, cond, arith}
 use Rattle.std.specs.Prelude.{◌||◌, ◌&&◌, not, nat_eq, if◌then◌else◌, unwrap_or, slice_get, slice_index_or}
 use Rattle.std.specs.List.{list_any, position_from}
 use Rattle.std.proofs.lemmas.Bool.Decides.{nat_tests}
@@ -7,12 +7,12 @@ use Rattle.uc_values.specs.declared.ty.Field.{Field}
 use Rattle.uc_values.specs.declared.ty.Ty.{Ty}
 use Rattle.uc_values.specs.declared.value.Value.{Value}
 use Rattle.uc_values.specs.declared.value.Value.TheVariants.{Bool as truth, Rec}
-use Rattle.uc_values.specs.Values.{fits, parts_of}
+use Rattle.uc_values.specs.Values.{fits}
 use Rattle.uc_values.proofs.Shapes.{and_true}
-use Rattle.uc_meaning.specs.Expressions.{Reading, reads, fields_of, field_number, field_type, field_reading}
+use Rattle.uc_meaning.specs.Expressions.{Reading, reads, fields_of, field_type, field_reading}
 use Rattle.uc_meaning.specs.Steps.{part_reading, has_part, is_prefix}
 use Rattle.uc_flat_code.specs.Code.{are_different}
-use Rattle.uc_flat_design.proofs.Fields.{name_is, has_field, place_of, is_nat, HasField, field_of_fit, field_fits, IsPath}
+use Rattle.uc_flat_design.proofs.Fields.{name_is, has_field, place_of, is_nat, field_of_fit, field_fits, IsPath}
 
 -- ---- fields of different names
 

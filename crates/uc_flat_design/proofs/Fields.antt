@@ -1,5 +1,5 @@
 -- Parts of values behind fields: what is read of a value in which a part was replaced.
-use Rattle.std.proofs.Common.{◌≡◌, ◌≢◌, ℕ, zero, suc, ◌+◌, ◌<◌, List, [], ◌∷◌, map, length, refl, sym, ap, ◌∙◌, subst, true, false, Bool, Some, get_or, cond, rules, arith}
+use Rattle.std.proofs.Common.{◌≡◌, ◌≢◌, ℕ, zero, suc, ◌+◌, ◌<◌, List, [], ◌∷◌, map, length, refl, sym, ap, ◌∙◌, subst, true, false, Bool, Some, cond, rules, arith}
 use Rattle.std.specs.Prelude.{◌||◌, ◌&&◌, nat_eq, unwrap_or, slice_get, slice_set, slice_index_or}
 use Rattle.std.specs.List.{list_any, position_from}
 use Rattle.std.proofs.lemmas.List.{get_or-set_same, get_or-set_other, set-get_or, length-map}

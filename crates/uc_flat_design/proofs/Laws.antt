@@ -1,5 +1,5 @@
 -- A design and its design over cells have the same initial states and steps, and their formulas say the same.
-use Rattle.std.proofs.Common.{◌≡◌, ℕ, zero, suc, ◌+◌, List, [], ◌∷◌, ◌++◌, map, length, take, drop, refl, sym, ap, ◌∙◌, subst, Option, Some, None, arith, append-nil}
+use Rattle.std.proofs.Common.{◌≡◌, ℕ, zero, suc, List, [], ◌∷◌, ◌++◌, map, length, take, drop, refl, sym, ap, ◌∙◌, subst, Option, Some, None, arith, append-nil}
 use Rattle.std.specs.Prelude.{slice_get}
 use Rattle.std.specs.List.{flat_map}
 use Rattle.std.proofs.lemmas.List.{length-map}
@@ -25,9 +25,10 @@ use Rattle.uc_flat_design.specs.Sequential.{running, placed, AreAt, EndAlike}
 use Rattle.uc_flat_design.proofs.Sequential.{sequential_holds}
 use Rattle.uc_flat_design.specs.Next.{step_code, IsAsked, IsReached, IsNextCode}
 use Rattle.uc_flat_design.proofs.Stepping.{found_holds, asks_holds, fits_hold}
-use Rattle.uc_flat_design.specs.Design.{flat_cell, IsFlatOf}
+use Rattle.uc_flat_design.specs.Design.{flat_cell, next_names, IsFlatOf}
 use Rattle.uc_flat_design.specs.Laws.{IsInitialThere, IsInitialHere, InitialLaw, IsStepThere, IsStepHere, StepLaw}
-use Rattle.uc_flat_design.proofs.Tables.{fit_cells, fit_types, all_plain, no_instances, init_table, next_table}
+use Rattle.uc_flat_design.proofs.Tables.{fit_cells, fit_types, all_plain, no_instances, init_table}
+use Rattle.uc_flat_design.proofs.NextTable.{next_table}
 
 some_same : {A : Type 0} (x y : A) → Some x ≡ Some y → x ≡ y
 some_same x y h = cc
@@ -163,7 +164,7 @@ module _ (system : System) (code : Module) (f : Flat) (i : Interp) (m : Model) (
 
   -- ---- steps
 
-  next_code : IsNextCode system m (names_over_cells system code) i (cells_of system) (next_of code) d.next
+  next_code : IsNextCode system m (next_names system code) i (cells_of system) (next_of code) d.next
   next_code = record { table = next_table system code (alone_of system code f d) m d.types i; plain = all_plain (types_of system) d.types; is = d.next_is }
 
   pub next_is : main_next system ≡ next_of code
@@ -191,7 +192,7 @@ module _ (system : System) (code : Module) (f : Flat) (i : Interp) (m : Model) (
         lists = h.lists;
         keeps = h.keeps;
       } in
-      let found = found_holds system (check_through longest_chain system) i m (names_over_cells system code) (cells_of system) (next_of code) d.next old.cells new.cells choices sites next_code
+      let found = found_holds system (check_through longest_chain system) i m (next_names system code) (cells_of system) (next_of code) d.next old.cells new.cells choices sites d.after next_code d.once
       (fit_cells (types_of system) old.cells fit_old) (fit_cells (types_of system) new.cells fit_new) asked in
       record { no_choices = found.no_choices; no_sites = found.no_sites; step = from_reached old.cells new.cells [] [] found.reached }
 
@@ -199,8 +200,8 @@ module _ (system : System) (code : Module) (f : Flat) (i : Interp) (m : Model) (
   step_here old new choices sites fit_old h =
       let reached = to_reached old new choices sites h in
       let fit = fit_cells (types_of system) old fit_old in
-      let fit_new = fits_hold system (check_through longest_chain system) i m (names_over_cells system code) (cells_of system) (next_of code) d.next old new choices sites next_code fit reached in
-      let found = asks_holds system (check_through longest_chain system) i m (names_over_cells system code) (cells_of system) (next_of code) d.next old new choices sites d.after next_code d.once fit fit_new reached in
+      let fit_new = fits_hold system (check_through longest_chain system) i m (next_names system code) (cells_of system) (next_of code) d.next old new choices sites next_code fit reached in
+      let found = asks_holds system (check_through longest_chain system) i m (next_names system code) (cells_of system) (next_of code) d.next old new choices sites d.after next_code d.once fit fit_new reached in
       record {
         no_choices = found.no_choices;
         no_sites = found.no_sites;

@@ -1,16 +1,13 @@
 -- Cells after their parts were given values.
-use Rattle.std.proofs.Common.{◌≡◌, ◌≢◌, ℕ, zero, suc, ◌+◌, ◌<◌, List, [], ◌∷◌, ◌++◌, map, length, refl, sym, ap, ◌∙◌, subst, true, false, Bool, Option, Some, None, arith}
-use Rattle.std.specs.Prelude.{if◌then◌else◌, ◌&&◌, ◌||◌, nat_eq, slice_get, slice_set}
-use Rattle.std.specs.Option.{option_map, option_and_then}
-use Rattle.std.proofs.lemmas.List.{get_or-set_same, get_or-set_other, length-set}
+use Rattle.std.proofs.Common.{◌≡◌, ℕ, zero, suc, ◌<◌, List, [], ◌∷◌, length, refl, sym, ap, ◌∙◌, subst, true, false, Bool, Option, Some, None, arith}
+use Rattle.std.specs.Prelude.{if◌then◌else◌, slice_get}
 use Rattle.uc_values.specs.declared.ty.Ty.{Ty}
 use Rattle.uc_values.specs.declared.value.Value.{Value}
 use Rattle.uc_values.specs.Values.{fits, nothing}
-use Rattle.uc_meaning.specs.Expressions.{Reading, reads}
-use Rattle.uc_meaning.specs.Steps.{part_reading, has_part, is_prefix}
+use Rattle.uc_meaning.specs.Expressions.{reads}
+use Rattle.uc_meaning.specs.Steps.{part_reading}
 use Rattle.uc_ops.specs.Typing.{part_type}
 use Rattle.uc_ops.specs.Meaning.{part}
-use Rattle.uc_flat.specs.Running.{next_of}
 use Rattle.uc_flat.specs.Executions.{FitAll}
 use Rattle.uc_flat_design.proofs.Options.{then_some, map_some, some_same}
 use Rattle.uc_flat_design.proofs.Turns.{fit_set}

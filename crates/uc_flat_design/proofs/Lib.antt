@@ -9,8 +9,10 @@ pub mod Parts
 pub mod Equal
 pub mod Leaving
 pub mod Halves
-pub mod Told
 pub mod Settled
+pub mod Alike
+pub mod Told
 pub mod Stepping
 pub mod Tables
+pub mod NextTable
 pub mod Laws

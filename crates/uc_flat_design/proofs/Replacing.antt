@@ -1,6 +1,6 @@
 -- The expression over cells by which a part behind fields is replaced.
-use Rattle.std.proofs.Common.{◌≡◌, ℕ, zero, suc, ◌+◌, ◌<◌, List, [], ◌∷◌, map, length, refl, sym, ap, ◌∙◌, subst, true, false, Bool, Option, Some, None, cond, arith}
-use Rattle.std.specs.Prelude.{◌||◌, nat_eq, if◌then◌else◌, unwrap_or, slice_get, slice_set, slice_index_or}
+use Rattle.std.proofs.Common.{◌≡◌, ℕ, suc, ◌+◌, ◌<◌, List, [], ◌∷◌, map, length, refl, sym, ap, ◌∙◌, subst, true, false, Bool, Some, cond, arith}
+use Rattle.std.specs.Prelude.{◌||◌, nat_eq, unwrap_or, slice_get, slice_set, slice_index_or}
 use Rattle.std.specs.Option.{option_map, option_and_then}
 use Rattle.std.specs.List.{list_any, position_from}
 use Rattle.std.proofs.lemmas.List.{map-set}
@@ -29,12 +29,12 @@ use Rattle.uc_ops.specs.Typing.{fields_form as op_fields_form, fields_of as op_f
 use Rattle.uc_ops.specs.Equality.{equal_types}
 use Rattle.uc_ops.specs.Decisions.{types-decided}
 use Rattle.uc_flat.specs.declared.expression.Expression.{Expression}
-use Rattle.uc_flat.specs.Reading.{type_of, value_of}
+use Rattle.uc_flat.specs.Reading.{value_of}
 use Rattle.uc_flat.proofs.Forms.{value_apply}
 use Rattle.uc_flat_expressions.specs.declared.typed.TypedExpression.{TypedExpression}
 use Rattle.uc_flat_code.specs.Code.{field_in, fields_in, with_field, are_different, field_place, replaced_in}
 use Rattle.uc_flat_design.proofs.Options.{then_some, map_some, if_some, some_same}
-use Rattle.uc_flat_design.proofs.Fields.{name_is, has_field, HasField, field_of_fit, field_fits, placed, IsPath}
+use Rattle.uc_flat_design.proofs.Fields.{name_is, has_field, field_of_fit, field_fits, placed, IsPath}
 
 same_fields_form : (x : Ty-F Ty) → fields_form x ≡ op_fields_form x
 same_fields_form (record_type fs) = refl

@@ -21,7 +21,7 @@ use Rattle.uc_values.specs.Values.{fits, truth_of, nothing}
 use Rattle.uc_meaning.specs.declared.scope.Interp.{Interp}
 use Rattle.uc_meaning.specs.Lookup.{System}
 use Rattle.uc_meaning.specs.Operators.{holds}
-use Rattle.uc_meaning.specs.Expressions.{Reading, reads, value, name, is_true as is_true_in}
+use Rattle.uc_meaning.specs.Expressions.{Reading, reads, value, is_true as is_true_in}
 use Rattle.uc_meaning.specs.Code.{Running, Ending, Goes, Stopped, Unfit, Bodies, Execution as Run, then_run, run_each, run_block, run_form, run_statement, run_by, in_scope, keep_locals, else_block, taken, take_choice, choose, name_now, set_name, write, write_all, replaced}
 use Rattle.uc_meaning.specs.Steps.{part_reading, fields_before}
 use Rattle.uc_meaning.proofs.Writes.{set_name_plain}

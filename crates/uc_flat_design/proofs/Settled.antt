@@ -1,8 +1,7 @@
 -- Cells after they are given values, part by part.
-use Rattle.std.proofs.Common.{◌≡◌, ◌≢◌, ℕ, ◌+◌, ◌<◌, ◌≤◌, List, [], ◌∷◌, ◌++◌, length, refl, sym, ap, ◌∙◌, subst, true, false, Bool, Option, Some, None, arith, zero, suc, max}
-use Rattle.std.specs.Prelude.{if◌then◌else◌, ◌&&◌, ◌||◌, nat_eq, slice_set, All}
+use Rattle.std.proofs.Common.{◌≡◌, ◌≢◌, ℕ, ◌+◌, ◌<◌, ◌≤◌, List, [], ◌∷◌, ◌++◌, length, refl, sym, ap, ◌∙◌, subst, true, false, Bool, Option, Some, None, arith, zero, suc}
+use Rattle.std.specs.Prelude.{if◌then◌else◌, ◌&&◌, ◌||◌, nat_eq, All}
 use Rattle.std.specs.Option.{option_map, option_and_then}
-use Rattle.std.specs.List.{list_any}
 use Rattle.std.proofs.lemmas.List.{get_or-set_same, get_or-set_other, length-set}
 use Rattle.std.proofs.lemmas.Bool.Decides.{nat_tests}
 use Rattle.std.proofs.lemmas.List.Elements.{All-head, All-tail}
@@ -20,14 +19,14 @@ use Rattle.uc_flat.specs.Executions.{FitAll}
 use Rattle.uc_same_values.specs.Same.{has_no_array}
 use Rattle.uc_same_values.proofs.Same.{same_holds}
 use Rattle.uc_flat_design.proofs.Options.{then_some, some_same}
-use Rattle.uc_flat_design.proofs.Fields.{placed, placed_same, placed_other, placed_own, stays_part, part_type_same, IsPath, path_part}
+use Rattle.uc_flat_design.proofs.Fields.{placed, placed_same, placed_other, stays_part, part_type_same, IsPath, path_part}
 use Rattle.uc_flat_once.specs.declared.once.Part.{Part}
 use Rattle.uc_flat_once.specs.Once.{overlaps, touched}
 use Rattle.uc_flat_design.specs.Next.{types_in}
-use Rattle.uc_flat_design.proofs.Effects.{Effect, part_of, parts_of, parts_in, reading_at, part_at, type_of_part, agrees, all_agree, given_value, put, performs, performed, Apart, apart_not, holds_own, true_false, none_some, same_nat, nat-eq}
+use Rattle.uc_flat_design.proofs.Effects.{Effect, part_of, parts_of, parts_in, reading_at, part_at, type_of_part, agrees, all_agree, given_value, put, performs, performed, Apart, apart_not, holds_own, true_false, same_nat, nat-eq}
 use Rattle.uc_flat_design.proofs.Parts.{parts_fit}
 use Rattle.uc_flat_design.proofs.Equal.{meets, AreGiven, equal_parts}
-use Rattle.uc_flat_design.proofs.Leaving.{FitsValue, FineAll, fit_at, IsLeft, one_left, part_type_is, put_fits}
+use Rattle.uc_flat_design.proofs.Leaving.{FitsValue, FineAll, fit_at, one_left, part_type_is, put_fits}
 
 abbrev pub ArePlain : List Ty → Type 0
 ArePlain types = All (λ ty. has_no_array ty ≡ true) types
@@ -208,7 +207,7 @@ keeps_all (c ∷ cells) j ms (v ∷ vs) (w ∷ ws) p f h = (
 -- ---- one effect
 
 -- the other cells stay
-put_elsewhere : (types : List Ty) (x : Effect) (cells : List Value) (v : Value) (k : ℕ) → nat_eq x.0 k ≡ false → part (put types cells x v) k ≡ part cells k
+pub put_elsewhere : (types : List Ty) (x : Effect) (cells : List Value) (v : Value) (k : ℕ) → nat_eq x.0 k ≡ false → part (put types cells x v) k ≡ part cells k
 put_elsewhere types x cells v k h = get_or-set_other cells x.0 k (placed (reading_at types cells x.0) x.1 v) nothing (nat-differ x.0 k h)
 
 put_here : (types : List Ty) (x : Effect) (cells : List Value) (v : Value) → x.0 < length cells → part (put types cells x v) x.0 ≡ placed (reading_at types cells x.0) x.1 v

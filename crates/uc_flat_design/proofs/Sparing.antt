@@ -1,6 +1,6 @@
 -- An expression has its value where cells that it does not read have other values.
 use Rattle.std.proofs.Common.{◌≡◌, ℕ, List, [], ◌∷◌, map, refl, sym, ap, ◌∙◌, subst, true, false, Bool}
-use Rattle.std.specs.Prelude.{not, nat_eq, ◌&&◌}
+use Rattle.std.specs.Prelude.{not, nat_eq}
 use Rattle.std.specs.List.{list_any, list_all}
 use Rattle.uc_values.specs.declared.ty.Ty.{Ty}
 use Rattle.uc_values.specs.declared.value.Value.{Value}
@@ -13,7 +13,7 @@ use Rattle.uc_flat.specs.declared.expression.Expression.{Expression}
 use Rattle.uc_flat.specs.declared.expression.Expression.TheOpen.{Expression-F}
 use Rattle.uc_flat.specs.declared.expression.Expression.TheOpen.Expression-F.{Cell as CellForm, Apply as ApplyForm}
 use Rattle.uc_flat.specs.declared.expression.Expression.TheViews.{roll-Expression}
-use Rattle.uc_flat.specs.declared.expression.Expression.TheVariants.{Cell, Apply, rolls-Cell, rolls-Apply}
+use Rattle.uc_flat.specs.declared.expression.Expression.TheVariants.{rolls-Cell, rolls-Apply}
 use Rattle.uc_flat.specs.declared.expression.Expression.TheFolds.{ind-Expression, map-Expression}
 use Rattle.uc_flat.specs.Reading.{read, value_of}
 use Rattle.uc_flat.proofs.Forms.{read_cell, read_apply}

@@ -1,5 +1,5 @@
 -- Steps of a design are steps of its code over cells, both ways.
-use Rattle.std.proofs.Common.{◌≡◌, ℕ, ◌+◌, ◌<◌, List, [], ◌∷◌, ◌++◌, map, length, drop, refl, sym, ap, ◌∙◌, subst, true, false, Bool, Option, Some, None, arith}
+use Rattle.std.proofs.Common.{◌≡◌, ℕ, ◌+◌, List, [], ◌∷◌, ◌++◌, length, drop, refl, sym, ap, ◌∙◌, subst, true, false, Bool, Option, Some, None, arith}
 use Rattle.std.specs.Prelude.{if◌then◌else◌}
 use Rattle.std.specs.Option.{option_map, option_and_then}
 use Rattle.std.proofs.lemmas.List.{length-map}
@@ -9,10 +9,8 @@ use Rattle.uc_meaning.specs.declared.scope.Interp.{Interp}
 use Rattle.uc_meaning.specs.declared.scope.Site.{Site}
 use Rattle.uc_meaning.specs.Lookup.{System}
 use Rattle.uc_meaning.specs.Cells.{Cell}
-use Rattle.uc_meaning.specs.Steps.{Watched, Check, Kept, Broken, Constraint, Blocks, AllKeep, part_reading, kept_if, writes, check_by, is_input, state_of, watched_first}
+use Rattle.uc_meaning.specs.Steps.{Watched, Check, Kept, Broken, Constraint, Blocks, AllKeep, kept_if, writes, check_by, is_input, state_of, watched_first}
 use Rattle.uc_ops.specs.declared.model.Model.{Model}
-use Rattle.uc_meaning.specs.Expressions.{reads}
-use Rattle.uc_ops.specs.Typing.{part_type}
 use Rattle.uc_ops.specs.Meaning.{part}
 use Rattle.uc_flat.specs.declared.statement.Statement.{Statement}
 use Rattle.uc_flat.specs.declared.statement.Statement.TheVariants.{Havoc}
@@ -26,8 +24,9 @@ use Rattle.uc_flat_once.specs.Once.{Writer, touched, written_by}
 use Rattle.uc_flat_design.specs.Next.{IsNextTable, types_in, inputs_from, step_code, IsReached, IsFound, StepFitsLaw, StepFoundLaw, StepIsLaw}
 use Rattle.uc_flat_design.proofs.Effects.{Effect, parts_of, parts_in, all_agree, performed, performed_append, kept_true, none_some}
 use Rattle.uc_flat_design.proofs.Leaving.{FineAll, left_fits}
-use Rattle.uc_flat_design.proofs.Told.{fit_length, both, Fine, Once, at, asked, ran, Told, goes_both, havoc_goes, code_told}
-use Rattle.uc_flat_design.proofs.Settled.{ArePlain, same_lists, at_fields, touched_append, neither, input_effects, keeps_same, keeps_all, frees, settled, settles, settled_new, left_length, left_kept, left_agrees}
+use Rattle.uc_flat_design.proofs.Told.{fit_length, Fine, Once, none_read, led, at, asked, ran, Stays, Told, goes_both, havoc_goes, code_told}
+use Rattle.uc_flat_design.proofs.Alike.{Agree}
+use Rattle.uc_flat_design.proofs.Settled.{ArePlain, at_fields, touched_append, neither, input_effects, keeps_same, keeps_all, frees, settled, settles, settled_new, left_length, left_kept, left_agrees}
 
 broken_kept : (w : Watched) → Broken ≡ Kept w → ⊥
 broken_kept w h = cc
@@ -74,14 +73,14 @@ module _ (system : System) (blocks : Blocks) (i : Interp) (m : Model) (names : L
   abbrev here : List Value → List Value → List Value → List ℕ → Placed
   here = at system blocks i m types names old new fit_old fit_new table n count
 
-  abbrev led : Option (List Effect) → List Value → List Value → List Value → List ℕ → Option Placed
-  led = ran system blocks i m types names old new fit_old fit_new table n count
+  abbrev leads : Option (List Effect) → List Value → List Value → List Value → List ℕ → Option Placed
+  leads = ran system blocks i m types names old new fit_old fit_new table n count
 
   abbrev seen_by : Option (List Effect) → Watched → Check
   seen_by = asked system blocks i m types names old new fit_old fit_new table n count
 
   abbrev Tells : Constraint → Writer → List Statement → Type 0
-  Tells = Told system blocks i m types names old new fit_old fit_new table n count
+  Tells = Told system blocks i m types names old new fit_old fit_new table n count []
 
   abbrev hs : List Effect
   hs = input_effects 0 cells
@@ -89,7 +88,7 @@ module _ (system : System) (blocks : Blocks) (i : Interp) (m : Model) (names : L
   fine_hs : FineAll types hs
   fine_hs = fine_inputs cells 0 types (omega (arith, count))
 
-  inputs_go : (cs : List Cell) (j : ℕ) → j + length cs ≡ length types → (xs left others : List Value) (sites : List ℕ) → FitAll types xs → run_all m two (inputs_from (j + n) cs) (here xs left others sites) ≡ led (Some (input_effects j cs)) xs left others sites
+  inputs_go : (cs : List Cell) (j : ℕ) → j + length cs ≡ length types → (xs left others : List Value) (sites : List ℕ) → FitAll types xs → run_all m two (inputs_from (j + n) cs) (here xs left others sites) ≡ leads (Some (input_effects j cs)) xs left others sites
   unfolding inputs_from
   inputs_go [] j e xs left others sites fit = run_none m two (here xs left others sites)
   inputs_go (c ∷ cs) j e xs left others sites fit = by_kind (is_input c.kind) (inputs_go cs (j + 1) (omega (arith, e)))
@@ -97,8 +96,8 @@ module _ (system : System) (blocks : Blocks) (i : Interp) (m : Model) (names : L
       moved : (zs l o : List Value) (s : List ℕ) → run_all m two (inputs_from (j + n + 1) cs) (here zs l o s) ≡ run_all m two (inputs_from (j + 1 + n) cs) (here zs l o s)
       moved zs l o s = ap (λ q. run_all m two (inputs_from q cs) (here zs l o s)) (omega arith)
 
-      by_kind : (b : Bool) → ((zs l o : List Value) (s : List ℕ) → FitAll types zs → run_all m two (inputs_from (j + 1 + n) cs) (here zs l o s) ≡ led (Some (input_effects (j + 1) cs)) zs l o s)
-          → run_all m two ((if b then Havoc (j + n) false ∷ [] else []) ++ inputs_from (j + n + 1) cs) (here xs left others sites) ≡ led (Some ((if b then (j, [], None) ∷ [] else []) ++ input_effects (j + 1) cs)) xs left others sites
+      by_kind : (b : Bool) → ((zs l o : List Value) (s : List ℕ) → FitAll types zs → run_all m two (inputs_from (j + 1 + n) cs) (here zs l o s) ≡ leads (Some (input_effects (j + 1) cs)) zs l o s)
+          → run_all m two ((if b then Havoc (j + n) false ∷ [] else []) ++ inputs_from (j + n + 1) cs) (here xs left others sites) ≡ leads (Some ((if b then (j, [], None) ∷ [] else []) ++ input_effects (j + 1) cs)) xs left others sites
       by_kind true rest =
           run_append m two (Havoc (j + n) false ∷ []) (inputs_from (j + n + 1) cs) (here xs left others sites)
           ∙ ap (option_and_then (run_all m two (inputs_from (j + n + 1) cs))) (havoc_goes system blocks i m types names old new fit_old fit_new table n count j (j + n) refl xs left others sites)
@@ -106,12 +105,58 @@ module _ (system : System) (blocks : Blocks) (i : Interp) (m : Model) (names : L
           (λ zs l o s f. moved zs l o s ∙ rest zs l o s f) xs left others sites fit
       by_kind false rest = moved xs left others sites ∙ rest xs left others sites fit
 
-  -- the code of a step
-  whole_goes : (c : Constraint) (u : Writer) (flat : List Statement) (a : Tells c u flat) (left others : List Value) (sites : List ℕ) → run_all m two (step_code cells flat) (here old left others sites) ≡ led (both (Some hs) a.effects) old left others sites
-  whole_goes c u flat a left others sites =
-      run_append m two (inputs_from n cells) flat (here old left others sites)
-      ∙ ap (option_and_then (run_all m two flat)) (ap (λ q. run_all m two (inputs_from q cells) (here old left others sites)) (omega arith) ∙ inputs_go cells 0 (omega (arith, count)) old left others sites fit_old)
-      ∙ goes_both system blocks i m types names old new fit_old fit_new table n count (Some hs) a.effects flat fine_hs a.goes old left others sites fit_old
+  -- what is read and written in the end is that of the new state
+  at_end : (ps : List Part) (zs : List Value) → zs ≡ new → Agree ps zs new
+  at_end ps zs e k h = ap (λ xs. part xs k) e
+
+  -- the code of a step, where effects lead to the new state
+  comes_to : (c : Constraint) (u : Writer) (flat : List Statement) (a : Tells c u flat) (after : List Part) (ms : List Effect) (others : List Value) → u [] ≡ Some after → a.effects ≡ Some ms → performed types (hs ++ ms) old others ≡ Some (new, [])
+      → run_all m two (step_code cells flat) (here old [] others []) ≡ Some (here new [] [] [])
+  comes_to c u flat a after ms others w e h =
+      let s = then_some (λ (z : List Value × List Value). performed types ms z.0 z.1) (performed types hs old others) (new, []) (sym (performed_append types hs ms old others) ∙ h) in
+      let z = s.0 in
+      let inputs : run_all m two (inputs_from n cells) (here old [] others []) ≡ Some (here z.0 [] z.1 []) =
+      ap (λ q. run_all m two (inputs_from q cells) (here old [] others [])) (omega arith) ∙ inputs_go cells 0 (omega (arith, count)) old [] others [] fit_old
+      ∙ ap (option_map (λ (q : List Value × List Value). here q.0 [] q.1 [])) s.1 in
+      run_append m two (inputs_from n cells) flat (here old [] others [])
+      ∙ ap (option_and_then (run_all m two flat)) inputs
+      ∙ a.comes [] after z.0 [] z.1 new [] [] w (none_read []) (left_fits types hs old others z fine_hs fit_old s.1) (at_end after new refl) (ap (λ o. led types o z.0 z.1) e ∙ s.2)
+
+  -- Where the code of a step leads: the inputs have these values, and the code of the block goes on from there.
+  record Ended (flat : List Statement) (to choices others : List Value) (sites : List ℕ) : Type 0 where
+    middle : List Value × List Value
+    inputs : performed types hs old others ≡ Some middle
+    fit : FitAll types middle.0
+    left : List Value
+    block : run_all m two flat (here middle.0 choices middle.1 []) ≡ Some (here to choices left [])
+    fit_to : FitAll types to
+    no_choices : choices ≡ []
+    no_sites : sites ≡ []
+
+  behind_old : (xs : List Value) → drop (length types) (old ++ xs) ≡ xs
+  behind_old xs = ap (λ k. drop k (old ++ xs)) (sym (fit_length types old fit_old)) ∙ drop_front old xs
+
+  ended : (c : Constraint) (u : Writer) (flat : List Statement) (a : Tells c u flat) (to choices : List Value) (sites : List ℕ) → (r : IsReached m types (step_code cells flat) old to choices sites) → Ended flat to choices r.others sites
+  ended c u flat a to choices sites r =
+      let end : Placed = record { cells = r.last; left = []; others = []; sites = sites } in
+      let s = then_some (run_all m two flat) (run_all m two (inputs_from n cells) (here old choices r.others [])) end (sym (run_append m two (inputs_from n cells) flat (here old choices r.others [])) ∙ r.ends) in
+      let t = map_some (λ (q : List Value × List Value). here q.0 choices q.1 []) (performed types hs old r.others) s.0
+      (sym (ap (λ q. run_all m two (inputs_from q cells) (here old choices r.others [])) (omega arith) ∙ inputs_go cells 0 (omega (arith, count)) old choices r.others [] fit_old) ∙ s.1) in
+      let z = t.0 in
+      let fit_z : FitAll types z.0 = left_fits types hs old r.others z fine_hs fit_old t.1 in
+      let run : run_all m two flat (here z.0 choices z.1 []) ≡ Some end = ap (run_all m two flat) t.2 ∙ s.2 in
+      let b : Stays system blocks i m types names old new fit_old fit_new table n count choices [] end = a.leaves z.0 choices z.1 [] end fit_z run in
+      let is_to : b.cells ≡ to = sym (behind_old b.cells) ∙ ap (λ (p : Placed). drop (length types) p.cells) (sym b.is) ∙ r.reaches in
+      record {
+        middle = z;
+        inputs = t.1;
+        fit = fit_z;
+        left = b.others;
+        block = run ∙ ap Some b.is ∙ ap (λ xs. Some (here xs choices b.others [])) is_to;
+        fit_to = subst (FitAll types) is_to b.fit;
+        no_choices = ap (λ (p : Placed). p.left) (sym b.is);
+        no_sites = ap (λ (p : Placed). p.sites) b.is;
+      }
 
   even_old : length old ≡ length types
   even_old = fit_length types old fit_old
@@ -132,13 +177,10 @@ module _ (system : System) (blocks : Blocks) (i : Interp) (m : Model) (names : L
   abbrev start : List Value → Watched
   start choices = watched_first i (state_of old) (state_of new) choices
 
-  behind_old : (xs : List Value) → drop (length types) (old ++ xs) ≡ xs
-  behind_old xs = ap (λ k. drop k (old ++ xs)) (sym even_old) ∙ drop_front old xs
-
-  found_by : (c : Constraint) (u : Writer) (flat : List Statement) (a : Tells c u flat) (seen : Watched) (choices : List Value) (sites : List Site) → c (start choices) ≡ Kept seen → seen.left ≡ [] → seen.sites ≡ sites → AllKeep seen.written 0 cells old new
+  found_by : (c : Constraint) (u : Writer) (flat : List Statement) (a : Tells c u flat) (seen : Watched) (after : List Part) (choices : List Value) (sites : List Site) → u [] ≡ Some after → c (start choices) ≡ Kept seen → seen.left ≡ [] → seen.sites ≡ sites → AllKeep seen.written 0 cells old new
       → (e : Option (List Effect)) → a.effects ≡ e → IsFound m cells flat old new choices sites
-  found_by c u flat a seen choices sites h used listed keeps None e = absurd (broken_kept seen (sym (a.asks (start choices) refl ∙ ap (λ o. seen_by o (start choices)) e) ∙ h))
-  found_by c u flat a seen choices sites h used listed keeps (Some ms) e =
+  found_by c u flat a seen after choices sites w h used listed keeps None e = absurd (broken_kept seen (sym (a.asks (start choices) refl ∙ ap (λ o. seen_by o (start choices)) e) ∙ h))
+  found_by c u flat a seen after choices sites w h used listed keeps (Some ms) e =
       let k = kept_true (all_agree types new ms) (writes (parts_in ms) (start choices)) seen (sym (a.asks (start choices) refl ∙ ap (λ o. seen_by o (start choices)) e) ∙ h) in
       let fine : FineAll types ms = subst (Fine types) e a.fine in
       let all = hs ++ ms in
@@ -150,11 +192,7 @@ module _ (system : System) (blocks : Blocks) (i : Interp) (m : Model) (names : L
         reached = record {
           others = frees types new fit_new plain all;
           last = old ++ new;
-          ends =
-              whole_goes c u flat a [] (frees types new fit_new plain all) []
-              ∙ ap (λ o. led (both (Some hs) o) old [] (frees types new fit_new plain all) []) e
-              ∙ ap (option_map (λ (q : List Value × List Value). here q.0 [] q.1 [])) runs
-              ∙ ap (λ xs. Some (here xs [] [] [])) (ends_at ms fine kept);
+          ends = comes_to c u flat a after ms (frees types new fit_new plain all) w e (runs ∙ ap (λ xs. Some (let p : List Value × List Value = (xs, []) in p)) (ends_at ms fine kept));
           reaches = behind_old new;
         };
       }
@@ -163,55 +201,41 @@ module _ (system : System) (blocks : Blocks) (i : Interp) (m : Model) (names : L
 
   asks_by : (c : Constraint) (u : Writer) (flat : List Statement) (a : Tells c u flat) (after : List Part) (choices : List Value) (sites : List ℕ) → u [] ≡ Some after → (r : IsReached m types (step_code cells flat) old new choices sites)
       → (e : Option (List Effect)) → a.effects ≡ e → (choices ≡ []) × (sites ≡ []) × (seen : Watched) × (c (start []) ≡ Kept seen) × (seen.left ≡ []) × (seen.sites ≡ []) × AllKeep seen.written 0 cells old new
-  asks_by c u flat a after choices sites w r None e = absurd (none_some (record { cells = r.last; left = []; others = []; sites = sites }) (sym (whole_goes c u flat a choices r.others [] ∙ ap (λ o. led (both (Some hs) o) old choices r.others []) e) ∙ r.ends))
+  asks_by c u flat a after choices sites w r None e =
+      let q = ended c u flat a new choices sites r in
+      absurd (none_some (new, q.left) (sym (ap (λ o. led types o q.middle.0 q.middle.1) e) ∙ a.goes [] after q.middle.0 choices q.middle.1 new q.left [] w (none_read []) q.fit (at_end after new refl) q.block))
   asks_by c u flat a after choices sites w r (Some ms) e =
-      let q = map_some (λ (z : List Value × List Value). here z.0 choices z.1 []) (performed types (hs ++ ms) old r.others) (record { cells = r.last; left = []; others = []; sites = sites })
-      (sym (whole_goes c u flat a choices r.others [] ∙ ap (λ o. led (both (Some hs) o) old choices r.others []) e) ∙ r.ends) in
-      let p = q.0 in
-      let is_new : p.0 ≡ new = sym (behind_old p.0) ∙ ap (λ (z : Placed). drop (length types) z.cells) q.2 ∙ r.reaches in
-      let s = then_some (λ (z : List Value × List Value). performed types ms z.0 z.1) (performed types hs old r.others) p (sym (performed_append types hs ms old r.others) ∙ q.1) in
-      let z = s.0 in
+      let q = ended c u flat a new choices sites r in
+      let z = q.middle in
+      let p : List Value × List Value = (new, q.left) in
+      let run : performed types ms z.0 z.1 ≡ Some p = sym (ap (λ o. led types o z.0 z.1) e) ∙ a.goes [] after z.0 choices z.1 new q.left [] w (none_read []) q.fit (at_end after new refl) q.block in
       let fine : FineAll types ms = subst (Fine types) e a.fine in
       let once = subst (λ o. Once [] o after) e (a.once [] after w) in
-      let fit_z : FitAll types z.0 = left_fits types hs old r.others z fine_hs fit_old s.1 in
-      let even_z : length z.0 ≡ length types = left_length types hs old r.others z fine_hs s.1 ∙ even_old in
-      let agree : all_agree types new ms ≡ true = subst (λ vs. all_agree types vs ms ≡ true) is_new (left_agrees types [] ms z.0 z.1 p plain fine fit_z once.1 even_z s.2) in (
-        ap (λ (y : Placed). y.left) q.2,
-        sym (ap (λ (y : Placed). y.sites) q.2),
+      let even_z : length z.0 ≡ length types = left_length types hs old r.others z fine_hs q.inputs ∙ even_old in
+      let agree : all_agree types new ms ≡ true = left_agrees types [] ms z.0 z.1 p plain fine q.fit once.1 even_z run in (
+        q.no_choices,
+        q.no_sites,
         writes (parts_in ms) (start []),
         a.asks (start []) refl ∙ ap (λ o. seen_by o (start [])) e ∙ ap (λ b. kept_if b (writes (parts_in ms) (start []))) agree,
         refl,
         refl,
         keeps_all cells 0 ms old new plain fit_old (λ k fields l there b d.
-            sym (sym (ap (λ vs. part_reading (reads (part_type types k) (part vs k)) fields) is_new)
-            ∙ left_kept types ms z.0 z.1 p k fields fine fit_z even_z there s.2 (ap (λ q'. touched (parts_of ms) (at_fields q' fields)) (omega arith) ∙ d)
-            ∙ left_kept types hs old r.others z k fields fine_hs fit_old even_old there s.1 (ap (λ q'. touched (parts_of hs) (at_fields q' fields)) (omega arith) ∙ b))),
+            sym (left_kept types ms z.0 z.1 p k fields fine q.fit even_z there run (ap (λ q'. touched (parts_of ms) (at_fields q' fields)) (omega arith) ∙ d)
+            ∙ left_kept types hs old r.others z k fields fine_hs fit_old even_old there q.inputs (ap (λ q'. touched (parts_of hs) (at_fields q' fields)) (omega arith) ∙ b))),
       )
 
-  -- ---- what is reached fits
-
-  fits_by : (c : Constraint) (u : Writer) (flat : List Statement) (a : Tells c u flat) (to choices : List Value) (sites : List ℕ) → (r : IsReached m types (step_code cells flat) old to choices sites)
-      → (e : Option (List Effect)) → a.effects ≡ e → FitAll types to
-  fits_by c u flat a to choices sites r None e = absurd (none_some (record { cells = r.last; left = []; others = []; sites = sites }) (sym (whole_goes c u flat a choices r.others [] ∙ ap (λ o. led (both (Some hs) o) old choices r.others []) e) ∙ r.ends))
-  fits_by c u flat a to choices sites r (Some ms) e =
-      let q = map_some (λ (z : List Value × List Value). here z.0 choices z.1 []) (performed types (hs ++ ms) old r.others) (record { cells = r.last; left = []; others = []; sites = sites })
-      (sym (whole_goes c u flat a choices r.others [] ∙ ap (λ o. led (both (Some hs) o) old choices r.others []) e) ∙ r.ends) in
-      let p = q.0 in
-      let is_to : p.0 ≡ to = sym (behind_old p.0) ∙ ap (λ (z : Placed). drop (length types) z.cells) q.2 ∙ r.reaches in
-      subst (FitAll types) is_to (left_fits types (hs ++ ms) old r.others p (fine_append types hs ms fine_hs (subst (Fine types) e a.fine)) fit_old q.1)
-
 pub found_holds : StepFoundLaw
-found_holds system blocks i m names cells code flat old new choices sites is fit_old fit_new step =
+found_holds system blocks i m names cells code flat old new choices sites after is once fit_old fit_new step =
     let a = code_told system blocks i m (types_in cells) names old new fit_old fit_new is.table (length cells) (sym (length-map cells (λ (c : Cell). c.type))) code flat is.is in
-    found_by system blocks i m names cells old new fit_old fit_new is.table is.plain (check_by system blocks code) (written_by names code) flat a step.seen choices sites step.holds step.uses_all step.lists step.keeps a.effects refl
+    found_by system blocks i m names cells old new fit_old fit_new is.table is.plain (check_by system blocks code) (written_by names (length cells) code) flat a step.seen after choices sites once step.holds step.uses_all step.lists step.keeps a.effects refl
 
 pub asks_holds : StepIsLaw
 asks_holds system blocks i m names cells code flat old new choices sites after is once fit_old fit_new reached =
     let a = code_told system blocks i m (types_in cells) names old new fit_old fit_new is.table (length cells) (sym (length-map cells (λ (c : Cell). c.type))) code flat is.is in
-    let s = asks_by system blocks i m names cells old new fit_old fit_new is.table is.plain (check_by system blocks code) (written_by names code) flat a after choices sites once reached a.effects refl in
+    let s = asks_by system blocks i m names cells old new fit_old fit_new is.table is.plain (check_by system blocks code) (written_by names (length cells) code) flat a after choices sites once reached a.effects refl in
     record { no_choices = s.0; no_sites = s.1; asked = record { seen = s.2; holds = s.3; uses_all = s.4; lists = s.5; keeps = s.6 } }
 
 pub fits_hold : StepFitsLaw
 fits_hold system blocks i m names cells code flat old new choices sites is fit_old reached =
     let a = code_told system blocks i m (types_in cells) names old old fit_old fit_old is.table (length cells) (sym (length-map cells (λ (c : Cell). c.type))) code flat is.is in
-    fits_by system blocks i m names cells old old fit_old fit_old is.table is.plain (check_by system blocks code) (written_by names code) flat a new choices sites reached a.effects refl
+    (ended system blocks i m names cells old old fit_old fit_old is.table is.plain (check_by system blocks code) (written_by names (length cells) code) flat a new choices sites reached).fit_to

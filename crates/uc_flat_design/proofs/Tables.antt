@@ -1,5 +1,5 @@
 -- The table of names of a design is one for its init code and for its next block.
-use Rattle.std.proofs.Common.{◌≡◌, ℕ, zero, List, [], ◌∷◌, map, length, refl, sym, ap, ◌∙◌, subst, true, false, Bool, Option, Some, None, arith}
+use Rattle.std.proofs.Common.{◌≡◌, ℕ, List, [], ◌∷◌, map, length, refl, sym, ap, ◌∙◌, subst, true, false, Bool, Option, Some, None, arith}
 use Rattle.std.specs.Prelude.{◌&&◌, nat_lt, if◌then◌else◌, slice_get, All}
 use Rattle.std.specs.List.{list_all, filter_map}
 use Rattle.std.proofs.lemmas.List.Elements.{All-cons, All-nil}
@@ -27,7 +27,7 @@ use Rattle.uc_meaning.specs.declared.scope.State.{State}
 use Rattle.uc_meaning.specs.Lookup.{System, instance_in, variable_of}
 use Rattle.uc_meaning.specs.Types.{label_of, type_of_written}
 use Rattle.uc_meaning.specs.Cells.{cell_of, FitAll as FitTypes}
-use Rattle.uc_meaning.specs.Expressions.{reads, reading, name, label_count}
+use Rattle.uc_meaning.specs.Expressions.{reads, reading, label_count}
 use Rattle.uc_meaning.specs.Plain.{IsTop}
 use Rattle.uc_meaning.specs.Steps.{state_of}
 use Rattle.uc_ops.specs.declared.model.Model.{Model}
@@ -44,7 +44,6 @@ use Rattle.uc_flat_names.proofs.Cells.{HasCells, cell_type}
 use Rattle.uc_flat_names.proofs.Meaning.{counted_at, mapped_at, name_in_cell, names_hold}
 use Rattle.uc_flat_design.specs.Tables.{IsSaid, IsTable}
 use Rattle.uc_flat_design.specs.Sequential.{now}
-use Rattle.uc_flat_design.specs.Next.{between, IsNextTable}
 use Rattle.uc_same_values.specs.Same.{has_no_array, no_array_form}
 use Rattle.uc_same_values.proofs.Same.{no_array-Rec}
 use Rattle.uc_flat_design.specs.Design.{is_finite, is_finite_form, is_cell_type, is_built}
@@ -112,7 +111,7 @@ all_valid [] h = All-nil Valid
 all_valid (t ∷ types) h = let b = and_true h in All-cons Valid t types (and_true b.0).0 (all_valid types b.1)
 
 -- each type has a value
-zeros_fit : (types : List Ty) → list_all is_cell_type types ≡ true → FitAll types (map zero_of types)
+pub zeros_fit : (types : List Ty) → list_all is_cell_type types ≡ true → FitAll types (map zero_of types)
 unfolding FitAll
 zeros_fit [] h = tt
 zeros_fit (t ∷ types) h = let b = and_true h in (zero-fits t (and_true b.0).0, zeros_fit types b.1)
@@ -133,14 +132,14 @@ some_same : {A : Type 0} (x y : A) → Some x ≡ Some y → x ≡ y
 some_same x y h = cc
 
 -- A name that stands for a cell is that of a variable with this cell.
-record IsEntry (system : System) (code : Module) (x k : ℕ) (ty : Ty) : Type 0 where
-  kind : VariableKind
-  type : TypeExpr
-  no_label : label_of system code x ≡ None
-  variable : variable_of code x ≡ Some (kind, type)
-  has_cells : HasCells kind
-  cell : cell_of system [] x ≡ Some k
-  own : type_of_written system code type ≡ ty
+pub record IsEntry (system : System) (code : Module) (x k : ℕ) (ty : Ty) : Type 0 where
+  pub kind : VariableKind
+  pub type : TypeExpr
+  pub no_label : label_of system code x ≡ None
+  pub variable : variable_of code x ≡ Some (kind, type)
+  pub has_cells : HasCells kind
+  pub cell : cell_of system [] x ≡ Some k
+  pub own : type_of_written system code type ≡ ty
 
 no_cell_label : (system : System) (l : ℕ × ℕ) (k : ℕ) (o : Option ℕ) (ty : Ty) → of_label system l ≡ Cell k o ty → ⊥
 no_cell_label system l k o ty h = by_test (nat_lt l.1 (label_count system l.0)) h
@@ -180,7 +179,7 @@ entry_label : (system : System) (code : Module) (x k : ℕ) (p : Option ℕ) (ty
 entry_label system code x k p ty (Some l) q e = absurd (no_cell_label system l k p ty e)
 entry_label system code x k p ty None q e = entry_variable system code x k p ty q (variable_of code x) refl e
 
-entry : (system : System) (code : Module) (x k : ℕ) (p : Option ℕ) (ty : Ty) → slice_get (names_over_cells system code) x ≡ Some (Cell k p ty) → IsEntry system code x k ty
+pub entry : (system : System) (code : Module) (x k : ℕ) (p : Option ℕ) (ty : Ty) → slice_get (names_over_cells system code) x ≡ Some (Cell k p ty) → IsEntry system code x k ty
 entry system code x k p ty h =
     let y = mapped_at (meant_in system code) (counted 0 (length system.names)) x (Cell k p ty) h in
     let is : y.0 ≡ x = omega (arith, counted_at 0 (length system.names) x y.0 y.1) in
@@ -222,17 +221,6 @@ module _ (system : System) (code : Module) (alone : StandsAlone system code) (m 
 
   pub init_table : (i : Interp) → IsTable system m (types_of system) (names_over_cells system code) (now i)
   init_table i = table_in (now i) (λ cells. record { path = refl; locals = refl }) (λ cells. refl)
-
-  pub next_table : (i : Interp) → IsNextTable system m (types_of system) (names_over_cells system code) i
-  next_table i = record {
-    table = λ new fit. table_in (between i new) (λ cells. record { path = refl; locals = refl }) (λ cells. refl);
-    primes = λ x k p ty h old new fit_old fit_new.
-        let a = entry system code x k p ty h in
-        name_in_cell system code alone (between i new old) (record { path = refl; locals = refl }) (reading system) x k true a.kind a.type a.no_label a.variable a.has_cells a.cell ∙ ap (λ t. reads t (part new k)) a.own;
-    typed = λ e t h.
-        let zeros = map zero_of (types_of system) in
-        (says (now i zeros) zeros (record { path = refl; locals = refl }) refl (zeros_fit (types_of system) cell_types) e t h).typed;
-  }
 
   -- what stands for an expression says it where all cells have the values that count as 0
   pub says_at_zeros : (e : Expr) (t : TypedExpression) → flat_of (names_over_cells system code) e ≡ Some t

@@ -26,7 +26,7 @@ use Rattle.uc_flat_code.specs.Code.{code_of}
 use Rattle.uc_flat_design.specs.Sequential.{plainly}
 use Rattle.uc_flat_once.specs.declared.once.Part.{Part}
 use Rattle.uc_flat_once.specs.Once.{written_by}
-use Rattle.uc_flat_design.specs.Next.{primed_behind, step_code}
+use Rattle.uc_flat_design.specs.Next.{primed_behind, names_between, step_code}
 
 abbrev pub is_finite_form : Ty-F Truth → Truth
 is_finite_form (record_type fields) = list_all (λ f. f.ty) fields
@@ -85,7 +85,11 @@ flat_with system init next formulas = record {
   axioms = 0;
 }
 
--- The design has one module, with declarations that are built, cells of such types, code and invariants over cells, and a next block that writes no part of a cell twice on one way; and this is the design over cells.
+-- what each name stands for in the next block of main
+abbrev pub next_names : System → Module → List Meant
+next_names system code = names_between (length (cells_of system)) (names_over_cells system code)
+
+-- The design has one module, with declarations that are built, cells of such types, code and invariants over cells, and a next block that writes no part of a cell on a way after it was written there, or read in the new state; and this is the design over cells.
 pub record IsFlatOf (system : System) (code : Module) (f : Flat) : Type 0 where
   pub only : system.modules ≡ code ∷ []
   pub first : system.main ≡ 0
@@ -96,7 +100,7 @@ pub record IsFlatOf (system : System) (code : Module) (f : Flat) : Type 0 where
   pub after : List Part
   pub formulas : List Formula
   pub init_is : code_of (names_over_cells system code) plainly (init_of code) ≡ Some init
-  pub next_is : code_of (names_over_cells system code) (primed_behind (length (cells_of system))) (next_of code) ≡ Some next
-  pub once : written_by (names_over_cells system code) (next_of code) [] ≡ Some after
+  pub next_is : code_of (next_names system code) (primed_behind (length (cells_of system))) (next_of code) ≡ Some next
+  pub once : written_by (next_names system code) (length (cells_of system)) (next_of code) [] ≡ Some after
   pub formulas_are : formulas_from (names_over_cells system code) 0 code.decls ≡ Some formulas
   pub is : f ≡ flat_with system init next formulas

@@ -7,7 +7,7 @@ use Rattle.uc_values.specs.declared.value.Value.{Value}
 use Rattle.uc_meaning.specs.declared.scope.Interp.{Interp}
 use Rattle.uc_meaning.specs.declared.scope.Site.{Site}
 use Rattle.uc_meaning.specs.Lookup.{System}
-use Rattle.uc_meaning.specs.Cells.{Cell}
+use Rattle.uc_meaning.specs.Cells.{Cell, cell_of}
 use Rattle.uc_meaning.specs.Expressions.{reads, reading, name}
 use Rattle.uc_meaning.specs.Steps.{Watched, Kept, Blocks, AllKeep, check_by, is_input, state_of, step_scope, watched_first}
 use Rattle.uc_ops.specs.declared.model.Model.{Model}
@@ -15,7 +15,6 @@ use Rattle.uc_ops.specs.Meaning.{part}
 use Rattle.uc_flat.specs.declared.statement.Statement.{Statement}
 use Rattle.uc_flat.specs.declared.statement.Statement.TheVariants.{Havoc}
 use Rattle.uc_flat.specs.Executions.{FitAll}
-use Rattle.uc_flat.specs.Fine.{IsTyped}
 use Rattle.uc_flat.specs.Running.{run_all}
 use Rattle.uc_flat_expressions.specs.declared.typed.TypedExpression.{TypedExpression}
 use Rattle.uc_flat_expressions.specs.declared.typed.Meant.{Meant}
@@ -23,7 +22,7 @@ use Rattle.uc_flat_expressions.specs.declared.typed.Meant.TheVariants.{Cell as C
 use Rattle.uc_flat_expressions.specs.Expressions.{flat_of}
 use Rattle.uc_flat_code.specs.declared.writing.Writing.{Writing}
 use Rattle.uc_flat_code.specs.Code.{code_of}
-use Rattle.uc_flat_design.specs.Tables.{Scopes, IsTable}
+use Rattle.uc_flat_design.specs.Tables.{Scopes, IsSaid}
 use Rattle.uc_same_values.specs.Same.{has_no_array}
 use Rattle.uc_flat_once.specs.declared.once.Part.{Part}
 use Rattle.uc_flat_once.specs.Once.{written_by}
@@ -36,12 +35,26 @@ between i new old = step_scope i (state_of old) (state_of new)
 abbrev pub primed_behind : ℕ → Writing
 primed_behind n = record { primed = true; shift = n }
 
--- A table for next blocks: names are read in the old state, whatever the new one is, and primed names of cells are those of the new state.
+-- What a name stands for between two states: the new value of a cell stands so many numbers behind the old one.
+abbrev pub with_new : ℕ → Meant → Meant
+with_new n (CellOf k new ty) = CellOf k (Some (k + n)) ty
+with_new n other = other
+
+abbrev pub names_between : ℕ → List Meant → List Meant
+names_between n names = map (with_new n) names
+
+-- a name of main is that of a cell of this number and type
+pub record IsCell (system : System) (types : List Ty) (x k : ℕ) (ty : Ty) : Type 0 where
+  pub cell : cell_of system [] x ≡ Some k
+  pub typed : slice_get types k ≡ Some ty
+
+-- A table for next blocks: what stands for an expression says it over the cells of both states, in one list, and primed names of cells are those of the new state.
 pub record IsNextTable (system : System) (m : Model) (types : List Ty) (names : List Meant) (i : Interp) : Type 0 where
-  pub table : (new : List Value) → FitAll types new → IsTable system m types names (between i new)
+  pub says : (old new : List Value) → FitAll types old → FitAll types new → (e : Expr) (t : TypedExpression) → flat_of names e ≡ Some t
+      → IsSaid system m (types ++ types) (between i new old) (old ++ new) e t
+  pub cells : (x k : ℕ) (o : Option ℕ) (ty : Ty) → slice_get names x ≡ Some (CellOf k o ty) → IsCell system types x k ty
   pub primes : (x k : ℕ) (o : Option ℕ) (ty : Ty) → slice_get names x ≡ Some (CellOf k o ty) → (old new : List Value) → FitAll types old → FitAll types new
       → name system (reading system) (between i new old) x true ≡ reads ty (part new k)
-  pub typed : (e : Expr) (t : TypedExpression) → flat_of names e ≡ Some t → IsTyped types t.expression
 
 abbrev pub types_in : List Cell → List Ty
 types_in cells = map (λ c. c.type) cells
@@ -77,7 +90,7 @@ pub record IsNextCode (system : System) (m : Model) (names : List Meant) (i : In
   pub plain : All (λ ty. has_no_array ty ≡ true) (types_in cells)
   pub is : code_of names (primed_behind (length cells)) code ≡ Some flat
 
--- Where the next block holds between two states, with no choices and no sites, its code over cells leads from the one to the other.
+-- Where the next block holds between two states, with no choices and no sites, and no way through it writes a part of a cell after it was written there, or read in the new state, its code over cells leads from the one to the other.
 pub record IsFound (m : Model) (cells : List Cell) (flat : List Statement) (old new choices : List Value) (sites : List Site) : Type 0 where
   pub no_choices : choices ≡ []
   pub no_sites : sites ≡ []
@@ -85,11 +98,11 @@ pub record IsFound (m : Model) (cells : List Cell) (flat : List Statement) (old 
 
 abbrev pub StepFoundLaw : Type 0
 StepFoundLaw =
-    (system : System) (blocks : Blocks) (i : Interp) (m : Model) (names : List Meant) (cells : List Cell) (code : List Stmt) (flat : List Statement) (old new choices : List Value) (sites : List Site)
-    → IsNextCode system m names i cells code flat → FitAll (types_in cells) old → FitAll (types_in cells) new
+    (system : System) (blocks : Blocks) (i : Interp) (m : Model) (names : List Meant) (cells : List Cell) (code : List Stmt) (flat : List Statement) (old new choices : List Value) (sites : List Site) (after : List Part)
+    → IsNextCode system m names i cells code flat → written_by names (length cells) code [] ≡ Some after → FitAll (types_in cells) old → FitAll (types_in cells) new
     → IsAsked system blocks i cells code old new choices sites → IsFound m cells flat old new choices sites
 
--- Where the code over cells leads from one state to another, and no way through the next block writes a part of a cell twice, the next block holds between the two, with no choices and no sites.
+-- Where that code over cells leads from one state to another, the next block holds between the two, with no choices and no sites.
 pub record IsStepThere (system : System) (blocks : Blocks) (i : Interp) (cells : List Cell) (code : List Stmt) (old new choices : List Value) (sites : List ℕ) : Type 0 where
   pub no_choices : choices ≡ []
   pub no_sites : sites ≡ []
@@ -98,7 +111,7 @@ pub record IsStepThere (system : System) (blocks : Blocks) (i : Interp) (cells :
 abbrev pub StepIsLaw : Type 0
 StepIsLaw =
     (system : System) (blocks : Blocks) (i : Interp) (m : Model) (names : List Meant) (cells : List Cell) (code : List Stmt) (flat : List Statement) (old new choices : List Value) (sites : List ℕ) (after : List Part)
-    → IsNextCode system m names i cells code flat → written_by names code [] ≡ Some after → FitAll (types_in cells) old → FitAll (types_in cells) new
+    → IsNextCode system m names i cells code flat → written_by names (length cells) code [] ≡ Some after → FitAll (types_in cells) old → FitAll (types_in cells) new
     → IsReached m (types_in cells) (step_code cells flat) old new choices sites → IsStepThere system blocks i cells code old new choices sites
 
 -- The code over cells leads from fitting cells to fitting cells.

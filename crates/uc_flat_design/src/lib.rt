@@ -11,12 +11,13 @@ pub fn sequential_code()
     ensures { SequentialLaw }
 {}
 
-/// Each step of a `next` block is one of its code over the cells of both states, run in order.
+/// Each step of a `next` block is one of its code over the cells of both states, run in order, where no way through the block writes a part
+/// of a cell after it was written there, or read in the new state.
 pub fn next_found()
     ensures { StepFoundLaw }
 {}
 
-/// Each step of that code over cells is one of the block, where no way through the block writes a part of a cell twice.
+/// Each step of that code over cells is one of the block, under the same condition.
 pub fn next_asks()
     ensures { StepIsLaw }
 {}

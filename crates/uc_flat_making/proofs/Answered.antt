@@ -19,7 +19,7 @@ use Rattle.uc_flat_expressions.specs.Answers.{IsAnswer}
 use Rattle.uc_flat_code.specs.Code.{code_of}
 use Rattle.uc_flat_names.specs.Names.{StandsAlone, names_over_cells, types_of}
 use Rattle.uc_flat_design.specs.Sequential.{plainly}
-use Rattle.uc_flat_design.specs.Next.{primed_behind}
+use Rattle.uc_flat_design.specs.Next.{primed_behind, names_between}
 use Rattle.uc_flat_design.specs.Design.{is_built, is_cell_type, formulas_from, IsFlatOf}
 use Rattle.uc_flat_table.specs.declared.cells.OwnCell.{OwnCell}
 use Rattle.uc_flat_making.specs.Made.{IsMade, full, flat_over, next_once, made_over, made_typed, made, made_only, made_whole}
@@ -69,8 +69,9 @@ made_is system code f only first built typed h =
     let p = then_parts (λ init. option_and_then (λ next. option_map (flat_over cells init next) (formulas_from names 0 code.decls)) (next_once names cells code)) (code_of names plainly (init_of code)) f h in
     let q = then_parts (λ next. option_map (flat_over cells p.0 next) (formulas_from names 0 code.decls)) (next_once names cells code) f p.2 in
     let r = map_parts (flat_over cells p.0 q.0) (formulas_from names 0 code.decls) f q.2 in
-    let t = if_some (is_some (written_by names (next_of code) [])) (code_of names (primed_behind (length cells)) (next_of code)) q.0 q.1 in
-    let u = some_of (written_by names (next_of code) []) t.0 in
+    let next_names = names_between (length cells) names in
+    let t = if_some (is_some (written_by next_names (length cells) (next_of code) [])) (code_of next_names (primed_behind (length cells)) (next_of code)) q.0 q.1 in
+    let u = some_of (written_by next_names (length cells) (next_of code) []) t.0 in
     record {
       only = only;
       first = first;
@@ -94,7 +95,7 @@ made_some system code f is =
       flat_over cells is.init is.next is.formulas,
       ap (option_and_then (λ init. option_and_then (λ next. option_map (flat_over cells init next) (formulas_from names 0 code.decls)) (next_once names cells code))) is.init_is
           ∙ ap (option_and_then (λ next. option_map (flat_over cells is.init next) (formulas_from names 0 code.decls)))
-          (ap (λ o. if is_some o then code_of names (primed_behind (length cells)) (next_of code) else None) is.once ∙ is.next_is)
+          (ap (λ o. if is_some o then code_of (names_between (length cells) names) (primed_behind (length cells)) (next_of code) else None) is.once ∙ is.next_is)
           ∙ ap (option_map (flat_over cells is.init is.next)) is.formulas_are,
     )
 

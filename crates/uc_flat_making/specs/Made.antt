@@ -15,7 +15,7 @@ use Rattle.uc_flat_expressions.specs.declared.typed.FlatError.TheVariants.{NoMem
 use Rattle.uc_flat_code.specs.Code.{code_of}
 use Rattle.uc_flat_names.specs.Names.{names_over_cells, types_of}
 use Rattle.uc_flat_design.specs.Sequential.{plainly}
-use Rattle.uc_flat_design.specs.Next.{primed_behind, step_code}
+use Rattle.uc_flat_design.specs.Next.{primed_behind, names_between, step_code}
 use Rattle.uc_flat_table.specs.declared.cells.OwnCell.{OwnCell}
 use Rattle.uc_flat_design.specs.Design.{is_built, is_cell_type, flat_cell, formulas_from, IsFlatOf}
 
@@ -43,9 +43,9 @@ flat_over cells init next formulas = record {
   axioms = 0;
 }
 
--- the code of the next block, where this writes no part of a cell twice on one way
+-- the code of the next block, where this writes no part of a cell on a way after it was written there, or read in the new state
 abbrev pub next_once : List Meant → List Cell → Module → Option (List Statement)
-next_once names cells code = code_once names (primed_behind (length cells)) (next_of code)
+next_once names cells code = code_once (names_between (length cells) names) (primed_behind (length cells)) (next_of code)
 
 -- the design over cells by what the names stand for
 abbrev pub made_over : List Meant → List Cell → Module → Option Flat

@@ -70,7 +70,8 @@ pub(crate) fn init_code(
     flat_code(alloc, names, writing, block.as_slice())
 }
 
-/// The code over cells of the `next` block of a module, where no way through it writes a part of a cell twice.
+/// The code over cells of the `next` block of a module, where no way through it writes a part of a cell after it was written there, or read in
+/// the new state.
 pub(crate) fn next_code(
     alloc: Global,
     names: &[Meant],

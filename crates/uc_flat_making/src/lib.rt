@@ -4,10 +4,12 @@
 mod blocks;
 mod holding;
 mod making;
+mod names;
 mod parts;
 mod pieces;
 mod types;
 
 pub use making::flat_design;
+pub use names::names_between;
 pub use parts::are_built;
 pub use types::is_cell_type;

@@ -10,6 +10,7 @@ ghost use Rattle.uc_flat_design.specs.Design.{flat_cell};
 ghost use Rattle.uc_flat_making.specs.Made.{full, flat_over, next_once, made_over};
 
 use crate::blocks::{init_code, next_code};
+use crate::names::names_between;
 use crate::parts::{formulas, inputs};
 use std::alloc::{AllocError, Global};
 use uc_flat::{Cell, Flat, Formula, Statement};
@@ -100,7 +101,7 @@ fn flat_over(
     })
 }
 
-/// The code of the `next` block, where it writes no part of a cell twice on one way.
+/// The code of the `next` block, where it writes no part of a cell on a way after it was written there, or read in the new state.
 fn next_once(
     alloc: Global,
     names: &[Meant],
@@ -115,7 +116,8 @@ fn next_once(
         primed: true,
         shift: count,
     };
-    next_code(alloc, names, writing, code)
+    let names = names_between(alloc, names, count)?;
+    next_code(alloc, names.as_slice(), writing, code)
 }
 
 fn plain_code(alloc: Global, names: &[Meant], code: &Module) -> Result<Items<Statement>, FlatError>

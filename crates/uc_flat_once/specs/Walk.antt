@@ -1,4 +1,4 @@
--- The parts that are written after code, in one list with those from before.
+-- The parts that are written or read after code, in one list with those from before.
 use Rattle.std.specs.Prelude.{List, [], ◌∷◌, ◌++◌, Option, Some}
 use Rattle.std.specs.Option.{option_map, option_and_then}
 use Rattle.uc_flat_once.specs.declared.once.Part.{Part}

@@ -8,6 +8,7 @@ ghost use Rattle.uc_meaning.specs.Steps.{fields_before, is_prefix};
 ghost use Rattle.uc_flat_once.specs.Once.{overlaps, touched, writes_part, writer_of, target_writer, writer, written_by, code_once};
 ghost use Rattle.uc_flat_once.specs.Walk.{after_one, each_after, arms_only, beside};
 
+use crate::reads::{with_conditions, with_reads, with_sources};
 use std::alloc::{AllocError, Global};
 use uc_flat::Statement;
 use uc_flat_code::{Writing, flat_code};
@@ -22,8 +23,8 @@ pub struct Part {
     pub fields: Items<u32>,
 }
 
-/// The code over cells of a next block that writes no part of a cell twice on one way, where names stand for what is listed by their numbers.
-/// Not built is what `flat_code` does not build, and a part that is written again.
+/// The code over cells of a next block that writes no part of a cell on a way after it was written there, or read in the new state, where
+/// names stand for what is listed by their numbers. Not built is what `flat_code` does not build, and a part that is written then.
 #[tactic(auto, using(crate::proofs::After::once_err, crate::proofs::After::once_again, crate::proofs::After::once_built))]
 pub fn code_once(
     alloc: Global,
@@ -34,36 +35,42 @@ pub fn code_once(
     ensures { IsAnswer (code_once names.now writing code.now) result }
 {
     let flat = flat_code(alloc, names, writing, code)?;
-    let is_once = writes_once(alloc, names, code)?;
+    let is_once = writes_once(alloc, names, writing.shift, code)?;
     if !is_once {
         return Err(FlatError::NotBuilt);
     }
     Ok(flat)
 }
 
-/// Whether no way through the code writes a part of a cell twice.
+/// Whether no way through the code writes a part of a cell after it was written or read, where the cells of the new state begin with `first`.
 #[tactic(auto, using(crate::proofs::After::once_told))]
-fn writes_once(alloc: Global, names: &[Meant], code: &[Stmt]) -> Result<bool, AllocError>
-    ensures { IfOk result (λ b. b ≡ is_some (written_by names.now code.now [])) }
+fn writes_once(
+    alloc: Global,
+    names: &[Meant],
+    first: u32,
+    code: &[Stmt],
+) -> Result<bool, AllocError>
+    ensures { IfOk result (λ b. b ≡ is_some (written_by names.now first code.now [])) }
 {
-    let after = after_code(alloc, names, code, Items::new(alloc))?;
+    let after = after_code(alloc, names, first, code, Items::new(alloc))?;
     Ok(after.is_some())
 }
 
-/// The parts that were written before, and those that code writes, unless one is written again.
+/// The parts that were written or read before, and those that code writes or reads, unless one is written again.
 #[cycle(after_code)]
 #[tactic(auto, unfolding(crate::specs::Walk::each_after))]
 fn after_code(
     alloc: Global,
     names: &[Meant],
+    first: u32,
     code: &[Stmt],
     before: Items<Part>,
 ) -> Result<Option<Items<Part>>, AllocError>
-    ensures { IfOk result (λ o. o ≡ each_after (map (writer names.now) code.now) before) }
+    ensures { IfOk result (λ o. o ≡ each_after (map (writer names.now first) code.now) before) }
 {
     let mut now = before;
     for statement in code {
-        match after_statement(alloc, names, statement, now)? {
+        match after_statement(alloc, names, first, statement, now)? {
             Some(more) => now = more,
             None => return Ok(None),
         }
@@ -76,24 +83,33 @@ fn after_code(
 fn after_statement(
     alloc: Global,
     names: &[Meant],
+    first: u32,
     statement: &Stmt,
     before: Items<Part>,
 ) -> Result<Option<Items<Part>>, AllocError>
-    ensures { IfOk result (λ o. o ≡ after_one (writer names.now statement.now) before) }
+    ensures { IfOk result (λ o. o ≡ after_one (writer names.now first statement.now) before) }
 {
     match statement {
-        Stmt::Block(_, block) => after_code(alloc, names, block.as_slice(), before),
+        Stmt::Block(_, block) => after_code(alloc, names, first, block.as_slice(), before),
+        Stmt::Assume(_, e) => {
+            let read = with_reads(alloc, names, first, e, before)?;
+            Ok(Some(read))
+        }
         Stmt::Havoc(_, name, _) => after_name(names, name.name, Items::new(alloc), before),
-        Stmt::Assign(_, targets, _) => after_targets(alloc, names, targets.as_slice(), before),
+        Stmt::Assign(_, targets, sources) => {
+            let read = with_sources(alloc, names, first, sources.as_slice(), before)?;
+            after_targets(alloc, names, targets.as_slice(), read)
+        }
         Stmt::If(_, arms, otherwise) => {
-            let start = before.len();
-            let Some((now, found)) = after_arms(alloc, names, arms.as_slice(), before)? else {
+            let read = with_conditions(alloc, names, first, arms.as_slice(), before)?;
+            let start = read.len();
+            let Some((now, found)) = after_arms(alloc, names, first, arms.as_slice(), read)? else {
                 return Ok(None);
             };
             match otherwise {
                 None => joined(alloc, now, start, found),
                 Some(block) => {
-                    let Some(after) = after_code(alloc, names, block.as_slice(), now)? else {
+                    let Some(after) = after_code(alloc, names, first, block.as_slice(), now)? else {
                         return Ok(None);
                     };
                     joined(alloc, after, start, found)
@@ -101,14 +117,15 @@ fn after_statement(
             }
         }
         Stmt::Case(_, arms, otherwise) => {
-            let start = before.len();
-            let Some((now, found)) = after_arms(alloc, names, arms.as_slice(), before)? else {
+            let read = with_conditions(alloc, names, first, arms.as_slice(), before)?;
+            let start = read.len();
+            let Some((now, found)) = after_arms(alloc, names, first, arms.as_slice(), read)? else {
                 return Ok(None);
             };
             match otherwise {
                 None => joined(alloc, now, start, found),
                 Some(block) => {
-                    let Some(after) = after_code(alloc, names, block.as_slice(), now)? else {
+                    let Some(after) = after_code(alloc, names, first, block.as_slice(), now)? else {
                         return Ok(None);
                     };
                     joined(alloc, after, start, found)
@@ -118,7 +135,6 @@ fn after_statement(
         Stmt::Local(..) => Ok(Some(before)),
         Stmt::Skip(_) => Ok(Some(before)),
         Stmt::Assert(..) => Ok(Some(before)),
-        Stmt::Assume(..) => Ok(Some(before)),
         Stmt::For(..) => Ok(Some(before)),
         Stmt::Call(..) => Ok(Some(before)),
         Stmt::Next(..) => Ok(Some(before)),
@@ -131,10 +147,11 @@ fn after_statement(
 fn after_arms(
     alloc: Global,
     names: &[Meant],
+    first: u32,
     arms: &[Arm<Stmt>],
     before: Items<Part>,
 ) -> Result<Option<(Items<Part>, Items<Part>)>, AllocError>
-    ensures { IfOk result (λ o. o ≡ beside before (arms_only (map (each_arm (writer names.now)) arms.now) before)) }
+    ensures { IfOk result (λ o. o ≡ beside before (arms_only (map (each_arm (writer names.now first)) arms.now) before)) }
 {
     let start = before.len();
     let mut now = before;
@@ -142,7 +159,7 @@ fn after_arms(
     for arm in arms {
         let block = arm.body.as_slice();
         for statement in block {
-            match after_statement(alloc, names, statement, now)? {
+            match after_statement(alloc, names, first, statement, now)? {
                 Some(more) => now = more,
                 None => return Ok(None),
             }

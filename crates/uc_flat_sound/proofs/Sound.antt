@@ -8,7 +8,6 @@ use Rattle.uc_syntax.specs.declared.declaration.Decl.{Decl}
 use Rattle.uc_syntax.specs.declared.declaration.Decl.TheVariants.{Invariant}
 use Rattle.uc_syntax.specs.declared.declaration.Module.{Module}
 use Rattle.uc_values.specs.declared.ty.Ty.{Ty}
-use Rattle.uc_values.specs.Values.{zero_of}
 use Rattle.uc_meaning.specs.Lookup.{System, init_of, next_of}
 use Rattle.uc_meaning.specs.Cells.{Cell, cells_of}
 use Rattle.uc_meaning.specs.Steps.{is_input}
@@ -20,7 +19,6 @@ use Rattle.uc_flat.specs.declared.statement.Statement.TheVariants.{Havoc}
 use Rattle.uc_flat.specs.Fine.{IsTest, AreFine, ReadsBelow, CodeReadsBelow}
 use Rattle.uc_flat.specs.Flats.{cell_types, repeated, axioms_of, IsFormula}
 use Rattle.uc_flat.proofs.Making.{Alone, AloneReads, fine_alone, reads_alone}
-use Rattle.uc_flat_front.proofs.Front.{front_holds}
 use Rattle.uc_flat_expressions.specs.declared.typed.Meant.{Meant}
 use Rattle.uc_flat_expressions.specs.Types.{is_boolean}
 use Rattle.uc_flat_expressions.specs.Expressions.{flat_of}
@@ -33,8 +31,9 @@ use Rattle.uc_flat_fits.proofs.Laws.{fits_suited, reads_suited, sequential_holds
 use Rattle.uc_flat_design.specs.Sequential.{plainly}
 use Rattle.uc_flat_design.proofs.Options.{then_some, map_some, if_some, some_same}
 use Rattle.uc_flat_design.specs.Next.{primed_behind, inputs_from, step_code}
-use Rattle.uc_flat_design.specs.Design.{condition_of, formula_in, formulas_from, IsFlatOf}
-use Rattle.uc_flat_design.proofs.Tables.{all_valid, says_at_zeros, init_table}
+use Rattle.uc_flat_design.specs.Design.{next_names, condition_of, formula_in, formulas_from, IsFlatOf}
+use Rattle.uc_flat_design.proofs.Tables.{all_valid, says_at_zeros, init_table, no_interpretation}
+use Rattle.uc_flat_design.proofs.NextTable.{next_table, next_says_at_zeros}
 use Rattle.uc_flat_design.proofs.Laws.{alone_of, flat_types}
 use Rattle.uc_flat_sound.specs.Law.{SoundLaw}
 
@@ -102,19 +101,23 @@ module _ (system : System) (code : Module) (f : Flat) (d : IsFlatOf system code 
   reads e t h = (says_at_zeros system code (alone_of system code f d) no_model d.types e t h).below
 
   cells_of_names : AreCellsOf names types
-  cells_of_names x k new ty h = ((init_table system code (alone_of system code f d) no_model d.types (record { consts = []; tables = [] })).cells x k new ty h).typed
+  cells_of_names x k new ty h = ((init_table system code (alone_of system code f d) no_model d.types no_interpretation).cells x k new ty h).typed
 
   even : length (cells_of system) ≡ length types
   even = sym (length-map (cells_of system) (λ (c : Cell). c.type))
 
-  zeros_even : length (map zero_of types) ≡ length types
-  zeros_even = length-map types zero_of
+  -- the same of the next block, over the cells of both states
+  abbrev between : List Meant
+  between = next_names system code
 
-  fit_twice : ExpressionsFit names (types ++ types)
-  fit_twice e t h =
-      let a = fit e t h in
-      let x = front_holds no_model types types (map zero_of types) [] t.expression zeros_even a.0 in
-      (x.typed, x.type ∙ a.1)
+  fit_twice : ExpressionsFit between (types ++ types)
+  fit_twice e t h = let x = next_says_at_zeros system code (alone_of system code f d) no_model d.types e t h in (x.typed, x.own)
+
+  reads_twice : ExpressionsReadBelow between 0
+  reads_twice e t h = (next_says_at_zeros system code (alone_of system code f d) no_model d.types e t h).below
+
+  cells_between : AreCellsOf between types
+  cells_between x k new ty h = ((next_table system code (alone_of system code f d) no_model d.types no_interpretation).cells x k new ty h).typed
 
   init_fine : Everywhere (Alone types) d.init
   init_fine = code_gives names plainly (Alone types) (fits_suited names plainly types fit (sequential_holds names types cells_of_names) valid) (init_of code) d.init d.init_is
@@ -122,19 +125,19 @@ module _ (system : System) (code : Module) (f : Flat) (d : IsFlatOf system code 
   init_reads : Everywhere (AloneReads 0) d.init
   init_reads = code_gives names plainly (AloneReads 0) (reads_suited names plainly 0 reads) (init_of code) d.init d.init_is
 
-  next_written : AreWritten names (primed_behind (length (cells_of system))) (types ++ types)
-  next_written = subst (λ n. AreWritten names (record { primed = true; shift = n }) (types ++ types)) (sym even) (step_holds names types cells_of_names)
+  next_written : AreWritten between (primed_behind (length (cells_of system))) (types ++ types)
+  next_written = subst (λ n. AreWritten between (record { primed = true; shift = n }) (types ++ types)) (sym even) (step_holds between types cells_between)
 
   step_fine : Everywhere (Alone (types ++ types)) (step_code (cells_of system) d.next)
   step_fine = both (Alone (types ++ types)) (inputs_from (length (cells_of system)) (cells_of system)) d.next
       (inputs_fine (types ++ types) (cells_of system) (length (cells_of system)) (λ k l.
       let a = there types k valid (omega (arith, l, even)) in
       (a.0, get_behind types types (length (cells_of system)) k even ∙ a.1, a.2)))
-      (code_gives names (primed_behind (length (cells_of system))) (Alone (types ++ types)) (fits_suited names (primed_behind (length (cells_of system))) (types ++ types) fit_twice next_written (valid_append types types valid valid)) (next_of code) d.next d.next_is)
+      (code_gives between (primed_behind (length (cells_of system))) (Alone (types ++ types)) (fits_suited between (primed_behind (length (cells_of system))) (types ++ types) fit_twice next_written (valid_append types types valid valid)) (next_of code) d.next d.next_is)
 
   step_reads : Everywhere (AloneReads 0) (step_code (cells_of system) d.next)
   step_reads = both (AloneReads 0) (inputs_from (length (cells_of system)) (cells_of system)) d.next (inputs_read (cells_of system) (length (cells_of system)) 0)
-      (code_gives names (primed_behind (length (cells_of system))) (AloneReads 0) (reads_suited names (primed_behind (length (cells_of system))) 0 reads) (next_of code) d.next d.next_is)
+      (code_gives between (primed_behind (length (cells_of system))) (AloneReads 0) (reads_suited between (primed_behind (length (cells_of system))) 0 reads_twice) (next_of code) d.next d.next_is)
 
   -- ---- formulas
 

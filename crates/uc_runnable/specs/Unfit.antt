@@ -27,7 +27,7 @@ use Rattle.uc_flat_code.specs.Code.{code_of}
 use Rattle.uc_flat_once.specs.Once.{code_once}
 use Rattle.uc_flat_names.specs.Names.{names_over_cells}
 use Rattle.uc_flat_design.specs.Sequential.{plainly}
-use Rattle.uc_flat_design.specs.Next.{primed_behind}
+use Rattle.uc_flat_design.specs.Next.{primed_behind, names_between}
 use Rattle.uc_flat_design.specs.Design.{is_built, is_cell_type, condition_of}
 use Rattle.uc_fragment.specs.Plain.{with_variables, is_print, unknown_type}
 
@@ -63,7 +63,7 @@ unfit_statement names w s = unless_there (begins_at s) (code_of names w (s ∷ [
 abbrev pub unfit_block : List Meant → Writing → List Stmt → Option Place
 unfit_block names w block = first_some (unfit_statement names w) block
 
--- the same of a next block; then the block itself, where it writes a part of a cell twice on one way
+-- the same of a next block; then the block itself, where it writes a part of a cell on a way after it was written there, or read in the new state
 abbrev pub unfit_next : List Meant → Writing → Place → List Stmt → Option Place
 unfit_next names w place block = or_else (unfit_block names w block) (unless_there place (code_once names w block))
 
@@ -104,7 +104,7 @@ unfit system m names cells count (TypeImport place n) = Some place
 unfit system m names cells count (TypeAlias place i type) = unfit_type system m place type
 unfit system m names cells count (Variables place kind is type) = unfit_type system m place type
 unfit system m names cells count (Init place block) = unfit_block names plainly block
-unfit system m names cells count (Next place block) = unfit_next names (primed_behind count) place block
+unfit system m names cells count (Next place block) = unfit_next (names_between count names) (primed_behind count) place block
 unfit system m names cells count (Invariant place i e) = unfit_condition names place e
 unfit system m names cells count (Control place commands) = unfit_commands cells place commands
 unfit system m names cells count other = None

@@ -50,7 +50,7 @@ fn has_code(
     }
 }
 
-/// Whether a next block has code over cells, and writes no part of a cell twice on one way.
+/// Whether a next block has code over cells, and writes no part of a cell on a way after it was written there, or read in the new state.
 #[tactic(auto, using(crate::proofs::Answers::there, crate::proofs::Answers::not_there))]
 fn has_code_once(
     alloc: Global,
@@ -85,7 +85,8 @@ pub(crate) fn unfit_block(
     Ok(None)
 }
 
-/// The same of a next block that begins at a place; then the block itself, where it writes a part of a cell twice on one way.
+/// The same of a next block that begins at a place; then the block itself, where it writes a part of a cell on a way after it was written
+/// there, or read in the new state.
 pub(crate) fn unfit_next(
     alloc: Global,
     names: &[Meant],
