@@ -1,0 +1,5 @@
+pub mod Ways
+pub mod Names
+pub mod Shifting
+pub mod Moving
+pub mod Tops
