@@ -3,3 +3,5 @@ pub mod Names
 pub mod Shifting
 pub mod Moving
 pub mod Tops
+pub mod Leaving
+pub mod Graphs

@@ -14,7 +14,8 @@ use Rattle.uc_way_laws.proofs.Among.{among_back, among_flat}
 use Rattle.uc_order_rules.specs.Roots.{rooted, name_at, is_bound_input, instances_in}
 use Rattle.uc_order_rules.specs.Uses.{UsedDefine, UsedProcedure, UsedInput, UsePlace, binding_places, uses_in, all_uses}
 use Rattle.uc_use_laws.specs.Ways.{is_own}
-use Rattle.uc_use_laws.proofs.Shifting.{shift, is_proper, bound_shift}
+use Rattle.uc_use_laws.specs.GraphLaw.{shift, is_proper}
+use Rattle.uc_use_laws.proofs.Shifting.{bound_shift}
 
 clash : {A : Type 0} → false ≡ true → A
 clash h = cc

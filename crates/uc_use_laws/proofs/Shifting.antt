@@ -10,9 +10,10 @@ use Rattle.uc_meaning.specs.Lookup.{System, Defined, module_at, instance_of, var
 use Rattle.uc_meaning.specs.Expressions.{binding_of, binding_from}
 use Rattle.uc_way_laws.specs.AliasLaw.{IsAmong}
 use Rattle.uc_way_laws.proofs.Among.{among_left, among_right, among_split}
-use Rattle.uc_order_rules.specs.Roots.{NameAt, name_at, led, instance_named_at, is_input, is_bound_input}
+use Rattle.uc_order_rules.specs.Roots.{name_at, led, instance_named_at, is_input, is_bound_input}
 use Rattle.uc_order_rules.specs.Mentions.{Mention, Reads, Applies, ReadsOld, mentions, expressions_in, calls_in}
 use Rattle.uc_order_rules.specs.Uses.{Used, UsedDefine, UsedProcedure, UsedInput, name_uses, define_uses, mention_uses, expression_uses, clause_expressions, procedure_uses, body_uses, binding_uses, uses_of}
+use Rattle.uc_use_laws.specs.GraphLaw.{is_proper, shift_name, shift, entry}
 use Rattle.uc_use_laws.specs.RootReads.{root_name, root_mentions, root_names_in, root_in_procedure, root_in_body, root_in_binding, root_reads}
 
 clash : {A : Type 0} → false ≡ true → A
@@ -30,29 +31,6 @@ some_mapped : {A B : Type 0} (f : A → B) (o : Option A) → is_some (option_ma
 some_mapped f None = refl
 some_mapped f (Some x) = refl
 
--- a define, a procedure, or an input of an instance
-abbrev pub is_proper : Used → Bool
-is_proper (UsedDefine n) = true
-is_proper (UsedProcedure n) = true
-is_proper (UsedInput n) = is_below n.path
-  where
-    is_below : List ℕ → Bool
-    is_below [] = false
-    is_below (i ∷ path) = true
-
-abbrev pub shift_name : ℕ → NameAt → NameAt
-shift_name i n = name_at (i ∷ n.path) n.name
-
--- what is used inside an instance, seen from the root
-abbrev pub shift : ℕ → Used → Used
-shift i (UsedDefine n) = UsedDefine (shift_name i n)
-shift i (UsedProcedure n) = UsedProcedure (shift_name i n)
-shift i (UsedInput n) = UsedInput (shift_name i n)
-
--- an input of the instance to which the root binds
-abbrev pub entry : ℕ → ℕ → Used
-entry i z = UsedInput (name_at (i ∷ []) z)
-
 module _ (root inner : System) (i : ℕ) (alike : (q : List ℕ) → module_at root (i ∷ q) ≡ module_at inner q) where
   -- Where a use leads that the first list has: to one of the second list inside the instance, or to an input of the instance.
   abbrev pub Traces : Used → List Used → List ℕ → Type 0
@@ -60,16 +38,18 @@ module _ (root inner : System) (i : ℕ) (alike : (q : List ℕ) → module_at r
 
   pub record Shifted (outer us : List Used) (zs : List ℕ) : Type 0 where
     pub there : (u : Used) → IsAmong u us → IsAmong (shift i u) outer
+    pub sound : (u : Used) → IsAmong u us → is_proper u ≡ true
     pub out : (z : ℕ) → IsAmong z zs → is_bound_input root (name_at (i ∷ []) z) ≡ true → IsAmong (entry i z) outer
     pub back : (y : Used) → IsAmong y outer → Traces y us zs
 
   shifted_none : Shifted [] [] []
   unfolding IsAmong
-  shifted_none = record { there = λ u h. absurd h; out = λ z h. absurd h; back = λ y h. absurd h }
+  shifted_none = record { there = λ u h. absurd h; sound = λ u h. absurd h; out = λ z h. absurd h; back = λ y h. absurd h }
 
   shifted_append : (as' bs cs ds : List Used) (xs ys : List ℕ) → Shifted as' bs xs → Shifted cs ds ys → Shifted (as' ++ cs) (bs ++ ds) (xs ++ ys)
   shifted_append as' bs cs ds xs ys s t = record {
     there = λ u h. ⊎_elim (λ a. among_left (shift i u) as' cs (s.there u a)) (λ b. among_right (shift i u) as' cs (t.there u b)) (among_split u bs ds h);
+    sound = λ u h. ⊎_elim (λ a. s.sound u a) (λ b. t.sound u b) (among_split u bs ds h);
     out = λ z h bound. ⊎_elim (λ a. among_left (entry i z) as' cs (s.out z a bound)) (λ b. among_right (entry i z) as' cs (t.out z b bound)) (among_split z xs ys h);
     back = λ y h.
         ⊎_elim
@@ -86,6 +66,7 @@ module _ (root inner : System) (i : ℕ) (alike : (q : List ℕ) → module_at r
   unfolding IsAmong
   shifted_one u proper = record {
     there = λ v h. ⊎_elim (λ e. inl (ap (shift i) e)) (λ r. absurd r) h;
+    sound = λ v h. ⊎_elim (λ e. ap is_proper e ∙ proper) (λ r. absurd r) h;
     out = λ z h. absurd h;
     back = λ y h. ⊎_elim (λ e. inl (u, inl refl, proper, e)) (λ r. absurd r) h;
   }
@@ -94,6 +75,7 @@ module _ (root inner : System) (i : ℕ) (alike : (q : List ℕ) → module_at r
   unfolding IsAmong
   shifted_out z bound = record {
     there = λ v h. absurd h;
+    sound = λ v h. absurd h;
     out = λ x h b. ⊎_elim (λ e. inl (ap (entry i) e)) (λ r. absurd r) h;
     back = λ y h. ⊎_elim (λ e. inr (z, inl refl, bound, e)) (λ r. absurd r) h;
   }
@@ -102,6 +84,7 @@ module _ (root inner : System) (i : ℕ) (alike : (q : List ℕ) → module_at r
   unfolding IsAmong
   shifted_unbound z unbound = record {
     there = λ v h. absurd h;
+    sound = λ v h. absurd h;
     out = λ x h b. ⊎_elim (λ e. clash (sym unbound ∙ ap (λ y. is_bound_input root (name_at (i ∷ []) y)) (sym e) ∙ b)) (λ r. absurd r) h;
     back = λ y h. absurd h;
   }
@@ -203,3 +186,52 @@ module _ (root inner : System) (i : ℕ) (alike : (q : List ℕ) → module_at r
       by [] x h = clash h
       by (a ∷ p) x h =
           subst (λ o. Shifted (binding_uses root o) (binding_uses inner (binding_of inner (a ∷ p) x)) (root_in_binding inner (binding_of inner (a ∷ p) x))) (sym (binding_shift a p x)) (shifted_binding (binding_of inner (a ∷ p) x))
+
+-- what is used inside an instance reads no name of the root
+module _ (root : System) (i : ℕ) where
+  none_flat : {A : Type 0} (f : A → List ℕ) → ((x : A) → f x ≡ []) → (xs : List A) → flat_map f xs ≡ []
+  none_flat f each [] = refl
+  none_flat f each (x ∷ xs) = ap (λ ys. ys ++ flat_map f xs) (each x) ∙ none_flat f each xs
+
+  led_below : (q : List ℕ) (x : ℕ) (ys : List ℕ) → root_name (led root (i ∷ q) x ys) ≡ []
+  unfolding led
+  led_below q x [] = refl
+  led_below q x (y ∷ ys) = by (is_some (instance_named_at root (i ∷ q) x)) (led_below (q ++ x ∷ []) y ys)
+    where
+      by : (b : Bool) → root_name (led root (i ∷ (q ++ x ∷ [])) y ys) ≡ [] → root_name (if b then led root (i ∷ (q ++ x ∷ [])) y ys else name_at (i ∷ q) x) ≡ []
+      by true e = e
+      by false e = refl
+
+  none_mention : (q : List ℕ) (m : Mention) → root_mentions root (i ∷ q) m ≡ []
+  none_mention q (Reads x primed ys) = led_below q x ys
+  none_mention q (Applies f) = refl
+  none_mention q (ReadsOld x) = refl
+
+  none_in : (q : List ℕ) (e : Expr) → root_names_in root (i ∷ q) e ≡ []
+  none_in q e = none_flat (root_mentions root (i ∷ q)) (none_mention q) (mentions e)
+
+  none_body : (q : List ℕ) (o : Option Defined) → root_in_body root (i ∷ q) o ≡ []
+  none_body q None = refl
+  none_body q (Some d) = none_in q d.body
+
+  none_procedure : (q : List ℕ) (o : Option ProcedureParts) → root_in_procedure root (i ∷ q) o ≡ []
+  none_procedure q None = refl
+  none_procedure q (Some p) = none_flat (root_names_in root (i ∷ q)) (none_in q) (flat_map clause_expressions p.clauses ++ flat_map expressions_in p.body)
+
+  none_binding : (a : ℕ) (p : List ℕ) (x : ℕ) (o : Option (List ℕ × ℕ)) → root_in_binding root (binding_from root x (option_map (λ r. (i ∷ r.0, r.1)) o)) ≡ []
+  none_binding a p x None = refl
+  none_binding a p x (Some r) = by (option_and_then (λ c. bound_to c x) (option_and_then (λ n. instance_of n r.1) (module_at root (i ∷ r.0))))
+    where
+      by : (o : Option Expr) → root_in_binding root (option_map (λ e. (i ∷ r.0, e)) o) ≡ []
+      by None = refl
+      by (Some e) = none_in r.0 e
+
+  pub none_below : (u : Used) → is_proper u ≡ true → root_reads root (shift i u) ≡ []
+  unfolding parent_of
+  none_below (UsedDefine n) proper = none_body n.path (option_and_then (λ c. define_of c n.name) (module_at root (i ∷ n.path)))
+  none_below (UsedProcedure n) proper = none_procedure n.path (option_and_then (λ c. procedure_of c n.name) (module_at root (i ∷ n.path)))
+  none_below (UsedInput n) proper = by n.path n.name proper
+    where
+      by : (p : List ℕ) (x : ℕ) → is_proper (UsedInput (name_at p x)) ≡ true → root_reads root (UsedInput (name_at (i ∷ p) x)) ≡ []
+      by [] x h = clash h
+      by (a ∷ p) x h = none_binding a p x (parent_of (a ∷ p))

@@ -13,7 +13,8 @@ use Rattle.uc_use_laws.specs.Ways.{is_own}
 use Rattle.uc_use_laws.specs.TopLaw.{InstancesStand, IsRoundTop, RoundsHaveTops}
 use Rattle.uc_use_laws.proofs.Ways.{Way, Goes, goes_one, goes_first}
 use Rattle.uc_use_laws.proofs.Names.{goes, leads}
-use Rattle.uc_use_laws.proofs.Shifting.{shift, is_proper, shifted}
+use Rattle.uc_use_laws.specs.GraphLaw.{shift, is_proper}
+use Rattle.uc_use_laws.proofs.Shifting.{shifted}
 use Rattle.uc_use_laws.proofs.Moving.{alike, get_among, place_of, as_list_is, listed, moved, first_below, uses_moved, own_uses}
 
 rest_of : List ℕ → List ℕ
