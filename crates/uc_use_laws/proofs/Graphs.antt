@@ -1,5 +1,5 @@
 -- Ways of uses, and ways in the graph of those that have numbers.
-use Rattle.std.proofs.Common.{◌≡◌, ℕ, zero, suc, ◌<◌, true, false, List, Option, Some, refl, ap, sym, subst, ◌∙◌, ◌⊎◌, inl, inr, ⊎_elim, arith}
+use Rattle.std.proofs.Common.{◌≡◌, ℕ, zero, suc, ◌<◌, true, false, List, [], Option, Some, None, refl, ap, sym, subst, ◌∙◌, ◌⊎◌, inl, inr, ⊎_elim, arith}
 use Rattle.uc_meaning.specs.Lookup.{System}
 use Rattle.uc_way_laws.specs.AliasLaw.{IsAmong}
 use Rattle.uc_needed_first.specs.Order.{has, needs}
@@ -9,7 +9,7 @@ use Rattle.uc_order_rules.specs.Roots.{rooted}
 use Rattle.uc_order_rules.specs.Uses.{Used, uses_of}
 use Rattle.uc_use_laws.specs.Ways.{Leads, is_own}
 use Rattle.uc_use_laws.specs.RootReads.{root_reads}
-use Rattle.uc_use_laws.specs.GraphLaw.{entry, Escapes, NumbersUses, GraphsLead, OwnUsesEscape}
+use Rattle.uc_use_laws.specs.GraphLaw.{IsIdle, entry, Escapes, NumbersUses, GraphsLead, OwnUsesEscape}
 use Rattle.uc_use_laws.proofs.Ways.{Way, Goes, goes_one, goes_on}
 use Rattle.uc_use_laws.proofs.Names.{goes, leads}
 use Rattle.uc_use_laws.proofs.Leaving.{leaves, arrives, below_not_own, stands, reader_own}
@@ -52,12 +52,17 @@ module _ (s : System) (graph : List (List ℕ)) (k : ℕ) (number : Used → Opt
   edge_found : (v : Used) (n m : ℕ) → number v ≡ Some m → has (needs graph n) m ≡ true → Found n v
   edge_found v n m is e = (m, is, by_edge graph n m e)
 
-  found : (fuel l : ℕ) (u v : Used) (n : ℕ) → l < fuel → number u ≡ Some n → is_own v ≡ true → Way (uses_of K) l u v → Found n v
+  idle_way : {A : Type 0} (l : ℕ) (x v : Used) → uses_of K x ≡ [] → Way (uses_of K) l x v → A
+  unfolding Way IsAmong
+  idle_way zero x v none w = absurd (subst (λ ys. IsAmong v ys) none w)
+  idle_way (suc l) x v none w = absurd (subst (λ ys. IsAmong w.0 ys) none w.1)
+
+  found : (fuel l : ℕ) (u v : Used) (n : ℕ) → l < fuel → number u ≡ Some n → is_own v ≡ true → (IsIdle K number v → ⊥) → Way (uses_of K) l u v → Found n v
   unfolding Way
-  found zero l u v n lt is own w = absurd (omega (arith, lt))
-  found (suc fuel) l u v n lt is own w =
+  found zero l u v n lt is own live w = absurd (omega (arith, lt))
+  found (suc fuel) l u v n lt is own live w =
       ⊎_elim
-      (λ mine. at_own l lt w mine (λ j x m less num way. found fuel j x v m less num own way))
+      (λ mine. at_own l lt w mine (λ j x m less num way. found fuel j x v m less num own live way))
       (λ r.
       let b = known.below r.0 r.1 n r.2 (ap number (sym r.3) ∙ is) in
       ⊎_elim
@@ -65,18 +70,28 @@ module _ (s : System) (graph : List (List ℕ)) (k : ℕ) (number : Used → Opt
       let t = b.there z.0 z.1 z.2 in
       ⊎_elim
       (λ e. edge_found v n t.0 (ap number e ∙ t.1) t.2)
-      (λ way. along v n t.0 t.2 (found fuel way.0 (entry r.0 z.0) v t.0 (omega (arith, lt, way.1)) t.1 own way.2))
+      (λ way. along v n t.0 t.2 (found fuel way.0 (entry r.0 z.0) v t.0 (omega (arith, lt, way.1)) t.1 own live way.2))
       z.3)
       (λ c. clash (sym (below_not_own r.0 c.0 c.2) ∙ ap is_own (sym c.1) ∙ own))
       (leaves K (rooted s b.place) r.0 b.is_place l r.1 v r.2 (subst (λ x. Way (uses_of K) l x v) r.3 w)))
       (stands u (known.proper u n is))
     where
       at_own : (l : ℕ) → l < suc fuel → Way (uses_of K) l u v → is_own u ≡ true → ((j : ℕ) (x : Used) (m : ℕ) → j < fuel → number x ≡ Some m → Way (uses_of K) j x v → Found m v) → Found n v
-      at_own zero lt w mine more = let t = known.there u v n is mine w in edge_found v n t.0 t.1 t.2
-      at_own (suc l) lt w mine more = let t = known.there u w.0 n is mine w.1 in along v n t.0 t.2 (more l w.0 t.0 (omega (arith, lt)) t.1 w.2)
+      at_own zero lt w mine more = ⊎_elim (λ t. edge_found v n t.0 t.1 t.2) (λ idle. absurd (live idle)) (known.there u v n is mine w)
+      at_own (suc l) lt w mine more = ⊎_elim (λ t. along v n t.0 t.2 (more l w.0 t.0 (omega (arith, lt)) t.1 w.2)) (λ idle. idle_way l w.0 v idle.1 w.2) (known.there u w.0 n is mine w.1)
 
-  pub found_by : (u v : Used) (n : ℕ) → number u ≡ Some n → is_own v ≡ true → Leads K u v → Found n v
-  found_by u v n is own h = let g = goes K u v h in found (suc g.0) g.0 u v n (omega arith) is own g.1
+  pub found_by : (u v : Used) (n : ℕ) → number u ≡ Some n → is_own v ≡ true → (IsIdle K number v → ⊥) → Leads K u v → Found n v
+  found_by u v n is own live h = let g = goes K u v h in found (suc g.0) g.0 u v n (omega arith) is own live g.1
+
+  numbered_live : (v : Used) (m : ℕ) → number v ≡ Some m → IsIdle K number v → ⊥
+  numbered_live v m there idle = differ m (sym idle.0 ∙ there)
+    where
+      differ : (m : ℕ) → None ≡ Some m → ⊥
+      differ m h = cc
+
+  reader_live : (v : Used) (z : ℕ) → IsAmong z (root_reads K v) → IsIdle K number v → ⊥
+  unfolding IsAmong
+  reader_live v z among idle = subst (λ zs. IsAmong z zs) idle.2 among
 
   pub leads_by_way : (u v : Used) (n m : ℕ) → number u ≡ Some n → number v ≡ Some m → LeadsTo graph n m → Leads K u v
   leads_by_way u v n m is there w =
@@ -88,7 +103,7 @@ module _ (s : System) (graph : List (List ℕ)) (k : ℕ) (number : Used → Opt
 
   pub back : (u v : Used) (n m : ℕ) → number u ≡ Some n → number v ≡ Some m → is_own v ≡ true → Leads K u v → LeadsTo graph n m
   back u v n m is there own h =
-      let f = found_by u v n is own h in
+      let f = found_by u v n is own (numbered_live v m there) h in
       subst (λ x. LeadsTo graph n x) (some_same f.0 m (sym f.1 ∙ there)) f.2
 
   abbrev Readers : ℕ → ℕ → Type 0
@@ -98,7 +113,7 @@ module _ (s : System) (graph : List (List ℕ)) (k : ℕ) (number : Used → Opt
   readers u n z is e =
       ⊎_elim
       (λ same. (e.0, n, ap number (sym same) ∙ is, inl refl, e.2))
-      (λ w. let f = found_by u e.0 n is (reader_own K e.0 z e.2) w in (e.0, f.0, f.1, inr f.2, e.2))
+      (λ w. let f = found_by u e.0 n is (reader_own K e.0 z e.2) (reader_live e.0 z e.2) w in (e.0, f.0, f.1, inr f.2, e.2))
       e.1
 
   pub read_by : (u : Used) (n z : ℕ) → number u ≡ Some n → Readers n z → Escapes K u z

@@ -1,5 +1,5 @@
 -- The uses of a root as the nodes of a graph, in which what lies below an instance is passed in one step.
-use Rattle.std.specs.Prelude.{◌≡◌, ◌⊎◌, ◌↔◌, ℕ, Bool, true, false, List, [], ◌∷◌, Option, Some}
+use Rattle.std.specs.Prelude.{◌≡◌, ◌⊎◌, ◌↔◌, ℕ, Bool, true, false, List, [], ◌∷◌, Option, Some, None}
 use Rattle.uc_meaning.specs.Lookup.{System, module_at}
 use Rattle.uc_way_laws.specs.AliasLaw.{IsAmong}
 use Rattle.uc_needed_first.specs.Order.{has, needs}
@@ -47,11 +47,15 @@ pub record SkipsBelow (system : System) (graph : List (List ℕ)) (number : Used
   pub only : (m : ℕ) → has (needs graph n) m ≡ true → (z : ℕ) × Escapes (rooted system place) u z × (is_bound_input (rooted system k) (name_at (i ∷ []) z) ≡ true) × (number (entry i z) ≡ Some m)
   pub there : (z : ℕ) → Escapes (rooted system place) u z → is_bound_input (rooted system k) (name_at (i ∷ []) z) ≡ true → (m : ℕ) × (number (entry i z) ≡ Some m) × (has (needs graph n) m ≡ true)
 
+-- a use that uses and reads nothing, and needs no number
+abbrev pub IsIdle : System → (Used → Option ℕ) → Used → Type 0
+IsIdle system number u = (number u ≡ None) × (uses_of system u ≡ []) × (root_reads system u ≡ [])
+
 -- Some uses of a root have numbers. From the root's own an edge leads to each that it uses.
 pub record NumbersUses (system : System) (graph : List (List ℕ)) (k : ℕ) (number : Used → Option ℕ) : Type 0 where
   pub proper : (u : Used) (n : ℕ) → number u ≡ Some n → is_proper u ≡ true
   pub only : (u : Used) (n m : ℕ) → number u ≡ Some n → is_own u ≡ true → has (needs graph n) m ≡ true → (y : Used) × IsAmong y (uses_of (rooted system k) u) × (number y ≡ Some m)
-  pub there : (u y : Used) (n : ℕ) → number u ≡ Some n → is_own u ≡ true → IsAmong y (uses_of (rooted system k) u) → (m : ℕ) × (number y ≡ Some m) × (has (needs graph n) m ≡ true)
+  pub there : (u y : Used) (n : ℕ) → number u ≡ Some n → is_own u ≡ true → IsAmong y (uses_of (rooted system k) u) → ((m : ℕ) × (number y ≡ Some m) × (has (needs graph n) m ≡ true)) ⊎ IsIdle (rooted system k) number y
   pub below : (i : ℕ) (u : Used) (n : ℕ) → is_proper u ≡ true → number (shift i u) ≡ Some n → SkipsBelow system graph number k i u n
   pub alone : (u v : Used) (n : ℕ) → number u ≡ Some n → number v ≡ Some n → u ≡ v
 
