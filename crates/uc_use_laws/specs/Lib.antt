@@ -1,0 +1,4 @@
+pub mod Ways
+pub mod RootReads
+pub mod TopLaw
+pub mod GraphLaw
