@@ -1,8 +1,9 @@
 -- Parts that are written twice on one path through a next block, and variables that are named twice among the targets of one statement.
-use Rattle.std.specs.Prelude.{ℕ, zero, suc, Bool, true, false, ◌||◌, not, nat_eq, List, [], ◌∷◌, ◌++◌, map, length, slice_get, Option, Some, None}
-use Rattle.std.specs.List.{flat_map, list_any, filter}
-use Rattle.std.specs.Option.{option_and_then}
+use Rattle.std.specs.Prelude.{ℕ, zero, suc, Bool, true, false, ◌||◌, ◌&&◌, not, nat_eq, if◌then◌else◌, List, [], ◌∷◌, ◌++◌, map, length, Option, Some, None}
+use Rattle.std.specs.List.{flat_map, list_any, filter_map}
+use Rattle.std.specs.Option.{is_some, option_and_then, option_map}
 use Rattle.uc_lexer.specs.declared.place.Place.{Place}
+use Rattle.uc_syntax.specs.declared.expression.Expr.TheViews.{out-Expr}
 use Rattle.uc_syntax.specs.declared.statement.Target.{Target}
 use Rattle.uc_syntax.specs.declared.statement.Stmt.{Stmt}
 use Rattle.uc_syntax.specs.declared.statement.Stmt.TheOpen.{Stmt-F}
@@ -12,17 +13,16 @@ use Rattle.uc_syntax.specs.declared.declaration.Procedure.{Procedure as Procedur
 use Rattle.uc_syntax.specs.declared.declaration.Decl.{Decl}
 use Rattle.uc_syntax.specs.declared.declaration.Decl.TheVariants.{Init, Procedure}
 use Rattle.uc_syntax.specs.declared.declaration.Module.{Module}
-use Rattle.uc_meaning.specs.Lookup.{System, module_at, procedure_of, next_of}
-use Rattle.uc_meaning.specs.Cells.{Cell, is_main, cells_of}
-use Rattle.uc_meaning.specs.Code.{written_cell, turns, modifies_of}
-use Rattle.uc_meaning.specs.Steps.{CellPart, fields_before, part_of_cell, is_written, main_next}
+use Rattle.uc_meaning.specs.Lookup.{System, InstanceParts, module_at, module_named, instance_of, procedure_of, bound_to, next_of}
+use Rattle.uc_meaning.specs.Code.{written_cell, turns, modifies_of, name_form}
+use Rattle.uc_meaning.specs.Steps.{CellPart, fields_before, part_of_cell, is_prefix}
 use Rattle.uc_rules.specs.declared.fault.Fault.{Fault}
 use Rattle.uc_rules.specs.declared.rule.Rule.TheVariants.{TwiceAssigned}
 use Rattle.uc_rules.specs.Faults.{breaks_where}
 use Rattle.uc_order_rules.specs.Mentions.{all_of, otherwise_of}
 use Rattle.uc_order_rules.specs.Paths.{Along, Stretch, nothing, in_turn, turned, arms}
 
--- The parts that a statement writes: up to the first index of a target; a bound output is the name that it is bound to.
+-- The cells that a statement writes, by parts: up to the first index of a target; a bound output is the name that it is bound to.
 
 abbrev pub target_part : System → List ℕ → Target → List CellPart
 target_part system path t = part_of_cell (fields_before t.parts) (written_cell system path t.name)
@@ -38,76 +38,128 @@ abbrev pub call_parts : System → List ℕ → List Target → ℕ → List Cel
 call_parts system path targets f =
     flat_map (target_part system path) targets ++ modified_parts system path (option_and_then (λ m. procedure_of m f) (module_at system path))
 
--- a part that was written before, or that contains or lies in one that was
-abbrev pub overlaps : List CellPart → CellPart → Bool
-overlaps before p = is_written before p.cell p.fields
+-- A part of what a module writes: the name of a variable or an output of the module, with the names of the fields down to the part; or the
+-- name of an instance, for all cells inside it. Only stepping an instance writes cells inside it, and each step writes the same ones. A
+-- module declares no name twice.
+abbrev pub Part : Type 0
+Part = List ℕ
 
--- parts that are written from left to right, one of which overlaps an earlier one
-unfoldable pub clash : List CellPart → List CellPart → Bool
-clash before [] = false
-clash before (p ∷ ps) = overlaps before p || clash (before ++ p ∷ []) ps
+-- one part lies in the other
+abbrev pub overlap : Part → Part → Bool
+overlap p q = is_prefix p q || is_prefix q p
+
+-- a target, up to its first index
+abbrev pub part_of_target : Target → Part
+part_of_target t = t.name ∷ fields_before t.parts
+
+abbrev pub part_of_name : ℕ → Part
+part_of_name x = x ∷ []
+
+abbrev pub modified_names : Option ProcedureParts → List ℕ
+modified_names None = []
+modified_names (Some p) = modifies_of p
+
+abbrev pub modified_in : Module → ℕ → List ℕ
+modified_in m f = modified_names (procedure_of m f)
+
+-- Which of two parts meet, an earlier one and a later one.
+abbrev pub Meets : Type 0
+Meets = Part → Part → Bool
+
+-- a part that meets an earlier one
+abbrev pub met : Meets → List Part → Part → Bool
+met meets before p = list_any (λ q. meets q p) before
+
+-- parts that are written from left to right, one of which meets an earlier one
+unfoldable pub clash : Meets → List Part → List Part → Bool
+clash meets before [] = false
+clash meets before (p ∷ ps) = met meets before p || clash meets (before ++ p ∷ []) ps
 
 abbrev pub is_empty : {A : Type 0} → List A → Bool
 is_empty [] = true
 is_empty (x ∷ xs) = false
 
 -- a statement that writes these parts
-abbrev pub writes_at : Place → List CellPart → Stretch CellPart
-writes_at place parts before = record { happens = parts; faults = breaks_where (clash before parts) TwiceAssigned place }
+abbrev pub writes_at : Meets → Place → List Part → Stretch Part
+writes_at meets place parts before = record { happens = parts; faults = breaks_where (clash meets before parts) TwiceAssigned place }
 
--- Which parts are looked at.
-abbrev pub Looked : Type 0
-Looked = CellPart → Bool
+-- What it is to step an instance: the parts that are written, and whether some of them, written on one path inside, meet.
+pub record Stepping : Type 0 where
+  pub parts : List Part
+  pub meet : Bool
 
-abbrev pub everything : Looked
-everything p = true
+abbrev pub no_step : Stepping
+no_step = record { parts = []; meet = false }
 
-abbrev pub is_own_cell : Option Cell → Bool
-is_own_cell (Some c) = is_main c.path
-is_own_cell None = false
+abbrev pub stepped_at : Meets → Place → Stepping → Stretch Part
+stepped_at meets place s before = record { happens = s.parts; faults = breaks_where (list_any (met meets before) s.parts || s.meet) TwiceAssigned place }
 
--- the cells of the root itself
-abbrev pub of_root : System → Looked
-of_root system p = is_own_cell (slice_get (cells_of system) p.cell)
+-- a statement, by the names that procedures modify and by what it is to step instances
+abbrev pub writes_form : (ℕ → List ℕ) → (ℕ → Stepping) → Meets → Stmt-F (Stretch Part) → Stretch Part
+writes_form modified steps meets (Block place block) = in_turn block
+writes_form modified steps meets (Havoc place i primed) = writes_at meets place (part_of_name i.name ∷ [])
+writes_form modified steps meets (Assign place targets sources) = writes_at meets place (map part_of_target targets)
+writes_form modified steps meets (Choice place as' otherwise) = arms as' otherwise
+writes_form modified steps meets (Cases place as' otherwise) = arms as' otherwise
+writes_form modified steps meets (For place x type from to block) = turned (length (turns from to)) block
+writes_form modified steps meets (Call place targets f arguments) = writes_at meets place (map part_of_target targets ++ map part_of_name (modified f.name))
+writes_form modified steps meets (Next place i) = stepped_at meets place (steps i.name)
+writes_form modified steps meets other = λ before. nothing
 
--- How the blocks of stepped instances write.
-abbrev pub Blocks : Type 0
-Blocks = Looked → List ℕ → List Stmt → Along CellPart
+unfoldable pub written_by : (ℕ → List ℕ) → (ℕ → Stepping) → Meets → List Stmt → Stretch Part
+written_by modified steps meets code = in_turn (map (fold-Stmt (Stretch Part) (writes_form modified steps meets)) code)
 
--- A stepped instance writes what its block writes. Two of its own statements that write one part of its own cells are judged in its own
--- module; where they meet in a cell of the root, by its bound outputs, the statement that steps it is at fault.
-abbrev pub stepped_writes : System → Blocks → Looked → Place → List ℕ → Option Module → Stretch CellPart
-stepped_writes system blocks looked place path None before = nothing
-stepped_writes system blocks looked place path (Some m) before = record {
-  happens = (blocks looked path (next_of m)).happens;
-  faults =
-      breaks_where (list_any (overlaps before) (blocks looked path (next_of m)).happens || not (is_empty (blocks (of_root system) path (next_of m)).faults)) TwiceAssigned place;
+-- A stepped instance writes what its module writes: a bound output is the parent's name, and all else is inside the instance.
+
+abbrev pub outer_name : InstanceParts → ℕ → Option ℕ
+outer_name i x = option_and_then (λ e. name_form (out-Expr e)) (bound_to i x)
+
+-- a part of an instance's module as one of the parent's, where it is one
+abbrev pub outer_part : InstanceParts → Part → Option Part
+outer_part i [] = None
+outer_part i (x ∷ fields) = option_map (λ y. y ∷ fields) (outer_name i x)
+
+abbrev pub is_inside : InstanceParts → Part → Bool
+is_inside i p = not (is_some (outer_part i p))
+
+abbrev pub stepped_parts : InstanceParts → List Part → List Part
+stepped_parts i parts = filter_map (outer_part i) parts ++ (if list_any (is_inside i) parts then part_of_name i.name ∷ [] else [])
+
+-- Two parts that meet in the instance's module are judged there. Where they meet in the parent alone, as two outputs that are bound to one
+-- variable, the statement that steps the instance is at fault.
+abbrev pub meets_as : Meets → Option Part → Option Part → Bool
+meets_as meets (Some p) (Some q) = meets p q
+meets_as meets o r = false
+
+abbrev pub meets_outside : InstanceParts → Meets → Meets
+meets_outside i meets p q = not (overlap p q) && meets_as meets (outer_part i p) (outer_part i q)
+
+-- How the next blocks of modules write.
+abbrev pub Modules : Type 0
+Modules = Meets → Module → Along Part
+
+abbrev pub stepping : Modules → Meets → InstanceParts → Option Module → Stepping
+stepping modules meets i None = no_step
+stepping modules meets i (Some m) = record {
+  parts = stepped_parts i (modules meets m).happens;
+  meet = not (is_empty (modules (meets_outside i meets) m).faults);
 }
 
--- a statement of a next block at a path
-abbrev pub writes_form : System → Blocks → Looked → List ℕ → Stmt-F (Stretch CellPart) → Stretch CellPart
-writes_form system blocks looked path (Block place block) = in_turn block
-writes_form system blocks looked path (Havoc place i primed) = writes_at place (filter looked (name_part system path i.name))
-writes_form system blocks looked path (Assign place targets sources) = writes_at place (filter looked (flat_map (target_part system path) targets))
-writes_form system blocks looked path (Choice place as' otherwise) = arms as' otherwise
-writes_form system blocks looked path (Cases place as' otherwise) = arms as' otherwise
-writes_form system blocks looked path (For place x type from to block) = turned (length (turns from to)) block
-writes_form system blocks looked path (Call place targets f arguments) = writes_at place (filter looked (call_parts system path targets f.name))
-writes_form system blocks looked path (Next place i) =
-    stepped_writes system blocks looked place (path ++ i.name ∷ []) (module_at system (path ++ i.name ∷ []))
-writes_form system blocks looked path other = λ before. nothing
+abbrev pub stepping_as : System → Modules → Meets → Option InstanceParts → Stepping
+stepping_as system modules meets None = no_step
+stepping_as system modules meets (Some i) = stepping modules meets i (module_named system i.module_name)
 
-unfoldable pub written_by : System → Blocks → Looked → List ℕ → List Stmt → Along CellPart
-written_by system blocks looked path code = in_turn (map (fold-Stmt (Stretch CellPart) (writes_form system blocks looked path)) code) []
+abbrev pub steps_in : System → Modules → Meets → Module → ℕ → Stepping
+steps_in system modules meets m x = stepping_as system modules meets (instance_of m x)
 
--- a block at a path, with at most n instances inside each other
-unfoldable pub written_through : ℕ → System → Blocks
-written_through zero system looked path code = nothing
-written_through (suc n) system looked path code = written_by system (written_through n system) looked path code
+-- modules with at most n instances inside each other
+unfoldable pub written_through : ℕ → System → Modules
+written_through zero system meets m = nothing
+written_through (suc n) system meets m = written_by (modified_in m) (steps_in system (written_through n system) meets m) meets (next_of m) []
 
--- parts that the root's next block writes twice: each at the later statement
-abbrev pub twice_in_step : System → List Fault
-twice_in_step system = (written_through (suc (length system.modules)) system everything [] (main_next system)).faults
+-- parts that a module's next block writes twice: each at the later statement
+abbrev pub twice_in_step : System → Module → List Fault
+twice_in_step system m = (written_through (suc (length system.modules)) system overlap m).faults
 
 -- Sequential code: among the targets of one assignment or call each name stands once.
 
@@ -135,6 +187,6 @@ sequential_in (Init place block) = block
 sequential_in (Procedure place p) = p.body
 sequential_in other = []
 
--- the faults of a root: in its next block, and in its sequential code
+-- the faults of a module: in its next block, and in its sequential code
 abbrev pub twice_assigned : System → Module → List Fault
-twice_assigned system m = twice_in_step system ++ flat_map (λ d. twice_in_code (sequential_in d)) m.decls
+twice_assigned system m = twice_in_step system m ++ flat_map (λ d. twice_in_code (sequential_in d)) m.decls

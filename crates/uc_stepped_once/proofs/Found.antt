@@ -16,7 +16,7 @@ use Rattle.uc_rules.specs.Faults.{first_of}
 use Rattle.uc_order_rules.specs.Paths.{Stretch, in_turn, last_arm}
 use Rattle.uc_order_rules.specs.Stepped.{steps_form, stepped_twice}
 use Rattle.uc_stepped_once.specs.Walks.{Walk, last_walk, walk_decls, walk_each, walk_form, walk_of}
-use Rattle.uc_stepped_once.proofs.SameFaults.{same_first}
+use Rattle.uc_path_laws.proofs.SameFaults.{same_first}
 use Rattle.uc_stepped_once.proofs.Walked.{AllFind, Finds, choice_finds, each_finds, find_append, finds_nothing, finds_step, turns_find}
 
 abbrev step_of : Stmt → Stretch ℕ

@@ -1,5 +1,3 @@
-pub mod SameFaults
-pub mod Tame
 mod Walked
 mod Forms
 mod Turns

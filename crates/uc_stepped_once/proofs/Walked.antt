@@ -12,8 +12,8 @@ use Rattle.uc_rules.specs.Names.{names_one_of}
 use Rattle.uc_type_names.specs.NameSets.{with_name}
 use Rattle.uc_order_rules.specs.Paths.{Along, Stretch, nothing, in_turn, one_of, times}
 use Rattle.uc_stepped_once.specs.Walks.{Parted, Walk, joined, parted_after, passed, walk_arms, walk_each, walk_turns, with_names}
-use Rattle.uc_stepped_once.proofs.SameFaults.{Among, SameFaults, among_join, breaks_grow, in_left, in_right, none_in, same_both, same_equal, same_then}
-use Rattle.uc_stepped_once.proofs.Tame.{Tame, AllTame, Within, tame_in_turn, tame_nothing, tame_one_of, tame_times, within_join, within_left, within_right}
+use Rattle.uc_path_laws.proofs.SameFaults.{Among, SameFaults, among_join, breaks_grow, in_left, in_right, none_in, same_both, same_equal, same_then}
+use Rattle.uc_path_laws.proofs.Tame.{Tame, AllTame, Within, tame_in_turn, tame_nothing, tame_one_of, tame_times, within_join, within_left, within_right}
 
 abbrev has : List ℕ → ℕ → Bool
 has = names_one_of

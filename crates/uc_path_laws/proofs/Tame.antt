@@ -2,7 +2,7 @@
 use Rattle.std.proofs.Common.{◌≡◌, ℕ, zero, suc, Bool, true, false, List, [], ◌∷◌, ◌++◌, refl, ◌∙◌, sym, subst, inl, inr}
 use Rattle.std.specs.Prelude.{◌⊎◌, ◌||◌}
 use Rattle.uc_order_rules.specs.Paths.{Stretch, nothing, in_turn, one_of, times}
-use Rattle.uc_stepped_once.proofs.SameFaults.{Among, among_both}
+use Rattle.uc_path_laws.proofs.SameFaults.{Among, among_both}
 
 either_true : (a b : Bool) → (a || b) ≡ true → (a ≡ true) ⊎ (b ≡ true)
 either_true true b h = inl refl

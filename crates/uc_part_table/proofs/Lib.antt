@@ -1,0 +1,2 @@
+pub mod KnownPlaces
+pub mod Overlaps

@@ -1,0 +1,3 @@
+pub mod SameFaults
+pub mod Tame
+pub mod Walked

@@ -1,0 +1,4 @@
+pub mod Turns
+pub mod Forms
+pub mod Single
+mod Found
