@@ -1,4 +1,4 @@
-//! Worked rows of the front end's parts, of the operators on values and of the report's text, which only tests run.
+//! Worked rows of the front end's parts, of the rules on order and sizes, of the printer and of the operators on values, which only tests run.
 #![tactic(auto)]
 
 #[cfg(test)]
@@ -10,6 +10,12 @@ mod names;
 #[cfg(test)]
 mod operators;
 #[cfg(test)]
+mod order;
+#[cfg(test)]
 mod parser;
+#[cfg(test)]
+mod printer;
+#[cfg(test)]
+mod texts;
 #[cfg(test)]
 mod words;

@@ -1,1 +1,5 @@
 pub mod Suiting
+pub mod Fineness
+pub mod Lowness
+mod Pairs
+mod Symbols

@@ -12,6 +12,4 @@ mod log;
 #[cfg(test)]
 mod rings;
 #[cfg(test)]
-mod terms;
-#[cfg(test)]
 mod values;

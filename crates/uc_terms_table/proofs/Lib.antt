@@ -1,2 +1,3 @@
 pub mod Suiting
+pub mod OperandTypes
 mod Symbols

@@ -37,7 +37,12 @@ pub(crate) fn model_of(alloc: Global, symbols: Vec<Value>) -> Model {
 }
 
 /// The number of an operation on parts, with its type.
-fn made(terms: &mut Terms, alloc: Global, op: Op, parts: &[TermId]) -> Result<TermId, AllocError>
+pub(crate) fn made(
+    terms: &mut Terms,
+    alloc: Global,
+    op: Op,
+    parts: &[TermId],
+) -> Result<TermId, AllocError>
     requires there { All (λ p. p < length terms.old) parts.now }
     requires suits { Suits op (types_at terms.old parts.now) }
     ensures there { IfOk result (λ t. t < length terms.new) }

@@ -2,7 +2,6 @@
 
 use std::alloc::{AllocError, Global};
 use std::process::Abort;
-use std::test::Fail;
 use uc_control::{report_text, status_of};
 use uc_front::read_design;
 use uc_io::MemTexts;
@@ -31,32 +30,49 @@ const ROWS: [Row; 2] = [
     ),
 ];
 
-fn design_of(rt: &impl Abort, alloc: Global, text: &[u8]) -> Result<Runnable, AllocError> {
+/// The text, under its name.
+fn texts_of(alloc: Global, text: &[u8]) -> Result<MemTexts, AllocError> {
+    let text = text.to_vec(alloc)?;
+    let name = String::from_str(alloc, "m.ucl")?;
     let mut files = Vec::new(alloc);
-    files.push((String::from_str(alloc, "m.ucl")?, text.to_vec(alloc)?))?;
-    let mut texts = MemTexts::new(files, 4096, Vec::new(alloc));
+    files.push((name, text))?;
+    Ok(MemTexts::new(files, 4096, Vec::new(alloc)))
+}
+
+fn design_of(rt: &impl Abort, alloc: Global, text: &[u8]) -> Result<Runnable, AllocError> {
+    let mut texts = texts_of(alloc, text)?;
     match read_design(alloc, &mut texts, &["m.ucl"]) {
         Ok(design) => Ok(design),
         Err(_) => panic!(rt; "the design is refused"),
     }
 }
 
-fn check_budget(rt: &impl Abort, alloc: Global, d: &Runnable, row: &Row) -> Result<(), AllocError> {
-    let (budget, status, written) = row;
+/// The status and the report under a budget.
+fn judged(alloc: Global, d: &Runnable, budget: u64) -> Result<(u8, Vec<u8>), AllocError> {
     let mut meter = CountMeter::new();
-    let report = run_control(alloc, d, (*budget).max(1), &mut meter)?;
+    let report = run_control(alloc, d, budget.max(1), &mut meter)?;
     let text = report_text(alloc, &shown_design(d), &report)?;
-    assert_eq!(rt; status_of(&report), *status);
-    assert_eq!(rt; text.as_slice(), *written);
+    Ok((status_of(&report), text))
+}
+
+fn check_budget(rt: &impl Abort, alloc: Global, d: &Runnable, row: &Row) -> Result<(), AllocError> {
+    let &(budget, status, written) = row;
+    let (found, text) = judged(alloc, d, budget)?;
+    assert_eq!(rt; found, status);
+    assert_eq!(rt; text.as_slice(), written);
+    Ok(())
+}
+
+fn check_budgets(rt: &impl Abort, alloc: Global, d: &Runnable) -> Result<(), AllocError> {
+    for row in &ROWS {
+        check_budget(rt, alloc, d, row)?;
+    }
     Ok(())
 }
 
 #[test]
-fn a_budget_decides_or_is_told(rt: HostRuntime) -> Result<(), Fail> {
+fn a_budget_decides_or_is_told(rt: HostRuntime) -> Result<(), AllocError> {
     let alloc = rt.alloc();
     let design = design_of(&rt, alloc, PIGEONS)?;
-    for row in &ROWS {
-        check_budget(&rt, alloc, &design, row)?;
-    }
-    Ok(())
+    check_budgets(&rt, alloc, &design)
 }

@@ -1,5 +1,6 @@
 //! Faults of the texts and of the sink, and words and texts that no row can have.
 
+use crate::status_in;
 use std::alloc::{AllocError, Global};
 use std::process::Abort;
 use std::test::Fail;
@@ -59,7 +60,7 @@ fn add_file(
 /// The status of a run. Nothing else of what it gives is kept.
 fn status_of(alloc: Global, words: &[&str], texts: &mut MemTexts, sink: &mut MemSink) -> u8 {
     let mut meter = CountMeter::new();
-    run(alloc, words, texts, sink, &mut meter).status
+    status_in(run(alloc, words, texts, sink, &mut meter))
 }
 
 const TOGGLE: &[u8] =

@@ -13,7 +13,7 @@ use std::alloc::{AllocError, Global};
 use std::{fs, io};
 use uc_files::{FileTexts, WriterSink};
 use uc_log::CountMeter;
-use uclid::run;
+use uclid::{Outcome, run};
 
 fn main(rt: HostRuntime) -> io::Result<()> {
     let rows = fs::read_to_string(&rt, "rows")?;
@@ -31,8 +31,11 @@ fn status_of(rt: &HostRuntime, row: &str) -> Result<u8, AllocError> {
     let mut texts = FileTexts::new(rt);
     let mut out = WriterSink::new(io::writer(rt));
     let mut meter = CountMeter::new();
-    let outcome = run(rt.alloc(), &words, &mut texts, &mut out, &mut meter);
-    Ok(outcome.status)
+    Ok(status_in(run(rt.alloc(), &words, &mut texts, &mut out, &mut meter)))
+}
+
+fn status_in(outcome: Outcome) -> u8 {
+    outcome.status
 }
 
 fn words_of(alloc: Global, row: &str) -> Result<Vec<&str>, AllocError> {

@@ -31,27 +31,44 @@ fn put_chain(text: &mut Vec<u8>, count: usize, with_last: bool) -> Result<(), Al
     text.extend_from_slice(b";\n")
 }
 
-/// Variables without first values, each of which takes the value of the one before it in a step, and the first that of the last.
-fn ring_of(alloc: Global, count: usize) -> Result<Vec<u8>, AllocError> {
-    let mut text = Vec::new(alloc);
-    text.extend_from_slice(b"module main {\n  var xaa")?;
+/// The declaration of the variables.
+fn put_variables(text: &mut Vec<u8>, count: usize) -> Result<(), AllocError> {
+    text.extend_from_slice(b"  var xaa")?;
     for number in 1..count {
         text.extend_from_slice(b", ")?;
-        put_name(&mut text, number)?;
+        put_name(text, number)?;
     }
-    text.extend_from_slice(b" : boolean;\n  next {\n")?;
+    text.extend_from_slice(b" : boolean;\n")
+}
+
+/// The step in which each variable takes the value of the one before it, and the first that of the last.
+fn put_step(text: &mut Vec<u8>, count: usize) -> Result<(), AllocError> {
+    text.extend_from_slice(b"  next {\n")?;
     for number in 0..count {
         let before = if number == 0 { count - 1 } else { number - 1 };
-        put_name(&mut text, number)?;
+        put_name(text, number)?;
         text.extend_from_slice(b"' = ")?;
-        put_name(&mut text, before)?;
+        put_name(text, before)?;
         text.extend_from_slice(b";\n")?;
     }
-    text.extend_from_slice(b"  }\n  invariant whole : ")?;
-    put_chain(&mut text, count, true)?;
+    text.extend_from_slice(b"  }\n")
+}
+
+/// A design of variables without first values, which go round in each step.
+fn put_ring(text: &mut Vec<u8>, count: usize) -> Result<(), AllocError> {
+    text.extend_from_slice(b"module main {\n")?;
+    put_variables(text, count)?;
+    put_step(text, count)?;
+    text.extend_from_slice(b"  invariant whole : ")?;
+    put_chain(text, count, true)?;
     text.extend_from_slice(b"  invariant open : ")?;
-    put_chain(&mut text, count, false)?;
-    text.extend_from_slice(b"  control { unroll(1); check; print_results; }\n}\n")?;
+    put_chain(text, count, false)?;
+    text.extend_from_slice(b"  control { unroll(1); check; print_results; }\n}\n")
+}
+
+fn ring_of(alloc: Global, count: usize) -> Result<Vec<u8>, AllocError> {
+    let mut text = Vec::new(alloc);
+    put_ring(&mut text, count)?;
     Ok(text)
 }
 

@@ -1,4 +1,0 @@
-pub mod Lowness
-mod Pairs
-pub mod Suiting
-mod Symbols

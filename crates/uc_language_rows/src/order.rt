@@ -1,0 +1,161 @@
+//! The rules on order and sizes.
+
+use crate::texts::modules_of;
+use std::alloc::{AllocError, Global};
+use std::process::Abort;
+use std::test::Fail;
+use uc_lone_faults::{note_large_enums, note_long_loops, note_named_twice};
+use uc_rules::Fault;
+use uc_stepped_once::note_stepped_twice;
+use uc_syntax::{Module, Names};
+
+/// What the modules of a text are judged to be.
+#[derive(Clone, Copy, Debug, PartialEq, Eq)]
+enum Answer {
+    Kept,
+    /// The number of the rule that is broken first, with its line and column.
+    Breaks(u32, u32, u32),
+    NotRead,
+    NoMemory,
+}
+
+use Answer::{Breaks, Kept, NoMemory, NotRead};
+
+fn first_fault(alloc: Global, modules: &[Module]) -> Result<Option<Fault>, AllocError> {
+    let mut first = None;
+    for module in modules {
+        note_long_loops(module, &mut first);
+        note_large_enums(alloc, module, &mut first)?;
+        note_named_twice(alloc, module, &mut first)?;
+        note_stepped_twice(alloc, module, &mut first)?;
+    }
+    Ok(first)
+}
+
+fn judged(alloc: Global, text: &[u8]) -> Answer {
+    let mut names = Names::new(alloc);
+    let Some(modules) = modules_of(alloc, &mut names, text) else {
+        return NotRead;
+    };
+    match first_fault(alloc, modules.as_slice()) {
+        Ok(None) => Kept,
+        Ok(Some(fault)) => Breaks(fault.rule.number(), fault.place.line, fault.place.col),
+        Err(AllocError) => NoMemory,
+    }
+}
+
+/// Texts with a fault each, and the nearest ones without one.
+const ROWS: [(&[u8], Answer); 24] = [
+    (b"module m { init { for i in range(1, 4096) { } } }", Kept),
+    (
+        b"module m { init { for i in range(0, 4096) { } } }",
+        Breaks(27, 1, 19),
+    ),
+    (
+        b"module m { next { for i in range(-4000, 95) { } for i in range(-4000, 96) { } } }",
+        Breaks(27, 1, 49),
+    ),
+    (b"module m { init { for i in range(-1, -5000) { } } }", Kept),
+    (
+        b"module m { procedure p() { if (a) { } else { for i in range(-5000, -1) { } } } }",
+        Breaks(27, 1, 46),
+    ),
+    (
+        b"module m { init { for i in range(0, 340282366920938463463374607431768211455) { } } }",
+        Breaks(27, 1, 19),
+    ),
+    (b"module m { init { x, y = 1, 2; } }", Kept),
+    (
+        b"module m { init { x, y, x = 1, 2, 3; } }",
+        Breaks(24, 1, 19),
+    ),
+    (
+        b"module m { init { case a : { x.f, x.g = 1, 2; } esac } }",
+        Breaks(24, 1, 30),
+    ),
+    (
+        b"module m { procedure p() { call (x, x) = q(); } }",
+        Breaks(24, 1, 28),
+    ),
+    (b"module m { next { x', x' = 1, 2; } }", Kept),
+    (b"module m { next { next (i); next (j); } }", Kept),
+    (
+        b"module m { next { next (i); next (j); next (i); } }",
+        Breaks(26, 1, 39),
+    ),
+    (
+        b"module m { next { if (a) { next (i); } else { next (i); } } }",
+        Kept,
+    ),
+    (
+        b"module m { next { if (a) { next (i); } else if (b) { next (j); } next (i); } }",
+        Breaks(26, 1, 66),
+    ),
+    (
+        b"module m { next { if (a) { next (j); } else { next (i); } next (i); } }",
+        Breaks(26, 1, 59),
+    ),
+    (
+        b"module m { next { next (i); if (a) { } else { next (i); } } }",
+        Breaks(26, 1, 47),
+    ),
+    (
+        b"module m { next { case a : { next (i); } b : { next (i); } default : { next (i); next (i); } esac } }",
+        Breaks(26, 1, 82),
+    ),
+    (
+        b"module m { next { for k in range(3, 3) { next (i); } } }",
+        Kept,
+    ),
+    (
+        b"module m { next { for k in range(3, 4) { next (i); } } }",
+        Breaks(26, 1, 42),
+    ),
+    (
+        b"module m { next { for k in range(4, 3) { next (i); } next (i); } }",
+        Kept,
+    ),
+    (
+        b"module m { next { for k in range(0, 1) { for l in range(0, 0) { next (i); } } } }",
+        Breaks(26, 1, 65),
+    ),
+    (
+        b"module m { next { for k in range(0, 1) { for l in range(0, -1) { next (i); } } } }",
+        Kept,
+    ),
+    (
+        b"module m { next { next (i); } } module n { next { next (i); { next (i); } } }",
+        Breaks(26, 1, 63),
+    ),
+];
+
+#[test]
+fn faults_of_order_stand_at_their_places(rt: HostRuntime) -> Result<(), Fail> {
+    let alloc = rt.alloc();
+    for (text, expected) in ROWS {
+        let answer = judged(alloc, text);
+        assert_eq!(rt; answer, expected);
+    }
+    Ok(())
+}
+
+/// A module whose enum has so many labels.
+fn with_labels(alloc: Global, count: u32) -> Result<Vec<u8>, AllocError> {
+    let mut text = Vec::from_slice(alloc, b"module m { var x : enum { a")?;
+    for number in 1..count {
+        let label = format!(in alloc; ", b{number}")?;
+        text.extend_from_slice(label.as_bytes())?;
+    }
+    text.extend_from_slice(b" }; }")?;
+    Ok(text)
+}
+
+#[test]
+fn an_enum_has_at_most_4096_labels(rt: HostRuntime) -> Result<(), Fail> {
+    let alloc = rt.alloc();
+    let text = with_labels(alloc, 4096)?;
+    assert_eq!(rt; judged(alloc, text.as_slice()), Kept);
+    let longer = with_labels(alloc, 4097)?;
+    assert_eq!(rt; judged(alloc, longer.as_slice()), Breaks(27, 1, 20));
+    Ok(())
+}
