@@ -1,0 +1,5 @@
+pub mod Lists
+pub mod Standing
+pub mod Numbering
+pub mod Growing
+pub mod Flags

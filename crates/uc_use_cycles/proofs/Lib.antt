@@ -1,0 +1,4 @@
+pub mod Same
+pub mod Staying
+pub mod Told
+pub mod Whole
