@@ -40,9 +40,11 @@ pub(crate) fn design_of(
 {
     let design = spelled(alloc, files, sources)?;
     let Some(main) = main_in(design.names(), design.modules().as_slice()) else {
+        drop(design);
         return Err(FrontError::Refused(Refusal::NoMain));
     };
     let Ok(main) = u32::try_from(main) else {
+        drop(design);
         return Err(FrontError::NoMemory);
     };
     let kept = checked(alloc, design)?;

@@ -10,6 +10,7 @@ use std::alloc::{AllocError, Global};
 use uc_control::{Report, status_of};
 use uc_front::{FrontError, MAX_FILES, Refusal, read_design};
 use uc_io::Texts;
+use uc_items::beside;
 use uc_judge::run_control;
 use uc_log::Meter;
 use uc_runnable::Runnable;
@@ -93,7 +94,8 @@ fn answer_files<X: Texts, M: Meter>(
 {
     match read_design(alloc, texts, files) {
         Ok(design) => {
-            let report = run_control(alloc, &design, LINE_BUDGET, meter)?;
+            let report = run_control(alloc, &design, LINE_BUDGET, meter);
+            let (design, report) = beside(design, report)?;
             Ok(Answer::Reported(Session { design, report }))
         }
         Err(FrontError::Refused(refusal)) => Ok(Answer::Refused(refusal)),

@@ -8,6 +8,7 @@ use crate::answer::{Answer, Session, Stop, decide, session_of, status_of_answer}
 use crate::lines::text_of;
 use std::alloc::Global;
 use uc_io::{Sink, Texts, write_whole};
+use uc_items::beside;
 use uc_log::Meter;
 
 /// How a run ended. The session is there where a report was to be written.
@@ -52,7 +53,8 @@ fn written<K: Sink>(alloc: Global, words: &[&str], answer: Answer, out: &mut K) 
     ensures later { K.faults out.old ≤ K.faults out.new }
     ensures telling { K.tells out.new ≡ K.tells out.old }
 {
-    let Ok(text) = text_of(alloc, words, &answer) else {
+    let text = text_of(alloc, words, &answer);
+    let Ok((answer, text)) = beside(answer, text) else {
         return stopped(7);
     };
     let status = status_of_answer(&answer);

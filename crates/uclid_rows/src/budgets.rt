@@ -74,5 +74,7 @@ fn check_budgets(rt: &impl Abort, alloc: Global, d: &Runnable) -> Result<(), All
 fn a_budget_decides_or_is_told(rt: HostRuntime) -> Result<(), AllocError> {
     let alloc = rt.alloc();
     let design = design_of(&rt, alloc, PIGEONS)?;
-    check_budgets(&rt, alloc, &design)
+    let checked = check_budgets(&rt, alloc, &design);
+    drop(design);
+    checked
 }

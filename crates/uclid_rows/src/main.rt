@@ -34,8 +34,11 @@ fn status_of(rt: &HostRuntime, row: &str) -> Result<u8, AllocError> {
     Ok(status_in(run(rt.alloc(), &words, &mut texts, &mut out, &mut meter)))
 }
 
+/// The status of an outcome, of which nothing else is kept.
 fn status_in(outcome: Outcome) -> u8 {
-    outcome.status
+    let status = outcome.status;
+    drop(outcome);
+    status
 }
 
 fn words_of(alloc: Global, row: &str) -> Result<Vec<&str>, AllocError> {
