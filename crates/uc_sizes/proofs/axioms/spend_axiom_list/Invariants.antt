@@ -1,0 +1,10 @@
+use Rattle.uc_lookup.specs.Parts.{system_in}
+use Rattle.uc_spent_nodes.specs.Spending.{size_in}
+use Rattle.uc_spent_nodes.proofs.Spending.{SpentUpTo}
+use Rattle.uc_meaning.specs.Lookup.{axiom_in}
+use Rattle.uc_meaning.specs.Cells.{as_list}
+use Rattle.uc_sizes.specs.Expanding.{expression_sizes}
+use Rattle.uc_sizes.proofs.axioms.spend_axiom_list.Given as goal
+
+abbrev pub invariant-loop-declaration : goal.invariant-loop-declaration
+invariant-loop-declaration l = SpentUpTo (λ d. expression_sizes (system_in l.system) l.path (as_list (axiom_in d))) l.declarations (size_in l.fn.spent) l.declaration-index (size_in l.spent)

@@ -1,0 +1,27 @@
+use Rattle.std.proofs.Common.{◌≡◌, [], refl, ap, ◌∙◌, sym}
+use Rattle.uc_lookup.specs.Parts.{system_in}
+use Rattle.uc_order_rules.specs.Sizes.{formula_in}
+use Rattle.uc_sizes.specs.Expanding.{expression_sizes}
+use Rattle.uc_sizes.proofs.Expanding.{expressions_are}
+use Rattle.uc_spent_nodes.proofs.Spending.{memory_out, sizes_of, spends_none, spends_same, spends_stop, spends_two, spent_begin, spent_end, spent_more, spent_stop, stop_out}
+use Rattle.uc_sizes.proofs.parts.spend_formulas.Goals as goal
+
+pub loop-declaration-init : goal.loop-declaration-init
+loop-declaration-init c = spent_begin _ _ _
+
+pub loop-declaration-preserved : goal.loop-declaration-preserved
+loop-declaration-preserved c =
+    spent_more (λ d. expression_sizes (system_in c.args.system.now) c.args.path.now (formula_in d)) c.args.declarations.now _ _ _ _ c.declaration-item.result _ _ c.loop-declaration.invariant c.loop-declaration-test.true c.declaration-item.is
+    (spends_same _ _ _ _ _ c.in_ok-spend_expression.ensures (ap (expression_sizes (system_in c.args.system.now) c.args.path.now) (sym c.formula_in.ensures)))
+
+pub returns-in_err-spend_expression : goal.returns-in_err-spend_expression
+returns-in_err-spend_expression c =
+    stop_out _ _ _ _ _ c.from_residual.ensures.1
+    (spends_same _ _ _ (sizes_of (λ d. expression_sizes (system_in c.args.system.now) c.args.path.now (formula_in d)) c.args.declarations.now) _
+    (spent_stop (λ d. expression_sizes (system_in c.args.system.now) c.args.path.now (formula_in d)) c.args.declarations.now _ _ _ _ _ c.declaration-item.result _ _ c.loop-declaration.invariant c.loop-declaration-test.true c.declaration-item.is
+    (spends_same _ _ _ _ _ c.in_err-spend_expression.ensures (ap (expression_sizes (system_in c.args.system.now) c.args.path.now) (sym c.formula_in.ensures))))
+    (sym (expressions_are (system_in c.args.system.now) c.args.path.now formula_in c.args.declarations.now)))
+
+pub returns : goal.returns
+returns c =
+    spends_same _ _ _ (sizes_of (λ d. expression_sizes (system_in c.args.system.now) c.args.path.now (formula_in d)) c.args.declarations.now) _ (spent_end (λ d. expression_sizes (system_in c.args.system.now) c.args.path.now (formula_in d)) c.args.declarations.now _ _ _ c.loop-declaration.invariant c.loop-declaration-test.false) (sym (expressions_are (system_in c.args.system.now) c.args.path.now formula_in c.args.declarations.now))
