@@ -1,0 +1,5 @@
+//! Worked rows of parts that are written twice, which only tests run.
+#![tactic(auto)]
+
+#[cfg(test)]
+mod rows;
