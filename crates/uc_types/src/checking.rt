@@ -85,5 +85,7 @@ fn note_design(
     let modules = design.modules().as_slice();
     note_repeated_modules(alloc, modules, first)?;
     let types = KnownTypes::of(alloc, SystemRef::of(design, main))?;
-    note_modules(alloc, &types, modules, first)
+    let noted = note_modules(alloc, &types, modules, first);
+    drop(types);
+    noted
 }

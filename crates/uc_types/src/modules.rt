@@ -26,8 +26,25 @@ pub(crate) fn note_modules(
     ensures { OnOk result (first.new ≡ first_of first.old (flat_map (module_faults types.now) modules.now)) }
 {
     let cycles = cycles_of(alloc, types.homes())?;
+    let noted = note_each(alloc, types, &cycles, modules, first);
+    drop(cycles);
+    noted
+}
+
+/// Notes the faults of the modules of a design, whose cycles are known.
+fn note_each(
+    alloc: Global,
+    types: &KnownTypes<'_>,
+    cycles: &DesignCycles,
+    modules: &[Module],
+    first: &mut Option<Fault>,
+) -> Result<(), AllocError>
+    requires modules { modules.now ≡ types.now.modules }
+    requires cycles { KnowsCycles types.now cycles.now }
+    ensures { OnOk result (first.new ≡ first_of first.old (flat_map (module_faults types.now) modules.now)) }
+{
     for (number, module) in modules.iter().enumerate() {
-        note_module(alloc, types, &cycles, number, module, first)?;
+        note_module(alloc, types, cycles, number, module, first)?;
     }
     Ok(())
 }

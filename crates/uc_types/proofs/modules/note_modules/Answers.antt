@@ -1,25 +1,7 @@
 use Rattle.std.proofs.Common.{subst}
 use Rattle.uc_meaning.specs.Lookup.{System}
-use Rattle.uc_rules.specs.Declarations.{module_faults}
 use Rattle.uc_cycles.specs.Numbers.{KnowsCycles}
-use Rattle.uc_statement_rules.proofs.Noted.{noted_begin, noted_end, noted_more}
-use Rattle.uc_types.proofs.OneModule.{module_there}
 use Rattle.uc_types.proofs.modules.note_modules.Goals as goal
 
-pub loop-number-init : goal.loop-number-init
-loop-number-init c = noted_begin (module_faults c.args.types.now) c.args.modules.now c.args.first.now
-
-pub note_module-requires-clause-there : goal.note_module-requires-clause-there
-note_module-requires-clause-there c =
-    module_there c.args.types.now.modules c.args.modules.now c.loop-number.number c.index-modules-number.result c.index-modules-number.result c.requires c.loop-number-test.true c.index-modules-number.is
-
-pub note_module-requires-clause-cycles : goal.note_module-requires-clause-cycles
-note_module-requires-clause-cycles c = subst (λ (s : System). KnowsCycles s c.in_ok-cycles.cycles) c.homes.ensures c.in_ok-cycles.ensures
-
-pub loop-number-preserved : goal.loop-number-preserved
-loop-number-preserved c =
-    noted_more (module_faults c.args.types.now) c.args.modules.now c.args.first.now c.loop-number.number c.loop-number.first c.note_module.new.first c.index-modules-number.result c.index-modules-number.result
-    c.loop-number.invariant c.loop-number-test.true c.index-modules-number.is c.in_ok-note_module.ensures
-
-pub returns : goal.returns
-returns c = noted_end (module_faults c.args.types.now) c.args.modules.now c.args.first.now c.loop-number.number c.loop-number.first c.loop-number.invariant c.loop-number-test.false
+pub note_each-noted-requires-clause-cycles : goal.note_each-noted-requires-clause-cycles
+note_each-noted-requires-clause-cycles c = subst (λ (s : System). KnowsCycles s c.in_ok-cycles.cycles) c.homes.ensures c.in_ok-cycles.ensures
