@@ -5,9 +5,12 @@ use std::alloc::{AllocError, Global};
 use std::process::Abort;
 use std::test::Fail;
 use uc_lone_faults::{note_large_enums, note_long_loops, note_named_twice};
+use uc_lookup::SystemRef;
 use uc_rules::Fault;
+use uc_sizes::is_too_large;
 use uc_stepped_once::note_stepped_twice;
 use uc_syntax::{Module, Names};
+use uc_use_cycles::note_use_cycles;
 
 /// What the modules of a text are judged to be.
 #[derive(Clone, Copy, Debug, PartialEq, Eq)]
@@ -29,6 +32,7 @@ fn first_fault(alloc: Global, modules: &[Module]) -> Result<Option<Fault>, Alloc
         note_named_twice(alloc, module, &mut first)?;
         note_stepped_twice(alloc, module, &mut first)?;
     }
+    note_use_cycles(alloc, modules, &mut first)?;
     Ok(first)
 }
 
@@ -45,7 +49,7 @@ fn judged(alloc: Global, text: &[u8]) -> Answer {
 }
 
 /// Texts with a fault each, and the nearest ones without one.
-const ROWS: [(&[u8], Answer); 24] = [
+const ROWS: [(&[u8], Answer); 28] = [
     (b"module m { init { for i in range(1, 4096) { } } }", Kept),
     (
         b"module m { init { for i in range(0, 4096) { } } }",
@@ -127,6 +131,22 @@ const ROWS: [(&[u8], Answer); 24] = [
         b"module m { next { next (i); } } module n { next { next (i); { next (i); } } }",
         Breaks(26, 1, 63),
     ),
+    (
+        b"module m { define f(a : boolean) : boolean = g(a); define g(b : boolean) : boolean = !b; }",
+        Kept,
+    ),
+    (
+        b"module m { define f(a : boolean) : boolean = g(a); define g(b : boolean) : boolean = !f(b); }",
+        Breaks(23, 1, 12),
+    ),
+    (
+        b"module m { procedure p() { call q(); } procedure q() { } }",
+        Kept,
+    ),
+    (
+        b"module m { procedure r() { call p(); } procedure p() { call q(); } procedure q() { if (a) { call p(); } } }",
+        Breaks(23, 1, 40),
+    ),
 ];
 
 #[test]
@@ -157,5 +177,58 @@ fn an_enum_has_at_most_4096_labels(rt: HostRuntime) -> Result<(), Fail> {
     assert_eq!(rt; judged(alloc, text.as_slice()), Kept);
     let longer = with_labels(alloc, 4097)?;
     assert_eq!(rt; judged(alloc, longer.as_slice()), Breaks(27, 1, 20));
+    Ok(())
+}
+
+/// Whether the first module of a text, as main, expands to too much.
+fn is_large(alloc: Global, text: &[u8]) -> Option<bool> {
+    let mut names = Names::new(alloc);
+    let modules = modules_of(alloc, &mut names, text)?;
+    let system = SystemRef {
+        names: &names,
+        files: &[],
+        modules: modules.as_slice(),
+        main: 0,
+    };
+    is_too_large(alloc, &system).ok()
+}
+
+#[test]
+fn main_expands_to_at_most_a_million_statements(rt: HostRuntime) -> Result<(), Fail> {
+    let alloc = rt.alloc();
+    let most =
+        b"module main { init { for i in range(1, 999) { for j in range(1, 1000) { skip; } } } }";
+    let more =
+        b"module main { init { for i in range(1, 999) { for j in range(1, 1000) { skip; } } skip; } }";
+    assert_eq!(rt; is_large(alloc, most.as_slice()), Some(false));
+    assert_eq!(rt; is_large(alloc, more.as_slice()), Some(true));
+    Ok(())
+}
+
+/// Modules that stand under main so many levels deep, each with two instances of the next.
+fn with_levels(alloc: Global, count: u32) -> Result<Vec<u8>, AllocError> {
+    let mut text = Vec::from_slice(
+        alloc,
+        b"module main { instance a : m1(); instance b : m1(); } ",
+    )?;
+    for level in 1..count {
+        let next = level + 1;
+        let module = format!(in alloc;
+            "module m{level} {{ instance a : m{next}(); instance b : m{next}(); }} "
+        )?;
+        text.extend_from_slice(module.as_bytes())?;
+    }
+    let last = format!(in alloc; "module m{count} {{ }}")?;
+    text.extend_from_slice(last.as_bytes())?;
+    Ok(text)
+}
+
+#[test]
+fn main_has_at_most_65535_instances(rt: HostRuntime) -> Result<(), Fail> {
+    let alloc = rt.alloc();
+    let text = with_levels(alloc, 15)?;
+    assert_eq!(rt; is_large(alloc, text.as_slice()), Some(false));
+    let deeper = with_levels(alloc, 16)?;
+    assert_eq!(rt; is_large(alloc, deeper.as_slice()), Some(true));
     Ok(())
 }
