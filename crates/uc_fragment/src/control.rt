@@ -1,10 +1,10 @@
 //! Control blocks that run.
 
-ghost use Rattle.std.specs.Prelude.{◌≡◌, [], IfOk};
+ghost use Rattle.std.specs.Prelude.{◌≡◌, [], IfOk, OnOk};
 ghost use Rattle.std.specs.List.{list_all};
+ghost use Rattle.uc_type_names.specs.NameSets.{with_all};
 ghost use Rattle.uc_fragment.specs.Plain.{variables_by, with_variables, is_cell_path, are_cell_paths, is_own_name, is_print, runs_once};
 
-use crate::inputs::add_all;
 use std::alloc::{AllocError, Global};
 use uc_items::Items;
 use uc_syntax::{Command, Decl, Identifier, WrittenRun};
@@ -12,6 +12,17 @@ use uc_type_names::NameSet;
 
 /// How many steps a run may be unrolled.
 pub const MOST_STEPS: u128 = 1000;
+
+/// Adds the names of identifiers.
+#[tactic(auto, unfolding(uc_type_names::specs::NameSets::with_all))]
+fn add_all(names: &mut NameSet, identifiers: &[Identifier]) -> Result<(), AllocError>
+    ensures { OnOk result (names.new ≡ with_all names.old identifiers.now) }
+{
+    for identifier in identifiers {
+        names.insert(identifier.name)?;
+    }
+    Ok(())
+}
 
 /// What a declaration of variables, inputs, outputs or constants names.
 fn variables_by(decl: &Decl) -> &[Identifier]

@@ -3,11 +3,7 @@
 
 mod blocks;
 mod control;
-mod declared;
-mod inputs;
-mod known;
 mod plain;
 
 pub use control::{MOST_STEPS, is_print, variables};
-pub use known::unknown_type;
 pub use plain::is_plain;

@@ -18,7 +18,7 @@ use Rattle.uc_meaning.specs.Lines.{commands_in, main_declarations}
 use Rattle.uc_meaning.specs.Cells.{as_list}
 use Rattle.uc_meaning.specs.Fragment.{at_most_one, at_most_one_after, is_init, is_next, is_control, variable_names, most_variables, most_steps}
 use Rattle.uc_meaning.proofs.Fragments.{NoneBefore}
-use Rattle.uc_fragment.specs.Plain.{with_inputs, with_variables, types_known, are_new, declared, runs_once, is_plain_decl, is_plain}
+use Rattle.uc_fragment.specs.Plain.{with_variables, runs_once, is_plain_decl, is_plain}
 use Rattle.uc_runnable.specs.Runnable.{IsRunnable}
 use Rattle.uc_meaning.proofs.Lists.{drop_turn}
 use Rattle.uc_prints.specs.Unrolling.{RunsOnce, Unrolls}
@@ -89,21 +89,15 @@ rest_true true b h = h
 rest_true false b h = cc
 
 -- the commands of the one control block run once
-once_in : (inputs cells : List ℕ) (ds : List Decl) → list_all (is_plain_decl inputs cells) ds ≡ true → at_most_one is_control ds ≡ true → runs_once cells (flat_map commands_in ds) ≡ true
-once_in inputs cells [] h one = refl
-once_in inputs cells (Control place commands ∷ ds) h one =
+once_in : (cells : List ℕ) (ds : List Decl) → list_all (is_plain_decl cells) ds ≡ true → at_most_one is_control ds ≡ true → runs_once cells (flat_map commands_in ds) ≡ true
+once_in cells [] h one = refl
+once_in cells (Control place commands ∷ ds) h one =
     ap (runs_once cells) (ap (λ ys. commands ++ ys) (none_of ds (after_one (Control place commands) ds one refl)) ∙ append-nil commands) ∙ (and_true h).0
-once_in inputs cells (other ∷ ds) h one =
-    once_in inputs cells ds (rest_true (is_plain_decl inputs cells other) (list_all (is_plain_decl inputs cells) ds) h) (after_none other ds one refl)
+once_in cells (other ∷ ds) h one =
+    once_in cells ds (rest_true (is_plain_decl cells other) (list_all (is_plain_decl cells) ds) h) (after_none other ds one refl)
 
-parts : (a b c d e f g : Bool) → (a && (b && (c && (d && (e && (f && g)))))) ≡ true → (a ≡ true) × (f ≡ true)
-parts true true true true true true g h = (refl, refl)
-parts a b c d e f g h = cc
-
-plain_parts : (m : Module) → is_plain m ≡ true → (list_all (is_plain_decl (with_inputs [] m.decls) (with_variables [] m.decls)) m.decls ≡ true) × (at_most_one is_control m.decls ≡ true)
-plain_parts m h =
-    parts (list_all (is_plain_decl (with_inputs [] m.decls) (with_variables [] m.decls)) m.decls) (types_known [] m.decls) (are_new [] (declared m)) (at_most_one is_init m.decls) (at_most_one is_next m.decls)
-    (at_most_one is_control m.decls) (nat_le (length (variable_names m.decls)) most_variables) h
+plain_parts : (m : Module) → is_plain m ≡ true → (list_all (is_plain_decl (with_variables [] m.decls)) m.decls ≡ true) × (at_most_one is_control m.decls ≡ true)
+plain_parts m h = and_true h
 
 pub one_control : (system : System) → IsRunnable system → (ds : List Decl) → ds ≡ main_declarations system → at_most_one is_control ds ≡ true
 one_control system r ds e =
@@ -117,7 +111,7 @@ runs_once_there system r ds commands e are =
     record {
       cells = with_variables [] r.over.code.decls;
       once = ap (runs_once (with_variables [] r.over.code.decls)) (are ∙ ap (flat_map commands_in) is)
-          ∙ once_in (with_inputs [] r.over.code.decls) (with_variables [] r.over.code.decls) r.over.code.decls plain.0 plain.1;
+          ∙ once_in (with_variables [] r.over.code.decls) r.over.code.decls plain.0 plain.1;
     }
 
 -- ---- what commands that run once ask for

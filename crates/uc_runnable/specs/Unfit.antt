@@ -29,7 +29,7 @@ use Rattle.uc_flat_names.specs.Names.{names_over_cells}
 use Rattle.uc_flat_design.specs.Sequential.{plainly}
 use Rattle.uc_flat_design.specs.Next.{primed_behind, names_between}
 use Rattle.uc_flat_design.specs.Design.{is_built, is_cell_type, condition_of}
-use Rattle.uc_fragment.specs.Plain.{with_variables, is_print, unknown_type}
+use Rattle.uc_fragment.specs.Plain.{with_variables, is_print}
 
 -- the place of a part, where nothing came of it
 abbrev pub unless_there : {A : Type 0} → Place → Option A → Option Place
@@ -110,7 +110,7 @@ unfit system m names cells count (Control place commands) = unfit_commands cells
 unfit system m names cells count other = None
 
 abbrev pub unfit_in : System → Module → Option Place
-unfit_in system m = or_else (unknown_type [] m.decls) (first_some (unfit system m (names_over_cells system m) (with_variables [] m.decls) (length (cells_of system))) m.decls)
+unfit_in system m = first_some (unfit system m (names_over_cells system m) (with_variables [] m.decls) (length (cells_of system))) m.decls
 
 abbrev pub unfit_only : System → List Module → Option Place
 unfit_only system (m ∷ []) = if list_all is_built m.decls then unfit_in system m else None

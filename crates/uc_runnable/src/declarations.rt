@@ -18,7 +18,7 @@ use uc_flat_code::Writing;
 use uc_flat_expressions::{FlatError, Meant, flat_expression, is_boolean};
 use uc_flat_making::{are_built, names_between};
 use uc_flat_table::{names_table, own_cells};
-use uc_fragment::{unknown_type, variables};
+use uc_fragment::variables;
 use uc_syntax::{Decl, Expr, Module, Place};
 use uc_type_names::NameSet;
 use uc_type_reader::Tables;
@@ -122,9 +122,6 @@ fn unfit_in(alloc: Global, tables: &Tables, code: &Module) -> Result<Option<Plac
     requires { StandsAlone tables.now code.now }
     ensures { IfOk result (λ p. p ≡ unfit_in tables.now code.now) }
 {
-    if let Some(place) = unknown_type(alloc, code.decls.as_slice())? {
-        return Ok(Some(place));
-    }
     let names = names_table(alloc, tables, code)?;
     let cells = variables(alloc, code.decls.as_slice())?;
     let count = count_cells(alloc, tables, code)?;
@@ -150,8 +147,7 @@ fn unfit_only(
     unfit_in(alloc, tables, code)
 }
 
-/// Where a design of one module that does not run is at fault: the first declaration with a type that is not declared before, else the
-/// first declaration or statement that has no form over cells. There is no such place where only names, blocks or inputs are at fault.
+/// Where a design of one module that does not run is at fault: the first declaration, statement or command that has no form over cells.
 pub(crate) fn unfit_place(alloc: Global, tables: &Tables) -> Result<Option<Place>, AllocError>
     ensures { IfOk result (λ p. p ≡ unfit_of tables.now) }
 {
