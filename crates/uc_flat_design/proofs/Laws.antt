@@ -23,12 +23,16 @@ use Rattle.uc_flat.specs.Executions.{FitAll, IsInitial as IsInitialOver, IsStep 
 use Rattle.uc_flat_names.specs.Names.{StandsAlone, names_over_cells, types_of}
 use Rattle.uc_flat_design.specs.Sequential.{running, placed, AreAt, EndAlike}
 use Rattle.uc_flat_design.proofs.Sequential.{sequential_holds}
-use Rattle.uc_flat_design.specs.Next.{step_code, IsAsked, IsReached, IsNextCode}
+use Rattle.uc_flat_design.specs.Next.{primed_behind, step_code, IsAsked, IsReached, IsNextCode}
 use Rattle.uc_flat_design.proofs.Stepping.{found_holds, asks_holds, fits_hold}
-use Rattle.uc_flat_design.specs.Design.{flat_cell, next_names, IsFlatOf}
+use Rattle.uc_flat_design.specs.Design.{flat_cell, next_names, next_arranged, IsFlatOf}
 use Rattle.uc_flat_design.specs.Laws.{IsInitialThere, IsInitialHere, InitialLaw, IsStepThere, IsStepHere, StepLaw}
 use Rattle.uc_flat_design.proofs.Tables.{fit_cells, fit_types, all_plain, no_instances, init_table}
 use Rattle.uc_flat_design.proofs.NextTable.{next_table}
+use Rattle.uc_first_free.specs.Arranged.{IsReordered}
+use Rattle.uc_flat_code.specs.Code.{code_of}
+use Rattle.uc_flat_order.proofs.Coded.{built_in_any_order}
+use Rattle.uc_flat_order.proofs.Pairs.{arranged_has}
 
 some_same : {A : Type 0} (x y : A) → Some x ≡ Some y → x ≡ y
 some_same x y h = cc
@@ -64,6 +68,12 @@ init_is system code f d i cells left =
 
     below_none : (system : System) (code : Module) (f : Flat) → IsFlatOf system code f → instances_below system (main_instance code) ≡ []
     below_none system code f d = ap (flat_map _) (alone_of system code f d).alone
+
+-- the statements of the next block have code in the order of the text too
+pub next_built : (system : System) (code : Module) (f : Flat) → IsFlatOf system code f → (flat : List Statement) × (code_of (next_names system code) (primed_behind (length (cells_of system))) (next_of code) ≡ Some flat)
+next_built system code f d =
+    let w = primed_behind (length (cells_of system)) in
+    built_in_any_order (next_names system code) w (next_arranged system code) (next_of code) d.next (arranged_has (next_names system code) (length (cells_of system)) (next_of code)) d.next_is
 
 -- an ending over cells from one of the design, and the other way round
 from_ending : (i : Interp) (types : List Ty) (others : List Value) (e : Ending) (o : Option Placed) (r : Running) → EndAlike i types others e o → e ≡ Goes r → (p : Placed) × (o ≡ Some p) × AreAt i types others r p
@@ -164,8 +174,11 @@ module _ (system : System) (code : Module) (f : Flat) (i : Interp) (m : Model) (
 
   -- ---- steps
 
-  next_code : IsNextCode system m (next_names system code) i (cells_of system) (next_of code) d.next
+  next_code : IsNextCode system m (next_names system code) i (cells_of system) (next_arranged system code) d.next
   next_code = record { table = next_table system code (alone_of system code f d) m d.types i; plain = all_plain (types_of system) d.types; is = d.next_is }
+
+  same_statements : IsReordered (next_arranged system code) (next_of code)
+  same_statements = arranged_has (next_names system code) (length (cells_of system)) (next_of code)
 
   pub next_is : main_next system ≡ next_of code
   next_is = ap (λ o. flat_map next_of (as_list o)) (main_is system code f d) ∙ append-nil (next_of code)
@@ -192,7 +205,7 @@ module _ (system : System) (code : Module) (f : Flat) (i : Interp) (m : Model) (
         lists = h.lists;
         keeps = h.keeps;
       } in
-      let found = found_holds system (check_through longest_chain system) i m (next_names system code) (cells_of system) (next_of code) d.next old.cells new.cells choices sites d.after next_code d.once
+      let found = found_holds system (check_through longest_chain system) i m (next_names system code) (cells_of system) (next_of code) (next_arranged system code) d.next old.cells new.cells choices sites d.after same_statements next_code d.once
       (fit_cells (types_of system) old.cells fit_old) (fit_cells (types_of system) new.cells fit_new) asked in
       record { no_choices = found.no_choices; no_sites = found.no_sites; step = from_reached old.cells new.cells [] [] found.reached }
 
@@ -200,8 +213,8 @@ module _ (system : System) (code : Module) (f : Flat) (i : Interp) (m : Model) (
   step_here old new choices sites fit_old h =
       let reached = to_reached old new choices sites h in
       let fit = fit_cells (types_of system) old fit_old in
-      let fit_new = fits_hold system (check_through longest_chain system) i m (next_names system code) (cells_of system) (next_of code) d.next old new choices sites next_code fit reached in
-      let found = asks_holds system (check_through longest_chain system) i m (next_names system code) (cells_of system) (next_of code) d.next old new choices sites d.after next_code d.once fit fit_new reached in
+      let fit_new = fits_hold system (check_through longest_chain system) i m (next_names system code) (cells_of system) (next_arranged system code) d.next old new choices sites next_code fit reached in
+      let found = asks_holds system (check_through longest_chain system) i m (next_names system code) (cells_of system) (next_of code) (next_arranged system code) d.next old new choices sites d.after same_statements next_code d.once fit fit_new reached in
       record {
         no_choices = found.no_choices;
         no_sites = found.no_sites;

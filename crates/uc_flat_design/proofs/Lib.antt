@@ -12,6 +12,7 @@ pub mod Halves
 pub mod Settled
 pub mod Alike
 pub mod Told
+pub mod Orders
 pub mod Stepping
 pub mod Tables
 pub mod NextTable

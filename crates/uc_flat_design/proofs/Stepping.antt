@@ -25,6 +25,7 @@ use Rattle.uc_flat_design.specs.Next.{IsNextTable, types_in, inputs_from, step_c
 use Rattle.uc_flat_design.proofs.Effects.{Effect, parts_of, parts_in, all_agree, performed, performed_append, kept_true, none_some}
 use Rattle.uc_flat_design.proofs.Leaving.{FineAll, left_fits}
 use Rattle.uc_flat_design.proofs.Told.{fit_length, Fine, Once, none_read, led, at, asked, ran, Stays, Told, goes_both, havoc_goes, code_told}
+use Rattle.uc_flat_design.proofs.Orders.{asked_in_order, asked_of_block}
 use Rattle.uc_flat_design.proofs.Alike.{Agree}
 use Rattle.uc_flat_design.proofs.Settled.{ArePlain, at_fields, touched_append, neither, input_effects, keeps_same, keeps_all, frees, settled, settles, settled_new, left_length, left_kept, left_agrees}
 
@@ -225,15 +226,22 @@ module _ (system : System) (blocks : Blocks) (i : Interp) (m : Model) (names : L
       )
 
 pub found_holds : StepFoundLaw
-found_holds system blocks i m names cells code flat old new choices sites after is once fit_old fit_new step =
-    let a = code_told system blocks i m (types_in cells) names old new fit_old fit_new is.table (length cells) (sym (length-map cells (λ (c : Cell). c.type))) code flat is.is in
-    found_by system blocks i m names cells old new fit_old fit_new is.table is.plain (check_by system blocks code) (written_by names (length cells) code) flat a step.seen after choices sites once step.holds step.uses_all step.lists step.keeps a.effects refl
+found_holds system blocks i m names cells code order flat old new choices sites after same is once fit_old fit_new step =
+    let count = sym (length-map cells (λ (c : Cell). c.type)) in
+    let a = code_told system blocks i m (types_in cells) names old new fit_old fit_new is.table (length cells) count order flat is.is in
+    let moved = asked_in_order system blocks i m (types_in cells) names old new fit_old fit_new is.table (length cells) count cells order code flat choices sites same is.is step in
+    found_by system blocks i m names cells old new fit_old fit_new is.table is.plain (check_by system blocks order) (written_by names (length cells) order) flat a moved.seen after choices sites once moved.holds moved.uses_all moved.lists moved.keeps a.effects refl
 
 pub asks_holds : StepIsLaw
-asks_holds system blocks i m names cells code flat old new choices sites after is once fit_old fit_new reached =
-    let a = code_told system blocks i m (types_in cells) names old new fit_old fit_new is.table (length cells) (sym (length-map cells (λ (c : Cell). c.type))) code flat is.is in
-    let s = asks_by system blocks i m names cells old new fit_old fit_new is.table is.plain (check_by system blocks code) (written_by names (length cells) code) flat a after choices sites once reached a.effects refl in
-    record { no_choices = s.0; no_sites = s.1; asked = record { seen = s.2; holds = s.3; uses_all = s.4; lists = s.5; keeps = s.6 } }
+asks_holds system blocks i m names cells code order flat old new choices sites after same is once fit_old fit_new reached =
+    let count = sym (length-map cells (λ (c : Cell). c.type)) in
+    let a = code_told system blocks i m (types_in cells) names old new fit_old fit_new is.table (length cells) count order flat is.is in
+    let s = asks_by system blocks i m names cells old new fit_old fit_new is.table is.plain (check_by system blocks order) (written_by names (length cells) order) flat a after choices sites once reached a.effects refl in
+    record {
+      no_choices = s.0;
+      no_sites = s.1;
+      asked = asked_of_block system blocks i m (types_in cells) names old new fit_old fit_new is.table (length cells) count cells order code flat [] [] same is.is (record { seen = s.2; holds = s.3; uses_all = s.4; lists = s.5; keeps = s.6 });
+    }
 
 pub fits_hold : StepFitsLaw
 fits_hold system blocks i m names cells code flat old new choices sites is fit_old reached =

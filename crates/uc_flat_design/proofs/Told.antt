@@ -312,7 +312,7 @@ module _ (system : System) (blocks : Blocks) (i : Interp) (m : Model) (types : L
 
   -- ---- one after another
 
-  asks_both : (e f : Option (List Effect)) (d : Constraint) (w : Watched) → w.scope ≡ here → ((v : Watched) → v.scope ≡ here → d v ≡ asked f v) → then_check (asked e w) d ≡ asked (both e f) w
+  pub asks_both : (e f : Option (List Effect)) (d : Constraint) (w : Watched) → w.scope ≡ here → ((v : Watched) → v.scope ≡ here → d v ≡ asked f v) → then_check (asked e w) d ≡ asked (both e f) w
   asks_both None f d w h g = refl
   asks_both (Some ms) None d w h g = onward (all_agree types new ms)
     where
@@ -912,7 +912,7 @@ module _ (system : System) (blocks : Blocks) (i : Interp) (m : Model) (types : L
     layer (Call place targets callee arguments) flat e = absurd (cc)
     layer (Next place x) flat e = absurd (cc)
 
-  statement_gives : (s : Stmt) → Gives (check_statement system blocks s) (writer names n s) (statement_of names (primed_behind n) s)
+  pub statement_gives : (s : Stmt) → Gives (check_statement system blocks s) (writer names n s) (statement_of names (primed_behind n) s)
   unfolding check_statement statement_of writer
   statement_gives =
       ind-Stmt (λ s. Gives (fold-Stmt Constraint (check_form system blocks) s) (fold-Stmt Writer (writer_form names n) s) (fold-Stmt MayBe (code_form names (primed_behind n)) s))

@@ -6,6 +6,7 @@ use Rattle.uc_syntax.specs.declared.declaration.VariableKind.TheVariants.{Consta
 use Rattle.uc_syntax.specs.declared.declaration.Decl.{Decl}
 use Rattle.uc_syntax.specs.declared.declaration.Decl.TheVariants.{OpaqueType, TypeAlias, TypeImport, Variables, Init, Next, Invariant, Control}
 use Rattle.uc_syntax.specs.declared.declaration.Module.{Module}
+use Rattle.uc_syntax.specs.declared.statement.Stmt.{Stmt}
 use Rattle.uc_values.specs.declared.ty.Ty.{Ty}
 use Rattle.uc_values.specs.declared.ty.Ty.TheFolds.{fold-Ty}
 use Rattle.uc_values.specs.declared.ty.Ty.TheOpen.{Ty-F}
@@ -26,6 +27,7 @@ use Rattle.uc_flat_code.specs.Code.{code_of}
 use Rattle.uc_flat_design.specs.Sequential.{plainly}
 use Rattle.uc_flat_once.specs.declared.once.Part.{Part}
 use Rattle.uc_flat_once.specs.Once.{written_by}
+use Rattle.uc_flat_order.specs.Arranged.{block_arranged}
 use Rattle.uc_flat_design.specs.Next.{primed_behind, names_between, step_code}
 
 abbrev pub is_finite_form : Ty-F Truth → Truth
@@ -89,7 +91,11 @@ flat_with system init next formulas = record {
 abbrev pub next_names : System → Module → List Meant
 next_names system code = names_between (length (cells_of system)) (names_over_cells system code)
 
--- The design has one module, with declarations that are built, cells of such types, code and invariants over cells, and a next block that writes no part of a cell on a way after it was written there, or read in the new state; and this is the design over cells.
+-- the next block of main, in the order in which its statements are run
+abbrev pub next_arranged : System → Module → List Stmt
+next_arranged system code = block_arranged (next_names system code) (length (cells_of system)) (next_of code)
+
+-- The design has one module, with declarations that are built, cells of such types, code and invariants over cells, and a next block that, arranged, writes no part of a cell on a way after it was written there, or read in the new state; and this is the design over cells.
 pub record IsFlatOf (system : System) (code : Module) (f : Flat) : Type 0 where
   pub only : system.modules ≡ code ∷ []
   pub first : system.main ≡ 0
@@ -100,7 +106,7 @@ pub record IsFlatOf (system : System) (code : Module) (f : Flat) : Type 0 where
   pub after : List Part
   pub formulas : List Formula
   pub init_is : code_of (names_over_cells system code) plainly (init_of code) ≡ Some init
-  pub next_is : code_of (next_names system code) (primed_behind (length (cells_of system))) (next_of code) ≡ Some next
-  pub once : written_by (next_names system code) (length (cells_of system)) (next_of code) [] ≡ Some after
+  pub next_is : code_of (next_names system code) (primed_behind (length (cells_of system))) (next_arranged system code) ≡ Some next
+  pub once : written_by (next_names system code) (length (cells_of system)) (next_arranged system code) [] ≡ Some after
   pub formulas_are : formulas_from (names_over_cells system code) 0 code.decls ≡ Some formulas
   pub is : f ≡ flat_with system init next formulas

@@ -12,6 +12,7 @@ use Rattle.uc_meaning.specs.Lookup.{System, instance_in, init_of, next_of}
 use Rattle.uc_meaning.specs.Cells.{Cell, cells_of}
 use Rattle.uc_flat.specs.declared.flat.Flat.{Flat}
 use Rattle.uc_flat_once.specs.Once.{written_by}
+use Rattle.uc_flat_order.specs.Arranged.{block_arranged}
 use Rattle.uc_flat_expressions.specs.declared.typed.Meant.{Meant}
 use Rattle.uc_flat_expressions.specs.declared.typed.FlatError.{FlatError}
 use Rattle.uc_flat_expressions.specs.declared.typed.FlatError.TheVariants.{NoMemory, NotBuilt}
@@ -70,8 +71,9 @@ made_is system code f only first built typed h =
     let q = then_parts (λ next. option_map (flat_over cells p.0 next) (formulas_from names 0 code.decls)) (next_once names cells code) f p.2 in
     let r = map_parts (flat_over cells p.0 q.0) (formulas_from names 0 code.decls) f q.2 in
     let next_names = names_between (length cells) names in
-    let t = if_some (is_some (written_by next_names (length cells) (next_of code) [])) (code_of next_names (primed_behind (length cells)) (next_of code)) q.0 q.1 in
-    let u = some_of (written_by next_names (length cells) (next_of code) []) t.0 in
+    let order = block_arranged next_names (length cells) (next_of code) in
+    let t = if_some (is_some (written_by next_names (length cells) order [])) (code_of next_names (primed_behind (length cells)) order) q.0 q.1 in
+    let u = some_of (written_by next_names (length cells) order []) t.0 in
     record {
       only = only;
       first = first;
@@ -95,7 +97,7 @@ made_some system code f is =
       flat_over cells is.init is.next is.formulas,
       ap (option_and_then (λ init. option_and_then (λ next. option_map (flat_over cells init next) (formulas_from names 0 code.decls)) (next_once names cells code))) is.init_is
           ∙ ap (option_and_then (λ next. option_map (flat_over cells is.init next) (formulas_from names 0 code.decls)))
-          (ap (λ o. if is_some o then code_of (names_between (length cells) names) (primed_behind (length cells)) (next_of code) else None) is.once ∙ is.next_is)
+          (ap (λ o. if is_some o then code_of (names_between (length cells) names) (primed_behind (length cells)) (block_arranged (names_between (length cells) names) (length cells) (next_of code)) else None) is.once ∙ is.next_is)
           ∙ ap (option_map (flat_over cells is.init is.next)) is.formulas_are,
     )
 

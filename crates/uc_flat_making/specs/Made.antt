@@ -8,7 +8,7 @@ use Rattle.uc_meaning.specs.Cells.{Cell, cells_of}
 use Rattle.uc_flat.specs.declared.flat.Flat.{Flat}
 use Rattle.uc_flat.specs.declared.flat.Formula.{Formula}
 use Rattle.uc_flat.specs.declared.statement.Statement.{Statement}
-use Rattle.uc_flat_once.specs.Once.{code_once}
+use Rattle.uc_flat_order.specs.Arranged.{code_arranged}
 use Rattle.uc_flat_expressions.specs.declared.typed.Meant.{Meant}
 use Rattle.uc_flat_expressions.specs.declared.typed.FlatError.{FlatError}
 use Rattle.uc_flat_expressions.specs.declared.typed.FlatError.TheVariants.{NoMemory, NotBuilt}
@@ -43,9 +43,9 @@ flat_over cells init next formulas = record {
   axioms = 0;
 }
 
--- the code of the next block, where this writes no part of a cell on a way after it was written there, or read in the new state
+-- the code of the next block, where this, arranged, writes no part of a cell on a way after it was written there, or read in the new state
 abbrev pub next_once : List Meant → List Cell → Module → Option (List Statement)
-next_once names cells code = code_once (names_between (length cells) names) (primed_behind (length cells)) (next_of code)
+next_once names cells code = code_arranged (names_between (length cells) names) (primed_behind (length cells)) (next_of code)
 
 -- the design over cells by what the names stand for
 abbrev pub made_over : List Meant → List Cell → Module → Option Flat

@@ -5,13 +5,13 @@ ghost use Rattle.std.specs.List.{flat_map};
 ghost use Rattle.uc_meaning.specs.Lookup.{init_in, next_in, init_of, next_of};
 ghost use Rattle.uc_flat_expressions.specs.Answers.{IsAnswer};
 ghost use Rattle.uc_flat_code.specs.Code.{code_of};
-ghost use Rattle.uc_flat_once.specs.Once.{code_once};
+ghost use Rattle.uc_flat_order.specs.Arranged.{code_arranged};
 
 use std::alloc::{AllocError, Global};
 use uc_flat::Statement;
 use uc_flat_code::{Writing, flat_code};
 use uc_flat_expressions::{FlatError, Meant};
-use uc_flat_once::code_once;
+use uc_flat_order::code_arranged;
 use uc_items::Items;
 use uc_syntax::{Decl, Module, Stmt, copy_block};
 
@@ -70,16 +70,16 @@ pub(crate) fn init_code(
     flat_code(alloc, names, writing, block.as_slice())
 }
 
-/// The code over cells of the `next` block of a module, where no way through it writes a part of a cell after it was written there, or read in
-/// the new state.
+/// The code over cells of the `next` block of a module, where no way through its statements, in the order in which they are run, writes a part
+/// of a cell after it was written there, or read in the new state.
 pub(crate) fn next_code(
     alloc: Global,
     names: &[Meant],
     writing: Writing,
     code: &Module,
 ) -> Result<Items<Statement>, FlatError>
-    ensures { IsAnswer (code_once names.now writing (next_of code.now)) result }
+    ensures { IsAnswer (code_arranged names.now writing (next_of code.now)) result }
 {
     let block = next_block(alloc, code.decls.as_slice())?;
-    code_once(alloc, names, writing, block.as_slice())
+    code_arranged(alloc, names, writing, block.as_slice())
 }

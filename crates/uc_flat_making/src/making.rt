@@ -19,7 +19,8 @@ use uc_syntax::Module;
 use uc_type_reader::Tables;
 
 /// The design over numbered cells of a design, where this is one of one module whose declarations, types, code and invariants are built, and
-/// whose next block writes no part of a cell on a way after it was written there, or read in the new state.
+/// the statements of whose next block have an order in which no part of a cell is written on a way after it was written there, or read in
+/// the new state.
 pub fn flat_design(alloc: Global, tables: &Tables) -> Result<Flat, FlatError>
     ensures { IsMade tables.now result }
 {

@@ -1,7 +1,7 @@
 -- What each form of statement writes, in one list with what was written before.
-use Rattle.std.proofs.Common.{◌≡◌, ℕ, zero, suc, ◌+◌, ◌<◌, ◌≤◌, Bool, true, false, List, [], ◌∷◌, ◌++◌, length, take, drop, get_or, map, refl, sym, ap, ◌∙◌, Option, Some, None, arith}
-use Rattle.std.specs.Prelude.{slice_get, if◌then◌else◌, Result, Ok, Err, IfOk}
-use Rattle.std.specs.Option.{option_map, option_and_then, is_some}
+use Rattle.std.proofs.Common.{◌≡◌, ℕ, zero, suc, ◌+◌, ◌<◌, ◌≤◌, Bool, List, [], ◌∷◌, ◌++◌, length, take, drop, get_or, map, refl, sym, ap, ◌∙◌, Option, Some, None, arith}
+use Rattle.std.specs.Prelude.{slice_get, Result, Ok, Err, IfOk}
+use Rattle.std.specs.Option.{option_map, option_and_then}
 use Rattle.std.specs.List.{flat_map}
 use Rattle.std.proofs.lemmas.List.{drop_all}
 use Rattle.uc_lexer.specs.declared.place.Place.{Place}
@@ -18,15 +18,10 @@ use Rattle.uc_syntax.specs.declared.statement.Stmt.TheViews.{roll-Stmt, Block, I
 use Rattle.uc_syntax.specs.declared.statement.Stmt.TheVariants.{Local, Skip, Assert, Assume, Havoc, Assign, Call, Next}
 use Rattle.uc_syntax.specs.declared.statement.Stmt.TheFolds.{map-Stmt, fold-roll-Stmt}
 use Rattle.uc_meaning.specs.Code.{else_block}
-use Rattle.uc_flat.specs.declared.statement.Statement.{Statement}
 use Rattle.uc_flat_expressions.specs.declared.typed.Meant.{Meant}
-use Rattle.uc_flat_expressions.specs.declared.typed.FlatError.{FlatError}
-use Rattle.uc_flat_expressions.specs.declared.typed.FlatError.TheVariants.{NoMemory, NotBuilt}
-use Rattle.uc_flat_expressions.specs.Answers.{IsAnswer}
-use Rattle.uc_flat_code.specs.declared.writing.Writing.{Writing}
-use Rattle.uc_flat_code.specs.Code.{each_arm, code_of}
+use Rattle.uc_flat_code.specs.Code.{each_arm}
 use Rattle.uc_flat_once.specs.declared.once.Part.{Part}
-use Rattle.uc_flat_once.specs.Once.{read_by, Writer, each_writes, either_writes, arms_write, reads_first, writer_of, target_writer, conditions_read, choice_writer, writer_form, writer, written_by, code_once}
+use Rattle.uc_flat_once.specs.Once.{read_by, Writer, each_writes, either_writes, arms_write, reads_first, writer_of, target_writer, conditions_read, choice_writer, writer_form, writer}
 use Rattle.uc_flat_once.specs.Walk.{after_one, each_after, arms_only, pair, beside}
 
 regrouped : {A : Type 0} (xs ys zs : List A) → (xs ++ ys) ++ zs ≡ xs ++ (ys ++ zs)
@@ -60,11 +55,14 @@ read_first reads w before = onward (w (before ++ reads))
     onward None = refl
     onward (Some xs) = ap Some (regrouped before reads xs)
 
-pub once_told : (names : List Meant) (first : ℕ) (code : List Stmt) (o : Option (List Part)) → o ≡ each_after (map (writer names first) code) [] → is_some o ≡ is_some (written_by names first code [])
-unfolding written_by
-once_told names first code o h = ap is_some (h ∙ each_told (map (writer names first) code) []) ∙ kept (each_writes (map (writer names first) code) [])
+if_ok : {E : Type 0} (r : Result (Option (List Part)) E) (p q : Option (List Part)) → p ≡ q → IfOk r (λ o. o ≡ p) → IfOk r (λ o. o ≡ q)
+if_ok (Ok o) p q e h = h ∙ e
+if_ok (Err x) p q e h = tt
+
+pub alone_told : {E : Type 0} (names : List Meant) (first : ℕ) (s : Stmt) (before : List Part) (r : Result (Option (List Part)) E) → before ≡ [] → IfOk r (λ o. o ≡ after_one (writer names first s) before) → IfOk r (λ o. o ≡ writer names first s [])
+alone_told names first s before r e h = if_ok r (after_one (writer names first s) before) (writer names first s []) (ap (after_one (writer names first s)) e ∙ kept (writer names first s [])) h
   where
-    kept : (p : Option (List Part)) → is_some (option_map (λ xs. [] ++ xs) p) ≡ is_some p
+    kept : (p : Option (List Part)) → option_map (λ xs. [] ++ xs) p ≡ p
     kept None = refl
     kept (Some xs) = refl
 
@@ -72,10 +70,6 @@ once_told names first code o h = ap is_some (h ∙ each_told (map (writer names 
 
 nothing_told : (names : List Meant) (first : ℕ) (s : Stmt) (before : List Part) → writer names first s ≡ (λ b. Some []) → Some before ≡ after_one (writer names first s) before
 nothing_told names first s before h = ap Some (sym (with_none before)) ∙ sym (ap (λ w. after_one w before) h)
-
-if_ok : {E : Type 0} (r : Result (Option (List Part)) E) (p q : Option (List Part)) → p ≡ q → IfOk r (λ o. o ≡ p) → IfOk r (λ o. o ≡ q)
-if_ok (Ok o) p q e h = h ∙ e
-if_ok (Err x) p q e h = tt
 
 pub block_told : {E : Type 0} (names : List Meant) (first : ℕ) (s : Stmt) (place : Place) (block slice : List Stmt) (before : List Part) (r : Result (Option (List Part)) E) → s ≡ Block place block → slice ≡ block → IfOk r (λ o. o ≡ each_after (map (writer names first) slice) before) → IfOk r (λ o. o ≡ after_one (writer names first s) before)
 unfolding writer roll-Stmt denote.Hole.Carrier.roll
@@ -434,19 +428,3 @@ arms_begin names first arms before = begun (arms_only (map (each_arm (writer nam
     begun : (o : Option (List Part)) → o ≡ option_map (λ ys. [] ++ ys) o
     begun None = refl
     begun (Some ys) = refl
-
--- ---- code that is not built
-
-pub once_err : (names : List Meant) (w : Writing) (code : List Stmt) (err : FlatError) → IsAnswer {A = List Statement} (code_of names w code) (Err err) → IsAnswer {A = List Statement} (code_once names w code) (Err err)
-once_err names w code NoMemory h = tt
-once_err names w code NotBuilt h = either (is_some (written_by names w.shift code [])) h
-  where
-    either : (b : Bool) → code_of names w code ≡ None → (if b then code_of names w code else None) ≡ None
-    either true e = e
-    either false e = refl
-
-pub once_again : (names : List Meant) (w : Writing) (code : List Stmt) (b : Bool) → b ≡ is_some (written_by names w.shift code []) → b ≡ false → code_once names w code ≡ None
-once_again names w code b is e = ap (λ c. if c then code_of names w code else None) (sym is ∙ e)
-
-pub once_built : (names : List Meant) (w : Writing) (code : List Stmt) (flat : List Statement) (b : Bool) → code_of names w code ≡ Some flat → b ≡ is_some (written_by names w.shift code []) → b ≡ true → code_once names w code ≡ Some flat
-once_built names w code flat b h is e = ap (λ c. if c then code_of names w code else None) (sym is ∙ e) ∙ h

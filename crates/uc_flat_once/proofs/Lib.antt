@@ -1,2 +1,4 @@
 pub mod After
 pub mod NewCells
+pub mod Adding
+pub mod Shapes

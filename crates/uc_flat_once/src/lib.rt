@@ -1,7 +1,10 @@
-//! The code over numbered cells of a next block that writes no part of a cell on a way after it was written there, or read in the new state.
+//! What the statements of a next block write, and what they read in the new state: no part of a cell may be written, on a way through the
+//! block, after it was written there, or read in the new state.
 #![tactic(auto)]
 
 mod once;
 mod reads;
+mod written;
 
-pub use once::{Part, code_once};
+pub use once::{Part, statement_parts, touched};
+pub use written::written_parts;

@@ -1,18 +1,14 @@
 //! The walk over code.
 
 ghost use Rattle.std.specs.Prelude.{◌≡◌, ◌++◌, [], take, drop, map, slice_get, Some, IfOk};
-ghost use Rattle.std.specs.Option.{is_some};
-ghost use Rattle.uc_flat_expressions.specs.Answers.{IsAnswer};
 ghost use Rattle.uc_flat_code.specs.Code.{each_arm};
 ghost use Rattle.uc_meaning.specs.Steps.{fields_before, is_prefix};
-ghost use Rattle.uc_flat_once.specs.Once.{overlaps, touched, writes_part, writer_of, target_writer, writer, written_by, code_once};
+ghost use Rattle.uc_flat_once.specs.Once.{overlaps, touched, writes_part, writer_of, target_writer, writer};
 ghost use Rattle.uc_flat_once.specs.Walk.{after_one, each_after, arms_only, beside};
 
 use crate::reads::{with_conditions, with_reads, with_sources};
 use std::alloc::{AllocError, Global};
-use uc_flat::Statement;
-use uc_flat_code::{Writing, flat_code};
-use uc_flat_expressions::{FlatError, Meant};
+use uc_flat_expressions::Meant;
 use uc_items::{Items, at};
 use uc_syntax::{Arm, Stmt, Target, TargetPart};
 
@@ -23,37 +19,18 @@ pub struct Part {
     pub fields: Items<u32>,
 }
 
-/// The code over cells of a next block that writes no part of a cell on a way after it was written there, or read in the new state, where
-/// names stand for what is listed by their numbers. Not built is what `flat_code` does not build, and a part that is written then.
-#[tactic(auto, using(crate::proofs::After::once_err, crate::proofs::After::once_again, crate::proofs::After::once_built))]
-pub fn code_once(
-    alloc: Global,
-    names: &[Meant],
-    writing: Writing,
-    code: &[Stmt],
-) -> Result<Items<Statement>, FlatError>
-    ensures { IsAnswer (code_once names.now writing code.now) result }
-{
-    let flat = flat_code(alloc, names, writing, code)?;
-    let is_once = writes_once(alloc, names, writing.shift, code)?;
-    if !is_once {
-        return Err(FlatError::NotBuilt);
-    }
-    Ok(flat)
-}
-
-/// Whether no way through the code writes a part of a cell after it was written or read, where the cells of the new state begin with `first`.
-#[tactic(auto, using(crate::proofs::After::once_told))]
-fn writes_once(
+/// The parts that a statement writes, and the cells of the new state that it reads, where these are the cells with numbers from `first` on;
+/// or nothing, where a way through it writes a part that overlaps one that it wrote or read before.
+#[tactic(auto, using(crate::proofs::After::alone_told))]
+pub fn statement_parts(
     alloc: Global,
     names: &[Meant],
     first: u32,
-    code: &[Stmt],
-) -> Result<bool, AllocError>
-    ensures { IfOk result (λ b. b ≡ is_some (written_by names.now first code.now [])) }
+    statement: &Stmt,
+) -> Result<Option<Items<Part>>, AllocError>
+    ensures { IfOk result (λ o. o ≡ writer names.now first statement.now []) }
 {
-    let after = after_code(alloc, names, first, code, Items::new(alloc))?;
-    Ok(after.is_some())
+    after_statement(alloc, names, first, statement, Items::new(alloc))
 }
 
 /// The parts that were written or read before, and those that code writes or reads, unless one is written again.
@@ -226,7 +203,7 @@ fn after_targets(
 
 /// The names of the fields up to the first index.
 #[tactic(auto, unfolding(uc_meaning::specs::Steps::fields_before))]
-fn fields_before(alloc: Global, parts: &[TargetPart]) -> Result<Items<u32>, AllocError>
+pub(crate) fn fields_before(alloc: Global, parts: &[TargetPart]) -> Result<Items<u32>, AllocError>
     ensures { IfOk result (λ fields. fields ≡ fields_before parts.now) }
 {
     let mut fields = Items::new(alloc);
@@ -270,7 +247,7 @@ fn after_part(part: Part, before: Items<Part>) -> Result<Option<Items<Part>>, Al
 
 /// Whether a part overlaps one of these.
 #[tactic(auto, unfolding(crate::specs::Once::touched))]
-fn touched(parts: &[Part], part: &Part) -> bool
+pub fn touched(parts: &[Part], part: &Part) -> bool
     ensures { result ≡ touched parts.now part.now }
 {
     for one in parts {

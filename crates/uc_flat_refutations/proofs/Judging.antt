@@ -35,7 +35,7 @@ use Rattle.uc_flat_design.proofs.Options.{then_some, map_some, if_some, some_sam
 use Rattle.uc_flat_design.proofs.Sequential.{arms_in, else_in}
 use Rattle.uc_flat_design.specs.Next.{primed_behind}
 use Rattle.uc_flat_design.specs.Design.{next_names, is_built, condition_of, formula_in, formulas_from, IsFlatOf}
-use Rattle.uc_flat_design.proofs.Laws.{main_is, alone_of}
+use Rattle.uc_flat_design.proofs.Laws.{next_built, main_is, alone_of}
 use Rattle.uc_flat_refutations.specs.Laws.{LinesLaw}
 
 -- ---- no sites
@@ -168,7 +168,7 @@ step_none : (system : System) (code : Module) (f : Flat) → IsFlatOf system cod
 unfolding step_sites sites_in_order
 step_none system code f d =
     ap (λ c. sites_in_order system (sites_in system c [])) (ap (λ o. flat_map next_of (as_list o)) (main_is system code f d) ∙ append-nil (next_of code))
-    ∙ ap (sites_in_order system) (no_sites system (next_names system code) (primed_behind (length (cells_of system))) (next_of code) d.next d.next_is)
+    ∙ ap (sites_in_order system) (let b = next_built system code f d in no_sites system (next_names system code) (primed_behind (length (cells_of system))) (next_of code) b.0 b.1)
 
 none_after : (system : System) (code : Module) (f : Flat) (steps : ℕ) → IsFlatOf system code f → sites_after system steps ≡ []
 none_after system code f zero d = init_none system code f d

@@ -8,7 +8,7 @@ use Rattle.uc_syntax.specs.declared.declaration.Decl.{Decl}
 use Rattle.uc_syntax.specs.declared.declaration.Decl.TheVariants.{Invariant}
 use Rattle.uc_syntax.specs.declared.declaration.Module.{Module}
 use Rattle.uc_values.specs.declared.ty.Ty.{Ty}
-use Rattle.uc_meaning.specs.Lookup.{System, init_of, next_of}
+use Rattle.uc_meaning.specs.Lookup.{System, init_of}
 use Rattle.uc_meaning.specs.Cells.{Cell, cells_of}
 use Rattle.uc_meaning.specs.Steps.{is_input}
 use Rattle.uc_ops.specs.declared.model.Model.{Model}
@@ -31,7 +31,7 @@ use Rattle.uc_flat_fits.proofs.Laws.{fits_suited, reads_suited, sequential_holds
 use Rattle.uc_flat_design.specs.Sequential.{plainly}
 use Rattle.uc_flat_design.proofs.Options.{then_some, map_some, if_some, some_same}
 use Rattle.uc_flat_design.specs.Next.{primed_behind, inputs_from, step_code}
-use Rattle.uc_flat_design.specs.Design.{next_names, condition_of, formula_in, formulas_from, IsFlatOf}
+use Rattle.uc_flat_design.specs.Design.{next_names, next_arranged, condition_of, formula_in, formulas_from, IsFlatOf}
 use Rattle.uc_flat_design.proofs.Tables.{all_valid, says_at_zeros, init_table, no_interpretation}
 use Rattle.uc_flat_design.proofs.NextTable.{next_table, next_says_at_zeros}
 use Rattle.uc_flat_design.proofs.Laws.{alone_of, flat_types}
@@ -133,11 +133,11 @@ module _ (system : System) (code : Module) (f : Flat) (d : IsFlatOf system code 
       (inputs_fine (types ++ types) (cells_of system) (length (cells_of system)) (λ k l.
       let a = there types k valid (omega (arith, l, even)) in
       (a.0, get_behind types types (length (cells_of system)) k even ∙ a.1, a.2)))
-      (code_gives between (primed_behind (length (cells_of system))) (Alone (types ++ types)) (fits_suited between (primed_behind (length (cells_of system))) (types ++ types) fit_twice next_written (valid_append types types valid valid)) (next_of code) d.next d.next_is)
+      (code_gives between (primed_behind (length (cells_of system))) (Alone (types ++ types)) (fits_suited between (primed_behind (length (cells_of system))) (types ++ types) fit_twice next_written (valid_append types types valid valid)) (next_arranged system code) d.next d.next_is)
 
   step_reads : Everywhere (AloneReads 0) (step_code (cells_of system) d.next)
   step_reads = both (AloneReads 0) (inputs_from (length (cells_of system)) (cells_of system)) d.next (inputs_read (cells_of system) (length (cells_of system)) 0)
-      (code_gives between (primed_behind (length (cells_of system))) (AloneReads 0) (reads_suited between (primed_behind (length (cells_of system))) 0 reads_twice) (next_of code) d.next d.next_is)
+      (code_gives between (primed_behind (length (cells_of system))) (AloneReads 0) (reads_suited between (primed_behind (length (cells_of system))) 0 reads_twice) (next_arranged system code) d.next d.next_is)
 
   -- ---- formulas
 

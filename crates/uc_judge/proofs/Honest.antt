@@ -4,7 +4,7 @@ use Rattle.std.specs.List.{All}
 use Rattle.std.proofs.lemmas.List.Elements.{All-nil, All-cons, All-head, All-tail}
 use Rattle.std.proofs.lemmas.Option.{same_Some}
 use Rattle.uc_syntax.specs.declared.declaration.Module.{Module}
-use Rattle.uc_meaning.specs.Lookup.{System, init_of, next_of}
+use Rattle.uc_meaning.specs.Lookup.{System, init_of}
 use Rattle.uc_meaning.specs.Cells.{cells_of}
 use Rattle.uc_flat.specs.declared.flat.Flat.{Flat}
 use Rattle.uc_flat.specs.Flats.{IsSound}
@@ -12,7 +12,7 @@ use Rattle.uc_flat_code.specs.Code.{code_of}
 use Rattle.uc_flat_names.specs.Names.{names_over_cells}
 use Rattle.uc_flat_design.specs.Sequential.{plainly}
 use Rattle.uc_flat_design.specs.Next.{primed_behind}
-use Rattle.uc_flat_design.specs.Design.{next_names, formulas_from, flat_with, IsFlatOf}
+use Rattle.uc_flat_design.specs.Design.{next_names, next_arranged, formulas_from, flat_with, IsFlatOf}
 use Rattle.uc_flat_lines.specs.declared.line.FlatLine.{FlatLine}
 use Rattle.uc_flat_lines.specs.declared.line.FlatVerdict.{FlatVerdict}
 use Rattle.uc_flat_lines.specs.declared.line.FlatVerdict.TheVariants.{Passed, Failed, Undef}
@@ -35,7 +35,7 @@ pub one_flat : (system : System) (code other : Module) (f g : Flat) → IsFlatOf
 one_flat system code other f g d e =
     let same : code ≡ other = ap (head_of code) (sym d.only ∙ e.only) in
     let init : d.init ≡ e.init = same_Some d.init e.init (sym d.init_is ∙ ap (λ m. code_of (names_over_cells system m) plainly (init_of m)) same ∙ e.init_is) in
-    let next : d.next ≡ e.next = same_Some d.next e.next (sym d.next_is ∙ ap (λ m. code_of (next_names system m) (primed_behind (length (cells_of system))) (next_of m)) same ∙ e.next_is) in
+    let next : d.next ≡ e.next = same_Some d.next e.next (sym d.next_is ∙ ap (λ m. code_of (next_names system m) (primed_behind (length (cells_of system))) (next_arranged system m)) same ∙ e.next_is) in
     let formulas : d.formulas ≡ e.formulas = same_Some d.formulas e.formulas (sym d.formulas_are ∙ ap (λ m. formulas_from (names_over_cells system m) 0 m.decls) same ∙ e.formulas_are) in
     d.is ∙ (λ i. flat_with system (init i) (next i) (formulas i)) ∙ sym e.is
 

@@ -24,7 +24,7 @@ use Rattle.uc_flat_expressions.specs.declared.typed.Meant.{Meant}
 use Rattle.uc_flat_expressions.specs.Expressions.{flat_of}
 use Rattle.uc_flat_code.specs.declared.writing.Writing.{Writing}
 use Rattle.uc_flat_code.specs.Code.{code_of}
-use Rattle.uc_flat_once.specs.Once.{code_once}
+use Rattle.uc_flat_order.specs.Arranged.{code_arranged}
 use Rattle.uc_flat_names.specs.Names.{names_over_cells}
 use Rattle.uc_flat_design.specs.Sequential.{plainly}
 use Rattle.uc_flat_design.specs.Next.{primed_behind, names_between}
@@ -63,9 +63,9 @@ unfit_statement names w s = unless_there (begins_at s) (code_of names w (s ∷ [
 abbrev pub unfit_block : List Meant → Writing → List Stmt → Option Place
 unfit_block names w block = first_some (unfit_statement names w) block
 
--- the same of a next block; then the block itself, where it writes a part of a cell on a way after it was written there, or read in the new state
+-- the same of a next block; then the block itself, where it, arranged, writes a part of a cell on a way after it was written there, or read in the new state
 abbrev pub unfit_next : List Meant → Writing → Place → List Stmt → Option Place
-unfit_next names w place block = or_else (unfit_block names w block) (unless_there place (code_once names w block))
+unfit_next names w place block = or_else (unfit_block names w block) (unless_there place (code_arranged names w block))
 
 -- ---- declarations
 

@@ -3,13 +3,13 @@
 ghost use Rattle.std.specs.Prelude.{◌≡◌, ◌∷◌, [], IfOk};
 ghost use Rattle.std.specs.Option.{is_some};
 ghost use Rattle.uc_flat_code.specs.Code.{code_of};
-ghost use Rattle.uc_flat_once.specs.Once.{code_once};
+ghost use Rattle.uc_flat_order.specs.Arranged.{code_arranged};
 ghost use Rattle.uc_runnable.specs.Unfit.{begins_at, unless_there, unfit_statement, unfit_block, unfit_next};
 
 use std::alloc::{AllocError, Global};
 use uc_flat_code::{Writing, flat_code};
 use uc_flat_expressions::{FlatError, Meant};
-use uc_flat_once::code_once;
+use uc_flat_order::code_arranged;
 use uc_syntax::{Place, Stmt};
 
 /// The place where a statement begins.
@@ -52,15 +52,15 @@ fn has_code(
 
 /// Whether a next block has code over cells, and writes no part of a cell on a way after it was written there, or read in the new state.
 #[tactic(auto, using(crate::proofs::Answers::there, crate::proofs::Answers::not_there))]
-fn has_code_once(
+fn has_code_arranged(
     alloc: Global,
     names: &[Meant],
     writing: Writing,
     block: &[Stmt],
 ) -> Result<bool, AllocError>
-    ensures { IfOk result (λ b. b ≡ is_some (code_once names.now writing block.now)) }
+    ensures { IfOk result (λ b. b ≡ is_some (code_arranged names.now writing block.now)) }
 {
-    match code_once(alloc, names, writing, block) {
+    match code_arranged(alloc, names, writing, block) {
         Ok(_) => Ok(true),
         Err(FlatError::NotBuilt) => Ok(false),
         Err(FlatError::NoMemory) => Err(AllocError),
@@ -99,7 +99,7 @@ pub(crate) fn unfit_next(
     if let Some(found) = unfit_block(alloc, names, writing, block)? {
         return Ok(Some(found));
     }
-    if !has_code_once(alloc, names, writing, block)? {
+    if !has_code_arranged(alloc, names, writing, block)? {
         return Ok(Some(place));
     }
     Ok(None)

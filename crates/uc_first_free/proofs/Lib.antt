@@ -1,0 +1,5 @@
+pub mod Arranged
+mod Has
+mod Keys
+mod Open
+mod Turns

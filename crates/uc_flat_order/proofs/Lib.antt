@@ -1,0 +1,5 @@
+pub mod Pairs
+pub mod Coded
+pub mod Orders
+mod Used
+mod Along
