@@ -2,9 +2,14 @@
 #![tactic(auto)]
 
 mod entering;
+mod graph;
 mod inputs;
+mod mentioned;
+mod resolving;
 mod table;
 mod uses;
 
+pub use graph::{UseGraph, use_graph};
+pub use resolving::{Found, Resolved};
 pub use table::UseTable;
 pub use uses::{NumberedUse, Source, UseKind, UseName};
