@@ -1,5 +1,5 @@
 -- All faults of order and size of a design that keeps the static rules.
-use Rattle.std.specs.Prelude.{◌≡◌, ℕ, zero, suc, Bool, true, false, ◌||◌, ◌&&◌, if◌then◌else◌, List, [], ◌∷◌, ◌++◌, Option, Some, None}
+use Rattle.std.specs.Prelude.{◌≡◌, ℕ, zero, suc, Bool, true, false, ◌||◌, ◌&&◌, not, if◌then◌else◌, List, [], ◌∷◌, ◌++◌, Option, Some, None}
 use Rattle.std.specs.List.{flat_map, list_any}
 use Rattle.uc_lexer.specs.declared.place.Place.{Place}
 use Rattle.uc_syntax.specs.declared.declaration.Module.{Module}
@@ -13,7 +13,7 @@ use Rattle.uc_order_rules.specs.Uses.{use_cycles, has_long_chain}
 use Rattle.uc_order_rules.specs.Writes.{twice_assigned, is_empty}
 use Rattle.uc_order_rules.specs.Stepped.{stepped_twice}
 use Rattle.uc_order_rules.specs.Dependence.{cyclic_steps}
-use Rattle.uc_order_rules.specs.Sizes.{label_faults, turn_faults, has_deep_module, is_too_large}
+use Rattle.uc_order_rules.specs.Sizes.{label_faults, turn_faults, has_deep_chain, has_deep_module, has_many_instances, is_too_large}
 
 -- a module with the design of which it is the root
 abbrev pub Root : Type 0
@@ -26,21 +26,38 @@ roots_from system k (m ∷ ms) = (rooted system k, m) ∷ roots_from system (suc
 abbrev pub roots : System → List Root
 roots system = roots_from system 0 system.modules
 
+-- No chain of instances from the root down has more than 32 modules, the root counted, and no more than 65,535 instances stand below it. Only
+-- such roots are judged by the rules that follow uses from instance to instance. A root in use that passes one of these limits makes main pass
+-- it too; of one that isn't in use nothing is ever made.
+abbrev pub is_judged : Root → Bool
+is_judged r = not (has_deep_chain r.0 r.1 || has_many_instances r.0)
+
 -- cycles of uses and calls
+abbrev pub cycles_in : Root → List Fault
+cycles_in r = if is_judged r then use_cycles r.0 else []
+
 abbrev pub cycles : System → List Fault
-cycles system = flat_map (λ r. use_cycles r.0) (roots system)
+cycles system = flat_map cycles_in (roots system)
 
 -- enums and loops that are too large themselves
 abbrev pub size_faults : System → List Fault
 size_faults system = flat_map (λ m. label_faults m ++ turn_faults m) system.modules
 
+-- cells that depend on themselves
+abbrev pub dependence_in : Root → List Fault
+dependence_in r = if is_judged r then cyclic_steps r.0 else []
+
 -- what is written or stepped twice, and cells that depend on themselves
 abbrev pub step_faults : Root → List Fault
-step_faults r = twice_assigned r.0 r.1 ++ (stepped_twice r.1 ++ cyclic_steps r.0)
+step_faults r = twice_assigned r.0 r.1 ++ (stepped_twice r.1 ++ dependence_in r)
+
+-- a chain of uses and calls that is too long
+abbrev pub has_long_uses : Root → Bool
+has_long_uses r = is_judged r && has_long_chain r.0
 
 -- some chain is too long, or what main expands to is too large
 abbrev pub passes_limit : System → Bool
-passes_limit system = has_deep_module system || (list_any (λ r. has_long_chain r.0) (roots system) || is_too_large system)
+passes_limit system = has_deep_module system || (list_any has_long_uses (roots system) || is_too_large system)
 
 -- The limits on the whole rest on cycles, enums and loops: they are judged where none of these is at fault. The place is that of main.
 abbrev pub whole_faults : System → List Fault

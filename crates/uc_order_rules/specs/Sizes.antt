@@ -230,15 +230,22 @@ expansion system =
 
 -- The limits.
 
--- a chain of instances has more than 32 modules
-abbrev pub has_deep_module : System → Bool
-has_deep_module system = list_any (λ m. has_way longest_chain (instance_steps system) m.name) system.modules
+-- a chain of instances from a module down has more than 32 modules
+abbrev pub has_deep_chain : System → Module → Bool
+has_deep_chain system m = has_way longest_chain (instance_steps system) m.name
 
--- main is too large: its statements, expression nodes, cells or instances, itself not counted
+abbrev pub has_deep_module : System → Bool
+has_deep_module system = list_any (has_deep_chain system) system.modules
+
+-- the root has too many instances, itself not counted
+abbrev pub has_many_instances : System → Bool
+has_many_instances system = nat_lt (suc most_instances) (length (instances_in system))
+
+-- main is too large: its statements, expression nodes, cells or instances
 abbrev pub is_too_large : System → Bool
 is_too_large system =
     (nat_lt most_statements (expansion system).statements || nat_lt most_nodes (expansion system).nodes)
-    || (nat_lt most_cells (length (cells_of system)) || nat_lt (suc most_instances) (length (instances_in system)))
+    || (nat_lt most_cells (length (cells_of system)) || has_many_instances system)
 
 -- an enum with too many labels, at its word
 abbrev pub label_faults : Module → List Fault
