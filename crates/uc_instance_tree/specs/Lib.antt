@@ -1,0 +1,4 @@
+pub mod Modules
+pub mod Trees
+pub mod Growing
+pub mod PathLaw
