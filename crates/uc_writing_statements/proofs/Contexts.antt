@@ -5,12 +5,12 @@ use Rattle.uc_writing_statements.specs.declared.acts.Context.{Context}
 use Rattle.uc_writing_statements.specs.declared.acts.Act.{Act}
 use Rattle.uc_writing_statements.specs.Acts.{ActsFit, ContextsFit, Setting, act_around, around_of, arounds, cells_of_primed}
 
-at_left : {A : Type 0} (xs ys : List A) (d : A) (k : ℕ) → k < length xs → slice_index_or (xs ++ ys) k d ≡ slice_index_or xs k d
+pub at_left : {A : Type 0} (xs ys : List A) (d : A) (k : ℕ) → k < length xs → slice_index_or (xs ++ ys) k d ≡ slice_index_or xs k d
 at_left [] ys d k h = absurd (omega (arith, h))
 at_left (x ∷ xs) ys d zero h = refl
 at_left (x ∷ xs) ys d (suc k) h = at_left xs ys d k (omega (arith, h))
 
-at_end : {A : Type 0} (xs : List A) (y d : A) (k : ℕ) → k ≡ length xs → slice_index_or (xs ++ y ∷ []) k d ≡ y
+pub at_end : {A : Type 0} (xs : List A) (y d : A) (k : ℕ) → k ≡ length xs → slice_index_or (xs ++ y ∷ []) k d ≡ y
 at_end [] y d zero h = refl
 at_end [] y d (suc k) h = absurd (omega (arith, h))
 at_end (x ∷ xs) y d zero h = absurd (omega (arith, h))
