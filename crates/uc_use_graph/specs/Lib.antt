@@ -1,0 +1,5 @@
+pub mod Inputs
+pub mod Sources
+pub mod Tables
+pub mod Entering
+pub mod Resolving
