@@ -12,7 +12,7 @@ use Rattle.uc_syntax.specs.declared.statement.Stmt.TheOpen.Stmt-F.{Block, Havoc,
 use Rattle.uc_syntax.specs.declared.statement.Stmt.TheFolds.{fold-Stmt}
 use Rattle.uc_syntax.specs.declared.declaration.Module.{Module}
 use Rattle.uc_meaning.specs.Lookup.{System, module_at, next_of}
-use Rattle.uc_meaning.specs.Cells.{cells_of}
+use Rattle.uc_meaning.specs.Cells.{cells_of, longest_chain}
 use Rattle.uc_meaning.specs.Code.{turns}
 use Rattle.uc_meaning.specs.Steps.{CellPart, main_next}
 use Rattle.uc_rules.specs.declared.fault.Fault.{Fault}
@@ -85,9 +85,10 @@ unfoldable pub writing_through : ℕ → System → Blocks
 writing_through zero system path code around = []
 writing_through (suc n) system path code around = writing_by system (writing_through n system) path code around
 
--- all statements of the root's next block, and of the blocks that it steps, that may write cells
+-- All statements of the root's next block, and of the blocks that it steps, that may write cells. Below a root that is judged no chain of
+-- instances is longer.
 unfoldable pub writings : System → List Writing
-writings system = writing_through (suc (length system.modules)) system [] (main_next system) []
+writings system = writing_through longest_chain system [] (main_next system) []
 
 abbrev pub read_by : ℕ → Writing → List ℕ
 read_by k w = if list_any (nat_eq k) w.written then w.reads else []

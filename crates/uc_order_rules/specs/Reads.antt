@@ -42,9 +42,9 @@ reads_through (suc n) system path e = flat_map (mention_reads system (reads_thro
 abbrev pub cells_read : System → Elsewhere
 cells_read system = reads_through (suc (length (all_uses system))) system
 
--- A primed name is read in the new state; where it is a bound input, all that is bound to it.
+-- A primed name is one of the module itself, and is read in the new state; where it is a bound input, all that is bound to it.
 abbrev pub primed_reads : System → List ℕ → Mention → List ℕ
-primed_reads system path (Reads x true ys) = name_reads system (cells_read system) (led system path x ys)
+primed_reads system path (Reads x true ys) = name_reads system (cells_read system) (name_at path x)
 primed_reads system path other = []
 
 -- the cells that an expression reads primed

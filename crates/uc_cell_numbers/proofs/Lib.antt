@@ -1,0 +1,4 @@
+pub mod Positions
+pub mod Placed
+pub mod Followed
+pub mod Numbered

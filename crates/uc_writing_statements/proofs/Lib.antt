@@ -1,0 +1,5 @@
+pub mod Named
+pub mod Contexts
+pub mod Forms
+pub mod Adding
+pub mod Doing
