@@ -47,9 +47,13 @@ size_faults system = flat_map (λ m. label_faults m ++ turn_faults m) system.mod
 abbrev pub dependence_in : Root → List Fault
 dependence_in r = if is_judged r then cyclic_steps r.0 else []
 
--- what is written or stepped twice, and cells that depend on themselves
-abbrev pub step_faults : Root → List Fault
-step_faults r = twice_assigned r.0 r.1 ++ (stepped_twice r.1 ++ dependence_in r)
+-- What a module writes or steps twice. No path of instances is followed there, so it is the same for every root.
+abbrev pub twice_faults : System → Module → List Fault
+twice_faults system m = twice_assigned system m ++ stepped_twice m
+
+-- all faults of steps
+abbrev pub step_faults : System → List Fault
+step_faults system = flat_map (twice_faults system) system.modules ++ flat_map dependence_in (roots system)
 
 -- a chain of uses and calls that is too long
 abbrev pub has_long_uses : Root → Bool
@@ -68,7 +72,7 @@ whole_faults system =
 
 -- All faults, in no order.
 unfoldable pub order_faults : System → List Fault
-order_faults system = cycles system ++ (flat_map step_faults (roots system) ++ (size_faults system ++ whole_faults system))
+order_faults system = cycles system ++ (step_faults system ++ (size_faults system ++ whole_faults system))
 
 -- No rule is broken.
 abbrev pub KeepsOrder : System → Type 0
