@@ -15,9 +15,9 @@ use Rattle.uc_way_laws.proofs.Following.{followed}
 use Rattle.uc_order_rules.specs.Roots.{NameAt, name_at, led, rooted, is_bound_input}
 use Rattle.uc_order_rules.specs.Mentions.{Mention, Reads, Applies, ReadsOld, mentions, expressions_in, calls_in}
 use Rattle.uc_order_rules.specs.Uses.{Used, UsedDefine, UsedProcedure, UsedInput, name_uses, define_uses, mention_uses, expression_uses, clause_expressions, procedure_uses, body_uses, binding_uses, uses_of, same_use, all_uses}
-use Rattle.uc_use_laws.specs.Ways.{Leads}
-use Rattle.uc_use_laws.proofs.Ways.{Way, leads_by}
-use Rattle.uc_use_laws.proofs.Names.{goes, use_is, use_same}
+use Rattle.uc_use_bounds.specs.Ways.{Leads}
+use Rattle.uc_use_bounds.proofs.Ways.{Way, leads_by}
+use Rattle.uc_use_bounds.proofs.Names.{goes, use_is, use_same}
 use Rattle.uc_use_bounds.specs.BoundLaw.{InstancesEnd, UsesAreFollowed, is_counted}
 use Rattle.uc_use_bounds.proofs.Listed.{nodes, define_listed, procedure_listed, input_listed}
 

@@ -17,7 +17,7 @@ use Rattle.uc_way_laws.specs.AliasLaw.{IsAmong}
 use Rattle.uc_way_laws.proofs.Among.{among_flat, find_among}
 use Rattle.uc_order_rules.specs.Roots.{NameAt, rooted, name_at, is_input, is_bound_input}
 use Rattle.uc_order_rules.specs.Uses.{Used, UsedDefine, UsedProcedure, UsedInput, UsePlace, binding_places, uses_in, all_uses}
-use Rattle.uc_use_laws.proofs.Moving.{is_as_list, listed}
+use Rattle.uc_use_bounds.proofs.Instances.{is_as_list, listed}
 use Rattle.uc_use_bounds.specs.BoundLaw.{InstancesEnd}
 use Rattle.uc_use_bounds.proofs.Ranks.{depth, equal, first, instance_is, rank, rank_most}
 

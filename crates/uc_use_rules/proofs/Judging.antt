@@ -21,7 +21,7 @@ use Rattle.uc_way_laws.proofs.Along.{any_by, any_there}
 use Rattle.uc_way_laws.proofs.Among.{among_back, among_flat, among_left, among_right, find_among}
 use Rattle.uc_order_rules.specs.Roots.{name_at, rooted, is_bound_input, instances_in}
 use Rattle.uc_order_rules.specs.Uses.{Used, UsedDefine, UsedProcedure, UsedInput, UsePlace, all_uses, binding_places, has_long_chain, has_way, on_use_cycle, same_use, use_cycles, uses_in, uses_of}
-use Rattle.uc_use_laws.proofs.Moving.{as_list_is, get_among, is_as_list}
+use Rattle.uc_use_bounds.proofs.Instances.{as_list_is, get_among, is_as_list}
 use Rattle.uc_use_bounds.specs.BoundLaw.{InstancesEnd, is_counted}
 use Rattle.uc_use_bounds.proofs.Followed.{covered, map_back, uses_followed}
 use Rattle.uc_use_bounds.proofs.Listed.{located}

@@ -5,8 +5,8 @@ use Rattle.uc_meaning.specs.Lookup.{System}
 use Rattle.uc_meaning.specs.Cells.{same_path}
 use Rattle.uc_order_rules.specs.Roots.{NameAt, name_at}
 use Rattle.uc_order_rules.specs.Uses.{Used, UsedDefine, UsedProcedure, UsedInput, same_name_at, same_use, uses_of}
-use Rattle.uc_use_laws.specs.Ways.{Leads}
-use Rattle.uc_use_laws.proofs.Ways.{Goes, goes_by, leads_by}
+use Rattle.uc_use_bounds.specs.Ways.{Leads}
+use Rattle.uc_use_bounds.proofs.Ways.{Goes, goes_by, leads_by}
 
 nothing : {A : Type 0} → false ≡ true → A
 nothing h = cc
