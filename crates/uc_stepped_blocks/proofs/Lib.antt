@@ -1,0 +1,3 @@
+pub mod Stepped
+pub mod Tabled
+pub mod Followed
