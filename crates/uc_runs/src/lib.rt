@@ -9,3 +9,4 @@ mod running;
 mod turns;
 
 pub use entry::{code_end, run_code};
+pub use running::{run_call, run_each};

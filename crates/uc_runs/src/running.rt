@@ -24,7 +24,7 @@ use uc_values::{Ty, Value};
 
 /// Code, where procedures call each other through at most so many further calls.
 #[cycle(run)]
-pub(crate) fn run_each(
+pub fn run_each(
     alloc: Global,
     layout: &Layout,
     below: u32,
@@ -208,7 +208,7 @@ fn run_turn(
 
 /// A call. A procedure that is not there stops the code.
 #[cycle(run)]
-fn run_call(
+pub fn run_call(
     alloc: Global,
     layout: &Layout,
     below: u32,
