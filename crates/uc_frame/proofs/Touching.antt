@@ -214,6 +214,11 @@ module _ (kind : VariableKind) (t : Ty) (k : ℕ) (written : List CellPart) (v w
   pub from_cell : is_input kind ≡ false → (ws : List (List ℕ)) → ws ≡ written_in k written → Keeps (cell_like kind t) k written v w → KeepsParts t v w ws
   from_cell other ws is keeps = record { kept = λ fields there none. keeps.kept fields there other (written_touches written k fields ∙ ap (λ xs. touches xs fields) (sym is) ∙ none) }
 
-  pub as_cell : {E : Type 0} → is_input kind ≡ false → (ws : List (List ℕ)) → ws ≡ written_in k written → (result : Result Bool E) → IfOk result (λ b. IsTrue b ↔ KeepsParts t v w ws) → IfOk result (λ b. IsTrue b ↔ Keeps (cell_like kind t) k written v w)
-  as_cell other ws is (Err e) asked = tt
-  as_cell other ws is (Ok b) asked = (λ held. to_cell ws is (asked.0 held), λ keeps. asked.1 (from_cell other ws is keeps))
+  pub as_cell : (b : Bool) → is_input kind ≡ false → (ws : List (List ℕ)) → ws ≡ written_in k written → (IsTrue b ↔ KeepsParts t v w ws) → (IsTrue b ↔ Keeps (cell_like kind t) k written v w)
+  as_cell b other ws is asked = (λ held. to_cell ws is (asked.0 held), λ keeps. asked.1 (from_cell other ws is keeps))
+
+-- an answer over the parts is one of the cell
+pub cell_answer : {E : Type 0} (kind : VariableKind) (t : Ty) (v w : Value) (ws : List (List ℕ)) → is_input kind ≡ false → (result : Result Bool E) → IfOk result (λ b. IsTrue b ↔ KeepsParts t v w ws) →
+    IfOk result (λ b. (k : ℕ) (written : List CellPart) → ws ≡ written_in k written → (IsTrue b ↔ Keeps (cell_like kind t) k written v w))
+cell_answer kind t v w ws other (Err e) asked = tt
+cell_answer kind t v w ws other (Ok b) asked = λ k written is. as_cell kind t k written v w b other ws is asked

@@ -7,6 +7,8 @@
 mod cell;
 mod part;
 mod parts;
+mod sorted;
 
 pub use cell::keeps_cell;
 pub use part::Part;
+pub use sorted::by_cell;
