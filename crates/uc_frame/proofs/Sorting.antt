@@ -19,7 +19,7 @@ empty_more [] v none before (suc k) = refl
 empty_more (x ∷ cells) v none before zero = before 0
 empty_more (x ∷ cells) v none before (suc k) = empty_more cells v none (λ j. before (suc j)) k
 
-list_is : (cells : Lists) (k : ℕ) (d : Vec (Bor (List ℕ))) → k < length cells → list_at cells k ≡ (get_or cells k d).items
+pub list_is : (cells : Lists) (k : ℕ) (d : Vec (Bor (List ℕ))) → k < length cells → list_at cells k ≡ (get_or cells k d).items
 list_is cells k d within = ap listed (slice_get-get_or cells k d within)
 
 -- the list at a place with one more, and the others

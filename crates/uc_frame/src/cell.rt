@@ -11,7 +11,7 @@ use uc_values::{Ty, Value};
 
 /// Whether a cell of a kind and a type keeps what is not written, by the fields that lead to its written parts: each part of it that neither
 /// lies in a written part nor contains one. An input of main keeps nothing.
-pub fn keeps_cell(
+pub(crate) fn keeps_cell(
     alloc: Global,
     kind: VariableKind,
     ty: &Ty,

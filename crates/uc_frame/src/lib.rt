@@ -5,10 +5,10 @@
 #![tactic(auto)]
 
 mod cell;
+mod cells;
 mod part;
 mod parts;
 mod sorted;
 
-pub use cell::keeps_cell;
+pub use cells::all_keep;
 pub use part::Part;
-pub use sorted::by_cell;

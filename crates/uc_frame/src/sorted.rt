@@ -8,12 +8,13 @@ use crate::part::Part;
 use std::alloc::{AllocError, Global};
 
 /// For each of so many cells, the fields that lead to its written parts.
-pub fn by_cell(
+pub(crate) fn by_cell(
     alloc: Global,
     count: usize,
     written: &[Part],
 ) -> Result<Vec<Vec<&[u32]>>, AllocError>
-    ensures { IfOk result (λ cells. (k : ℕ) → k < count → lent (list_at cells.items k) ≡ written_in k (map cell_part written.now)) }
+    ensures count { IfOk result (λ cells. length cells.items ≡ count) }
+    ensures sorted { IfOk result (λ cells. (k : ℕ) → k < count → lent (list_at cells.items k) ≡ written_in k (map cell_part written.now)) }
 {
     let mut cells = empty(alloc, count)?;
     for part in written {

@@ -12,7 +12,7 @@ keeps_fields-loop-field-preserved t c =
     record {
       missing = c.loop-field.invariant.missing;
       keeps = fields_more c.args.fields.now (KeepsField c.args.fields.now c.args.old.now c.args.new.now (lent c.args.written.now)) c.loop-field.field-index c.field-item.result c.loop-field-test.true c.field-item.is c.loop-field.invariant.keeps
-          (to_field c.args.fields.now c.args.old.now c.args.new.now (lent c.args.written.now) c.field-item.result.name c.field_number-place.result c.field_number-place.ensures.is (get_or c.args.fields.now c.field_number-place.result c.index-fields-place.result) within (ap (get_or c.args.fields.now c.field_number-place.result) item) c.loop-field.missing-1 c.loop-field.invariant.missing
+          (to_field c.args.fields.now c.args.old.now c.args.new.now (lent c.args.written.now) c.field-item.result.name c.field_number-place.result c.field_number-place.ensures.is (get_or c.args.fields.now c.field_number-place.result c.index-fields-place.result) within (ap (get_or c.args.fields.now c.field_number-place.result) item) _ c.loop-field.invariant.missing
           _ _ c.part_or.ensures c.part_or-in-loop-field.ensures (lent c.as_slice.result.now) (ap lent c.as_slice.ensures ∙ c.in_ok-inside.ensures) (c.in_ok-keeps.ensures.0 held));
     }
 
