@@ -36,7 +36,7 @@ module _ {A B : Type 0} (w : B → ℕ) (v : A → ℕ) (f : A → Option B) whe
   weight_first each [] = omega arith
   weight_first each (x ∷ xs) = or_weight (f x) (first_some f xs) (v x) (total (map v xs)) (each x) (weight_first each xs)
 
-  weight_below : (most : ℕ) (each : (a : A) → v a ≤ most → weight w (f a) ≤ most) (o : Option A) → weight v o ≤ most → weight w (option_and_then f o) ≤ most
+  pub weight_below : (most : ℕ) (each : (a : A) → v a ≤ most → weight w (f a) ≤ most) (o : Option A) → weight v o ≤ most → weight w (option_and_then f o) ≤ most
   weight_below most each None within = omega arith
   weight_below most each (Some a) within = each a within
 
@@ -44,12 +44,12 @@ picked_weight : {A : Type 0} (w : A → ℕ) (b : Bool) (x : A) (rest : Option A
 picked_weight w true x rest n within = omega arith
 picked_weight w false x rest n within = omega (arith, within)
 
-weight_found : {A : Type 0} (w : A → ℕ) (p : A → Bool) (xs : List A) → weight w (find p xs) ≤ total (map w xs)
+pub weight_found : {A : Type 0} (w : A → ℕ) (p : A → Bool) (xs : List A) → weight w (find p xs) ≤ total (map w xs)
 unfolding total
 weight_found w p [] = omega arith
 weight_found w p (x ∷ xs) = picked_weight w (p x) x (find p xs) (total (map w xs)) (weight_found w p xs)
 
-weight_got : {A : Type 0} (w : A → ℕ) (xs : List A) (k : ℕ) → weight w (slice_get xs k) ≤ total (map w xs)
+pub weight_got : {A : Type 0} (w : A → ℕ) (xs : List A) (k : ℕ) → weight w (slice_get xs k) ≤ total (map w xs)
 unfolding total
 weight_got w [] k = omega arith
 weight_got w (x ∷ xs) zero = omega arith

@@ -10,3 +10,4 @@ mod turns;
 
 pub use entry::{code_end, run_code};
 pub use running::{run_call, run_each};
+pub use turns::{Turns, turn_local, turns_between};

@@ -12,12 +12,13 @@ use uc_values::{Ty, Value, copy, copy_ty};
 
 /// The type of a loop's variable, and the values that it takes, in order.
 #[derive(Drop)]
-pub(crate) struct Turns {
+pub struct Turns {
     pub ty: Ty,
     pub values: Items<Value>,
 }
 
-pub(crate) fn turns_between(
+/// The turns of a loop by its bounds. Numbers past the ranges of the types are want of memory.
+pub fn turns_between(
     alloc: Global,
     from: RangeBound,
     to: RangeBound,
@@ -34,7 +35,7 @@ pub(crate) fn turns_between(
 }
 
 /// The variable of a loop in a turn.
-pub(crate) fn turn_local(
+pub fn turn_local(
     alloc: Global,
     name: u32,
     ty: &Ty,

@@ -1,0 +1,4 @@
+pub mod Growing
+pub mod Parts
+pub mod Targets
+pub mod Leaving

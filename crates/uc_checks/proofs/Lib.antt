@@ -1,0 +1,6 @@
+pub mod Rounds
+pub mod Forms
+pub mod Statements
+pub mod Blocks
+pub mod Scopes
+pub mod Answers
