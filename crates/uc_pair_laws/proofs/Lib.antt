@@ -1,1 +1,3 @@
 pub mod Paired
+pub mod Behind
+pub mod Chosen

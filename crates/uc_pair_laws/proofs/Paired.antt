@@ -6,7 +6,7 @@ use Rattle.std.proofs.lemmas.List.Folds.{list_any-append}
 use Rattle.uc_rules.specs.declared.fault.Fault.{Fault}
 use Rattle.uc_order_rules.specs.Paths.{Stretch, nothing, in_turn, one_of, times}
 use Rattle.uc_order_rules.specs.Writes.{is_empty}
-use Rattle.uc_pair_laws.specs.Pairs.{Meeting, Only, Paired, any_met, any_pair, cross}
+use Rattle.uc_pair_laws.specs.Pairs.{Meeting, Only, Paired, SameThings, any_met, any_pair, cross}
 
 or_assoc : (a b c : Bool) → ((a || b) || c) ≡ (a || (b || c))
 or_assoc true b c = refl
@@ -38,7 +38,7 @@ any_mapped : {A B : Type 0} (f : A → B) (p : B → Bool) (xs : List A) → lis
 any_mapped f p [] = refl
 any_mapped f p (x ∷ xs) = ap (λ b. p (f x) || b) (any_mapped f p xs)
 
-has_both : (fs gs : List Fault) → not (is_empty (fs ++ gs)) ≡ (not (is_empty fs) || not (is_empty gs))
+pub has_both : (fs gs : List Fault) → not (is_empty (fs ++ gs)) ≡ (not (is_empty fs) || not (is_empty gs))
 has_both [] gs = refl
 has_both (f ∷ fs) gs = refl
 
@@ -57,10 +57,10 @@ module _ {A : Type 0} where
   met_later meets before a b = list_any-append (λ x. list_any (λ q. meets q x) before) a b
 
   -- the same of lists with the same things
-  met_same : (keep : A → Bool) (meets : Meeting A) (a b later : List A) → Only keep meets → ((test : A → Bool) → ((x : A) → test x ≡ true → keep x ≡ true) → list_any test a ≡ list_any test b) → any_met meets a later ≡ any_met meets b later
-  met_same keep meets a b later only same = any_as (λ x. list_any (λ q. meets q x) a) (λ x. list_any (λ q. meets q x) b) later (λ x. same (λ q. meets q x) (λ q h. (only q x h).0))
+  met_same : (meets : Meeting A) (a b later : List A) → SameThings a b → any_met meets a later ≡ any_met meets b later
+  met_same meets a b later same = any_as (λ x. list_any (λ q. meets q x) a) (λ x. list_any (λ q. meets q x) b) later (λ x. same (λ q. meets q x))
 
-  met_none : (meets : Meeting A) (later : List A) → any_met meets [] later ≡ false
+  pub met_none : (meets : Meeting A) (later : List A) → any_met meets [] later ≡ false
   met_none meets later = any_false later
 
   met_one : (meets : Meeting A) (u : A) (as' later : List A) → any_met meets (u ∷ as') later ≡ (list_any (λ x. meets u x) later || any_met meets as' later)
@@ -78,21 +78,21 @@ module _ {A : Type 0} where
 
 module _ {A : Type 0} (keep : A → Bool) where
   pub paired_nothing : Paired A keep (λ meets before. nothing) [] []
-  paired_nothing = record { same = λ meets before test within. refl; fails = λ meets before only. refl }
+  paired_nothing = record { same = λ meets before test. refl; fails = λ meets before only. refl }
 
   -- one stretch before others
   pub paired_then : (s : Judged A) (rest : Meeting A → List (Stretch A)) (h k : List A) (ps qs : List (A × A)) → Paired A keep s h ps → Paired A keep (λ meets. in_turn (rest meets)) k qs →
       Paired A keep (λ meets. in_turn (s meets ∷ rest meets)) (h ++ k) (ps ++ (qs ++ cross h k))
   unfolding in_turn
   paired_then s rest h k ps qs a b = record {
-    same = λ meets before test within.
+    same = λ meets before test.
         list_any-append test (s meets before).happens (in_turn (rest meets) (before ++ (s meets before).happens)).happens
-        ∙ (λ j. a.same meets before test within j || b.same meets (before ++ (s meets before).happens) test within j)
+        ∙ (λ j. a.same meets before test j || b.same meets (before ++ (s meets before).happens) test j)
         ∙ sym (list_any-append test h k);
     fails = λ meets before only.
         let now = (s meets before).happens in
         has_both (s meets before).faults (in_turn (rest meets) (before ++ now)).faults
-        ∙ (λ j. a.fails meets before only j || (b.fails meets (before ++ now) only ∙ ap (λ c. c || any_pair meets qs) (met_both meets before now k ∙ ap (λ c. any_met meets before k || c) (met_same keep meets now h k only (a.same meets before)))) j)
+        ∙ (λ j. a.fails meets before only j || (b.fails meets (before ++ now) only ∙ ap (λ c. c || any_pair meets qs) (met_both meets before now k ∙ ap (λ c. any_met meets before k || c) (met_same meets now h k (a.same meets before)))) j)
         ∙ sorted (any_met meets before h) (any_pair meets ps) (any_met meets before k) (any_met meets h k) (any_pair meets qs)
         ∙ sym (λ j. met_later meets before h k j || (pair_both meets ps (qs ++ cross h k) ∙ ap (λ c. any_pair meets ps || c) (pair_both meets qs (cross h k) ∙ ap (λ c. any_pair meets qs || c) (any_cross meets h k))) j);
   }
@@ -108,16 +108,16 @@ module _ {A : Type 0} (keep : A → Bool) where
 
   pub paired_end : Paired A keep (λ meets. in_turn []) [] []
   unfolding in_turn
-  paired_end = record { same = λ meets before test within. refl; fails = λ meets before only. refl }
+  paired_end = record { same = λ meets before test. refl; fails = λ meets before only. refl }
 
   -- one of several
   pub paired_either : (s : Judged A) (rest : Meeting A → List (Stretch A)) (h k : List A) (ps qs : List (A × A)) → Paired A keep s h ps → Paired A keep (λ meets. one_of (rest meets)) k qs →
       Paired A keep (λ meets. one_of (s meets ∷ rest meets)) (h ++ k) (ps ++ qs)
   unfolding one_of
   paired_either s rest h k ps qs a b = record {
-    same = λ meets before test within.
+    same = λ meets before test.
         list_any-append test (s meets before).happens (one_of (rest meets) before).happens
-        ∙ (λ j. a.same meets before test within j || b.same meets before test within j)
+        ∙ (λ j. a.same meets before test j || b.same meets before test j)
         ∙ sym (list_any-append test h k);
     fails = λ meets before only.
         has_both (s meets before).faults (one_of (rest meets) before).faults
@@ -134,37 +134,23 @@ module _ {A : Type 0} (keep : A → Bool) where
 
   pub paired_none : Paired A keep (λ meets. one_of []) [] []
   unfolding one_of
-  paired_none = record { same = λ meets before test within. refl; fails = λ meets before only. refl }
+  paired_none = record { same = λ meets before test. refl; fails = λ meets before only. refl }
 
   -- the same things and pairs by other lists
-  pub paired_as : (s : Judged A) (h k : List A) (ps qs : List (A × A)) → ((test : A → Bool) → ((x : A) → test x ≡ true → keep x ≡ true) → list_any test h ≡ list_any test k) → ((meets : Meeting A) → Only keep meets → any_pair meets ps ≡ any_pair meets qs) →
-      Paired A keep s h ps → Paired A keep s k qs
+  pub paired_as : (s : Judged A) (h k : List A) (ps qs : List (A × A)) → SameThings h k → ((meets : Meeting A) → Only keep meets → any_pair meets ps ≡ any_pair meets qs) → Paired A keep s h ps → Paired A keep s k qs
   paired_as s h k ps qs same pairs a = record {
-    same = λ meets before test within. a.same meets before test within ∙ same test within;
-    fails = λ meets before only.
-        a.fails meets before only
-        ∙ (λ j. any_tests (λ x. list_any (λ q. meets q x) before) (λ x t. some_keeps meets only x before t) j || pairs meets only j);
+    same = λ meets before test. a.same meets before test ∙ same test;
+    fails = λ meets before only. a.fails meets before only ∙ (λ j. same (λ x. list_any (λ q. meets q x) before) j || pairs meets only j);
   }
-    where
-      any_tests : (test : A → Bool) → ((x : A) → test x ≡ true → keep x ≡ true) → list_any test h ≡ list_any test k
-      any_tests test within = same test within
-
-      some_keeps : (meets : Meeting A) → Only keep meets → (x : A) (before : List A) → list_any (λ q. meets q x) before ≡ true → keep x ≡ true
-      some_keeps meets only x [] t = absurd cc
-      some_keeps meets only x (q ∷ before) t = one (meets q x) refl t (some_keeps meets only x before)
-        where
-          one : (b : Bool) → meets q x ≡ b → (b || list_any (λ r. meets r x) before) ≡ true → (list_any (λ r. meets r x) before ≡ true → keep x ≡ true) → keep x ≡ true
-          one true e i rest = (only q x e).1
-          one false e i rest = rest i
 
   -- the turns of a loop
   module _ (s : Judged A) (h : List A) (ps : List (A × A)) (a : Paired A keep s h ps) where
-    later_same : (n : ℕ) (meets : Meeting A) (before : List A) (test : A → Bool) → ((x : A) → test x ≡ true → keep x ≡ true) → list_any test (in_turn (times (suc n) (s meets)) before).happens ≡ list_any test h
+    later_same : (n : ℕ) (meets : Meeting A) (before : List A) (test : A → Bool) → list_any test (in_turn (times (suc n) (s meets)) before).happens ≡ list_any test h
     unfolding in_turn times
-    later_same zero meets before test within = list_any-append test (s meets before).happens [] ∙ or_false (list_any test (s meets before).happens) ∙ a.same meets before test within
-    later_same (suc n) meets before test within =
+    later_same zero meets before test = list_any-append test (s meets before).happens [] ∙ or_false (list_any test (s meets before).happens) ∙ a.same meets before test
+    later_same (suc n) meets before test =
         list_any-append test (s meets before).happens (in_turn (times (suc n) (s meets)) (before ++ (s meets before).happens)).happens
-        ∙ (λ j. a.same meets before test within j || later_same n meets (before ++ (s meets before).happens) test within j)
+        ∙ (λ j. a.same meets before test j || later_same n meets (before ++ (s meets before).happens) test j)
         ∙ twice (list_any test h)
       where
         twice : (b : Bool) → (b || b) ≡ b
@@ -183,7 +169,7 @@ module _ {A : Type 0} (keep : A → Bool) where
         later ≡ (any_met meets (before ++ (s meets before).happens) h || (any_pair meets ps || rest)) → (rest ≡ false) ⊎ (rest ≡ any_met meets h h) →
         (not (is_empty (s meets before).faults) || later) ≡ often meets before
     next_fails meets before only rest later is small =
-        (λ j. a.fails meets before only j || (is ∙ ap (λ c. c || (any_pair meets ps || rest)) (met_both meets before (s meets before).happens h ∙ ap (λ c. any_met meets before h || c) (met_same keep meets (s meets before).happens h h only (a.same meets before)))) j)
+        (λ j. a.fails meets before only j || (is ∙ ap (λ c. c || (any_pair meets ps || rest)) (met_both meets before (s meets before).happens h ∙ ap (λ c. any_met meets before h || c) (met_same meets (s meets before).happens h h (a.same meets before)))) j)
         ∙ elim small [ inl none ↦ ap (λ r. (any_met meets before h || any_pair meets ps) || ((any_met meets before h || any_met meets h h) || (any_pair meets ps || r))) none ∙ sorted (any_met meets before h) (any_pair meets ps) (any_met meets h h) false (or_false (any_met meets h h)) | inr some ↦ ap (λ r. (any_met meets before h || any_pair meets ps) || ((any_met meets before h || any_met meets h h) || (any_pair meets ps || r))) some ∙ sorted (any_met meets before h) (any_pair meets ps) (any_met meets h h) (any_met meets h h) (twice (any_met meets h h)) ]
       where
         twice : (b : Bool) → (b || b) ≡ b
@@ -209,7 +195,7 @@ module _ {A : Type 0} (keep : A → Bool) where
 
     pub paired_never : Paired A keep (λ meets. in_turn (times zero (s meets))) [] []
     unfolding in_turn times
-    paired_never = record { same = λ meets before test within. refl; fails = λ meets before only. refl }
+    paired_never = record { same = λ meets before test. refl; fails = λ meets before only. refl }
 
     pub paired_once : Paired A keep (λ meets. in_turn (times (suc zero) (s meets))) h ps
     paired_once = record { same = later_same zero; fails = once_fails }

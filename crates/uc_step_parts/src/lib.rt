@@ -2,7 +2,9 @@
 #![tactic(auto)]
 
 mod outer;
+mod overlap;
 mod parts;
 
-pub use outer::OuterNames;
-pub use parts::stepped_parts;
+pub use outer::{OuterNames, name_in};
+pub use overlap::overlaps;
+pub use parts::{outer_part, stepped_parts};

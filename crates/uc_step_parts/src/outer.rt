@@ -40,7 +40,7 @@ impl OuterNames {
 }
 
 /// The name that an expression begins with, if it is a name and what is selected of it.
-fn name_in(expression: &Expr) -> Option<u32>
+pub fn name_in(expression: &Expr) -> Option<u32>
     ensures { result ≡ name_form (out-Expr expression.now) }
 {
     match expression {

@@ -76,7 +76,8 @@ fn add_outer(
     }
 }
 
-fn outer_part(
+/// A part of the instance's module as one of the parent's, where it is one.
+pub fn outer_part(
     alloc: Global,
     outer: &OuterNames,
     part: &[u32],

@@ -327,9 +327,3 @@ module _ (effects : Effects) (modified : ℕ → List ℕ) (steps : ℕ → Step
     all_faults =
         went.faults ∙ ap (λ n. first_of old (walk_block (modified_by effects) (step_by effects) block false n).faults) empty
         ∙ sym (same_first old (in_turn (map stretch_of block) []).faults (walk_block (modified_by effects) (step_by effects) block false []).faults ((block_finds block).plain [] [] (λ x. refl)))
-
-    pub all_parts : OverlapAlike now (written_by modified steps overlap block []).happens
-    unfolding written_by
-    all_parts p =
-        ap (λ ps. met overlap ps p) (went.seen ∙ ap (λ n. (walk_block (modified_by effects) (step_by effects) block false n).seen) empty ∙ (block_finds block).adds false [])
-        ∙ (block_finds block).same p

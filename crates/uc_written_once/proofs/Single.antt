@@ -36,19 +36,19 @@ pub clause_went : (place : Place) (names : List Identifier) (clause : Clause) (a
 clause_went place names clause again seen old now first same went =
     went_as _ _ old now first (ap (λ ws. walk_each ws again seen) (twice_mapped (λ (i : Identifier). i.name) (one_name place) names ∙ ap (map (one_name place)) same)) went
 
--- the names of all clauses, clause by clause
-flat_is : (place : Place) (cs : List Clause) (again : Bool) (seen : List Part) → walk_each (map (one_clause place) cs) again seen ≡ walk_each (map (one_name place) (flat_map modifies_in cs)) again seen
-flat_is place [] again seen = refl
-flat_is place (c ∷ cs) again seen =
-    let one = one_clause place c in
-    each_turn one (map (one_clause place) cs) again seen
-    ∙ ap (after (one again seen).faults) (flat_is place cs again (one again seen).seen)
-    ∙ sym (each_join (map (one_name place) (modifies_in c)) (map (one_name place) (flat_map modifies_in cs)) again seen)
-    ∙ ap (λ ws. walk_each ws again seen) (sym (map-append (one_name place) (modifies_in c) (flat_map modifies_in cs)))
+-- what a list gives, element by element
+flat_walks : {A X Y : Type 0} (w : Y → Walk A) (f : X → List Y) (xs : List X) (again : Bool) (seen : List A) → walk_each (map (λ x. walk_each (map w (f x))) xs) again seen ≡ walk_each (map w (flat_map f xs)) again seen
+flat_walks {Y = Y} w f [] again seen = refl
+flat_walks {Y = Y} w f (x ∷ xs) again seen =
+    let one = walk_each (map w (f x)) in
+    each_turn one (map (λ y. walk_each (map w (f y))) xs) again seen
+    ∙ ap (after (one again seen).faults) (flat_walks w f xs again (one again seen).seen)
+    ∙ sym (each_join (map w (f x)) (map w (flat_map f xs)) again seen)
+    ∙ ap (λ ws. walk_each ws again seen) (sym (map-append w (f x) (flat_map f xs)))
 
-pub flat_went : (place : Place) (cs : List Clause) (again : Bool) (seen : List Part) (old : Option Fault) (now : List Part) (first : Option Fault) →
-    Went (walk_each (map (one_clause place) cs) again seen) old now first → Went (walk_each (map (one_name place) (flat_map modifies_in cs)) again seen) old now first
-flat_went place cs again seen old now first went = went_as _ _ old now first (flat_is place cs again seen) went
+pub flat_went : {X Y : Type 0} (w : Y → Walk Part) (f : X → List Y) (xs : List X) (again : Bool) (seen : List Part) (old : Option Fault) (now : List Part) (first : Option Fault) →
+    Went (walk_each (map (λ x. walk_each (map w (f x))) xs) again seen) old now first → Went (walk_each (map w (flat_map f xs)) again seen) old now first
+flat_went w f xs again seen old now first went = went_as _ _ old now first (flat_walks w f xs again seen) went
 
 pub call_none : (g : ℕ → Walk Part) (ws : List (Walk Part)) (xs : List ℕ) (again : Bool) (seen : List Part) (old : Option Fault) (now : List Part) (first : Option Fault) → [] ≡ xs →
     Went (walk_each ws again seen) old now first → Went (walk_each (ws ++ map g xs) again seen) old now first

@@ -1,10 +1,10 @@
 //! What calls and steps write.
 
-ghost use Rattle.std.specs.Prelude.{◌≡◌, ℕ, [], Some, nat_eq, OnOk};
+ghost use Rattle.std.specs.Prelude.{◌≡◌, ℕ, None, Some, nat_eq, OnOk};
 ghost use Rattle.std.specs.Option.{option_copied};
 ghost use Rattle.uc_meaning.specs.Lookup.{or_else};
 ghost use Rattle.uc_rules.specs.Names.{only_if};
-ghost use Rattle.uc_order_rules.specs.Writes.{modified_names, no_step};
+ghost use Rattle.uc_order_rules.specs.Writes.{modified_names};
 ghost use Rattle.uc_written_once.specs.Effects.{modified_by, procedure_by, step_by, stepped_by, stepping_of};
 
 use indexmap::IndexMap;
@@ -30,8 +30,8 @@ pub struct Effects<'a> {
 impl<'a> Effects<'a> {
     /// No procedures and no instances.
     pub fn new(alloc: Global) -> Effects<'a>
-        ensures procedures { (f : ℕ) → modified_by result f ≡ [] }
-        ensures steps { (i : ℕ) → step_by result i ≡ no_step }
+        ensures procedures { (f : ℕ) → procedure_by result f ≡ None }
+        ensures steps { (i : ℕ) → stepped_by result i ≡ None }
     {
         let procedures = Firsts::new(alloc);
         let steps = IndexMap::new(alloc);
@@ -39,7 +39,7 @@ impl<'a> Effects<'a> {
     }
 
     /// The procedure of a name.
-    pub(crate) fn procedure(&self, name: u32) -> Option<&'a Procedure>
+    pub fn procedure(&self, name: u32) -> Option<&'a Procedure>
         ensures { modified_names (option_copied result) ≡ modified_by self.now name }
     {
         self.procedures.get(name)

@@ -6,4 +6,5 @@ mod noting;
 mod walk;
 
 pub use effects::{Effects, Stepped};
-pub use walk::note_written_twice;
+pub use noting::{modified_in, name_part, target_part};
+pub use walk::{next_block, note_written_twice};

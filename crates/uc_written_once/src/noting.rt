@@ -35,7 +35,7 @@ pub(crate) fn note_part(
 }
 
 /// The part of a target: its name, and its fields up to its first index.
-fn target_part(alloc: Global, target: &Target) -> Result<Items<u32>, AllocError>
+pub fn target_part(alloc: Global, target: &Target) -> Result<Items<u32>, AllocError>
     ensures { IfOk result (λ part. part ≡ part_of_target target.now) }
 {
     let mut part = Items::new(alloc);
@@ -57,7 +57,7 @@ fn add_fields(parts: &[TargetPart], part: &mut Items<u32>) -> Result<(), AllocEr
 }
 
 /// The part of a whole variable.
-fn name_part(alloc: Global, name: u32) -> Result<Items<u32>, AllocError>
+pub fn name_part(alloc: Global, name: u32) -> Result<Items<u32>, AllocError>
     ensures { IfOk result (λ part. part ≡ part_of_name name) }
 {
     let mut part = Items::new(alloc);
@@ -129,7 +129,8 @@ fn note_names(
     Ok(())
 }
 
-fn modified_in(clause: &Clause) -> &[Identifier]
+/// The names that a clause modifies.
+pub fn modified_in(clause: &Clause) -> &[Identifier]
     ensures { map (λ i. i.name) result.now ≡ modifies_in clause.now }
 {
     match clause {

@@ -1,10 +1,12 @@
 //! The walk over a block.
 
-ghost use Rattle.std.specs.Prelude.{◌≡◌, ◌||◌, ◌++◌, ℕ, List, [], drop, map, nat_lt, take, IfOk, OnOk};
+ghost use Rattle.std.specs.Prelude.{◌≡◌, ◌||◌, ◌++◌, ℕ, List, [], drop, false, map, nat_lt, take, OnOk};
+ghost use Rattle.std.specs.List.{flat_map};
+ghost use Rattle.uc_meaning.specs.Lookup.{next_in};
 ghost use Rattle.uc_rules.specs.Faults.{first_of};
 ghost use Rattle.uc_order_rules.specs.Writes.{overlap, written_by, Stepping};
 ghost use Rattle.uc_path_laws.specs.Walks.{walk_arms};
-ghost use Rattle.uc_written_once.specs.Effects.{modified_by, step_by, AreEffects, OverlapAlike};
+ghost use Rattle.uc_written_once.specs.Effects.{modified_by, step_by, AreEffects};
 ghost use Rattle.uc_written_once.specs.Walks.{walk_arm, walk_block, walk_of, Went, WentAside};
 
 use crate::effects::Effects;
@@ -14,22 +16,47 @@ use uc_items::Items;
 use uc_lone_faults::turn_count;
 use uc_part_table::PartTable;
 use uc_rules::Fault;
-use uc_syntax::{Arm, Stmt};
+use uc_syntax::{Arm, Decl, Stmt};
 
-/// Notes each statement of a block that writes a part which overlaps one that was written before on some path, by a statement before it,
-/// by an earlier turn of a loop or by itself; and gives all parts that the block writes.
+/// Notes each statement of the next block among some declarations that writes a part which overlaps one that was written before on some
+/// path, by a statement before it, by an earlier turn of a loop or by itself.
 pub fn note_written_twice(
     alloc: Global,
     effects: &Effects<'_>,
-    block: &[Stmt],
+    declarations: &[Decl],
     first: &mut Option<Fault>,
-) -> Result<PartTable, AllocError>
-    ensures faults { OnOk result ((modified : ℕ → List ℕ) (steps : ℕ → Stepping) → AreEffects effects.now modified steps → first.new ≡ first_of first.old (written_by modified steps overlap block.now []).faults) }
-    ensures parts { IfOk result (λ parts. (modified : ℕ → List ℕ) (steps : ℕ → Stepping) → AreEffects effects.now modified steps → OverlapAlike parts (written_by modified steps overlap block.now []).happens) }
+) -> Result<(), AllocError>
+    ensures { OnOk result ((modified : ℕ → List ℕ) (steps : ℕ → Stepping) → AreEffects effects.now modified steps → first.new ≡ first_of first.old (written_by modified steps overlap (flat_map next_in declarations.now) []).faults) }
 {
     let mut seen = PartTable::new(alloc);
-    note_in_block(alloc, effects, block, false, &mut seen, first)?;
-    Ok(seen)
+    note_in_declarations(alloc, effects, declarations, &mut seen, first)?;
+    Ok(())
+}
+
+fn note_in_declarations(
+    alloc: Global,
+    effects: &Effects<'_>,
+    declarations: &[Decl],
+    seen: &mut PartTable,
+    first: &mut Option<Fault>,
+) -> Result<(), AllocError>
+    ensures { OnOk result (Went (walk_block (modified_by effects.now) (step_by effects.now) (flat_map next_in declarations.now) false seen.old) first.old seen.new first.new) }
+{
+    for declaration in declarations {
+        let block = next_block(declaration);
+        note_in_block(alloc, effects, block, false, seen, first)?;
+    }
+    Ok(())
+}
+
+/// The next block that a declaration is, and the empty one of another declaration.
+pub fn next_block(declaration: &Decl) -> &[Stmt]
+    ensures { result.now ≡ next_in declaration.now }
+{
+    match declaration {
+        Decl::Next(_, block) => block.as_slice(),
+        _ => &[],
+    }
 }
 
 /// Whether all that a loop of some turns writes is written again.

@@ -3,12 +3,13 @@
 use std::alloc::{AllocError, Global};
 use std::process::Abort;
 use std::test::Fail;
-use uc_items::Items;
 use uc_lexer::{MAX_TEXT, tokens};
+use uc_lookup::SystemRef;
+use uc_module_names::DesignNames;
+use uc_module_writes::note_twice_in_step;
 use uc_parser::parse;
 use uc_rules::Fault;
-use uc_syntax::{Decl, Module, Names};
-use uc_written_once::{Effects, Stepped, note_written_twice};
+use uc_syntax::{Module, Names};
 
 /// What the modules of a text are judged to be.
 #[derive(Clone, Copy, Debug, PartialEq, Eq)]
@@ -22,94 +23,20 @@ enum Answer {
 
 use Answer::{Breaks, Kept, NoMemory, NotRead};
 
-/// A part that is a whole variable, or an instance.
-fn whole(alloc: Global, names: &mut Names, name: &[u8]) -> Result<Items<u32>, AllocError> {
-    let number = names.intern(alloc, name)?;
-    let mut part = Items::new(alloc);
-    part.push(number)?;
-    Ok(part)
-}
-
-fn wholes(
-    alloc: Global,
-    names: &mut Names,
-    written: &[&[u8]],
-) -> Result<Items<Items<u32>>, AllocError> {
-    let mut parts = Items::new(alloc);
-    for name in written {
-        let part = whole(alloc, names, name)?;
-        parts.push(part)?;
-    }
-    Ok(parts)
-}
-
-fn enter_procedures<'a>(
-    modules: &'a [Module],
-    effects: &mut Effects<'a>,
-) -> Result<(), AllocError> {
-    for module in modules {
-        for declaration in module.decls.as_slice() {
-            if let Decl::Procedure(_, procedure) = declaration {
-                effects.enter_procedure(procedure)?;
-            }
-        }
-    }
-    Ok(())
-}
-
-/// Enters what it is to step an instance.
-fn enter_step(
-    alloc: Global,
-    names: &mut Names,
-    name: &[u8],
-    written: &[&[u8]],
-    meet: bool,
-    effects: &mut Effects<'_>,
-) -> Result<(), AllocError> {
-    let number = names.intern(alloc, name)?;
-    let parts = wholes(alloc, names, written)?;
-    effects.enter_instance(number, Stepped { parts, meet })?;
-    Ok(())
-}
-
-/// The instance i writes y and cells of its own, and l writes y by two outputs; k writes nothing.
-fn enter_all<'a>(
-    alloc: Global,
-    names: &mut Names,
-    modules: &'a [Module],
-    effects: &mut Effects<'a>,
-) -> Result<(), AllocError> {
-    enter_procedures(modules, effects)?;
-    enter_step(alloc, names, b"i", &[b"y", b"i"], false, effects)?;
-    enter_step(alloc, names, b"l", &[b"y"], true, effects)?;
-    Ok(())
-}
-
-fn note_blocks(
-    alloc: Global,
-    effects: &Effects<'_>,
-    modules: &[Module],
-    first: &mut Option<Fault>,
-) -> Result<(), AllocError> {
-    for module in modules {
-        for declaration in module.decls.as_slice() {
-            if let Decl::Next(_, block) = declaration {
-                note_written_twice(alloc, effects, block.as_slice(), first)?;
-            }
-        }
-    }
-    Ok(())
-}
-
 fn first_fault(
     alloc: Global,
-    names: &mut Names,
+    names: &Names,
     modules: &[Module],
 ) -> Result<Option<Fault>, AllocError> {
+    let system = SystemRef {
+        names,
+        files: &[],
+        modules,
+        main: 0,
+    };
+    let design = DesignNames::of(alloc, system)?;
     let mut first = None;
-    let mut effects = Effects::new(alloc);
-    enter_all(alloc, names, modules, &mut effects)?;
-    note_blocks(alloc, &effects, modules, &mut first)?;
+    note_twice_in_step(alloc, &design, &mut first)?;
     Ok(first)
 }
 
@@ -124,7 +51,7 @@ fn judged(alloc: Global, text: &[u8]) -> Answer {
     let Ok(modules) = parse(alloc, &mut names, 0, text, tokens.as_slice()) else {
         return NotRead;
     };
-    match first_fault(alloc, &mut names, modules.as_slice()) {
+    match first_fault(alloc, &names, modules.as_slice()) {
         Ok(None) => Kept,
         Ok(Some(fault)) => Breaks(fault.rule.number(), fault.place.line, fault.place.col),
         Err(AllocError) => NoMemory,
@@ -132,7 +59,7 @@ fn judged(alloc: Global, text: &[u8]) -> Answer {
 }
 
 /// Texts with a fault each, and the nearest ones without one.
-const ROWS: [(&[u8], Answer); 36] = [
+const ROWS: [(&[u8], Answer); 47] = [
     (b"module m { next { x' = 1; y' = 2; } }", Kept),
     (b"module m { next { x' = 1; x' = 2; } }", Breaks(24, 1, 27)),
     (
@@ -219,37 +146,90 @@ const ROWS: [(&[u8], Answer); 36] = [
         b"module m { procedure p() returns (z : integer) modifies x; { } next { call (x') = p(); } }",
         Breaks(24, 1, 71),
     ),
-    (b"module m { next { next (i); next (k); } }", Kept),
     (
-        b"module m { next { next (i); y' = 1; } }",
-        Breaks(24, 1, 29),
-    ),
-    (
-        b"module m { next { y' = 1; next (i); } }",
-        Breaks(24, 1, 27),
-    ),
-    (
-        b"module m { next { next (i); y'.f = 1; } }",
-        Breaks(24, 1, 29),
-    ),
-    (
-        b"module m { next { if (c) { next (i); } else { y' = 1; } } }",
+        b"module s { next { x' = 1; } } module m { instance i : s(x : (y)); next { next (i); } }",
         Kept,
     ),
     (
-        b"module m { next { next (i); if (c) { next (i); } } }",
-        Breaks(24, 1, 38),
+        b"module s { next { x' = 1; } } module m { instance i : s(x : (y)); next { next (i); y' = 2; } }",
+        Breaks(24, 1, 84),
     ),
-    (b"module m { next { next (k); next (k); } }", Kept),
     (
-        b"module m { next { for n in range(0, 1) { next (k); } } }",
+        b"module s { next { x' = 1; } } module m { instance i : s(x : (y)); next { y' = 2; next (i); } }",
+        Breaks(24, 1, 82),
+    ),
+    (
+        b"module s { next { x'.f = 1; } } module m { instance i : s(x : (y)); next { next (i); y'.g = 2; } }",
         Kept,
     ),
     (
-        b"module m { next { for n in range(0, 1) { next (i); } } }",
-        Breaks(24, 1, 42),
+        b"module s { next { x'.f = 1; } } module m { instance i : s(x : (y)); next { next (i); y'.f = 2; } }",
+        Breaks(24, 1, 86),
     ),
-    (b"module m { next { next (l); } }", Breaks(24, 1, 19)),
+    (
+        b"module m { instance i : s(x : (y)); next { next (i); y' = 2; } } module s { next { x' = 1; } }",
+        Breaks(24, 1, 54),
+    ),
+    (
+        b"module s { next { x' = 1; z' = 2; } } module m { instance i : s(x : (y), z : (y)); next { next (i); } }",
+        Breaks(24, 1, 91),
+    ),
+    (
+        b"module s { next { x'.f = 1; z'.g = 2; } } module m { instance i : s(x : (y), z : (y)); next { next (i); } }",
+        Kept,
+    ),
+    (
+        b"module s { next { if (c) { x' = 1; } else { z' = 2; } } } module m { instance i : s(x : (y), z : (y)); next { next (i); } }",
+        Kept,
+    ),
+    (
+        b"module s { next { for k in range(0, 1) { if (c) { x' = 1; } else { z' = 2; } } } } module m { instance i : s(x : (y), z : (y)); next { next (i); } }",
+        Breaks(24, 1, 51),
+    ),
+    (
+        b"module s { procedure p() modifies z; { } next { x' = 1; call p(); } } module m { instance i : s(x : (y), z : (y)); next { next (i); } }",
+        Breaks(24, 1, 123),
+    ),
+    (
+        b"module m { instance i : s(x : (y)); next { next (i); } } module s { next { x' = 1; x' = 2; } }",
+        Breaks(24, 1, 84),
+    ),
+    (
+        b"module s { next { x' = 1; } } module m { instance i : s(x : (y)); next { if (c) { next (i); } else { next (i); } } }",
+        Kept,
+    ),
+    (
+        b"module s { next { x' = 1; } } module m { instance i : s(x : (y)); next { next (i); if (c) { next (i); } } }",
+        Breaks(24, 1, 93),
+    ),
+    (
+        b"module s { next { w' = 1; } } module m { instance i : s(); instance k : s(); next { next (i); next (k); } }",
+        Kept,
+    ),
+    (
+        b"module s { next { w' = 1; } } module m { instance i : s(); next { for n in range(0, 1) { next (i); } } }",
+        Breaks(24, 1, 90),
+    ),
+    (
+        b"module s { next { } } module m { instance i : s(); next { next (i); next (i); } }",
+        Kept,
+    ),
+    (
+        b"module s { next { x' = 1; } } module m { instance i : s(x : (y)); instance k : s(x : (y)); next { next (i); next (k); } }",
+        Breaks(24, 1, 109),
+    ),
+    (
+        b"module s { next { x' = 1; z' = 2; } } module n { instance j : s(x : (u), z : (v)); next { next (j); } } module m { instance i : n(u : (y), v : (y)); next { next (i); } }",
+        Breaks(24, 1, 157),
+    ),
+    (
+        b"module s { next { x' = 1; z' = 2; } } module n { instance j : s(x : (u), z : (u)); next { next (j); } } module m { instance i : n(u : (y)); next { next (i); } }",
+        Breaks(24, 1, 91),
+    ),
+    (
+        b"module m { instance i : n(u : (y)); next { next (i); } } module n { instance j : s(x : (u)); next { if (c) { next (j); } else { u' = 3; } } } module s { next { x' = 1; } }",
+        Kept,
+    ),
 ];
 
 #[test]
@@ -259,5 +239,31 @@ fn parts_that_are_written_twice_stand_at_their_places(rt: HostRuntime) -> Result
         let answer = judged(alloc, text);
         assert_eq!(rt; answer, expected);
     }
+    Ok(())
+}
+
+/// Modules that each have two instances of the one before, of which one is stepped on each path, with their outputs the other way round.
+fn with_chain(alloc: Global, count: u32) -> Result<Vec<u8>, AllocError> {
+    let mut text = Vec::from_slice(alloc, b"module m0 { next { x' = 1; z' = 2; } } ")?;
+    for number in 0..count {
+        let next = number + 1;
+        let module = format!(in alloc;
+            "module m{next} {{ instance a : m{number}(x : (x), z : (z)); instance b : m{number}(x : (z), z : (x)); next {{ if (c) {{ next (a); }} else {{ next (b); }} }} }} "
+        )?;
+        text.extend_from_slice(module.as_bytes())?;
+    }
+    Ok(text)
+}
+
+#[test]
+fn a_chain_of_modules_ends_at_once(rt: HostRuntime) -> Result<(), Fail> {
+    let alloc = rt.alloc();
+    let mut text = with_chain(alloc, 40)?;
+    assert_eq!(rt; judged(alloc, text.as_slice()), Kept);
+    text.extend_from_slice(
+        b"module main { instance i : m40(x : (y), z : (y)); next { next (i); } }",
+    )?;
+    let meets = matches!(judged(alloc, text.as_slice()), Breaks(24, 1, _));
+    assert!(rt; meets);
     Ok(())
 }

@@ -1,4 +1,5 @@
-use Rattle.uc_written_once.specs.Walks.{one_clause}
+use Rattle.uc_meaning.specs.Code.{modifies_in}
+use Rattle.uc_written_once.specs.Walks.{one_clause, one_name}
 use Rattle.uc_written_once.proofs.Single.{clause_went, flat_went}
 use Rattle.uc_written_once.proofs.Turns.{each_begin, each_end, each_more}
 use Rattle.uc_written_once.proofs.noting.note_clauses.Goals as goal
@@ -13,5 +14,5 @@ loop-clause-preserved c =
 
 pub returns : goal.returns
 returns c =
-    flat_went c.args.place c.args.clauses.now c.args.again _ _ _ _
+    flat_went (one_name c.args.place) modifies_in c.args.clauses.now c.args.again _ _ _ _
     (each_end (one_clause c.args.place) _ _ _ _ _ _ _ c.loop-clause.invariant c.loop-clause-test.false)

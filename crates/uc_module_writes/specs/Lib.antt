@@ -1,0 +1,4 @@
+pub mod Bound
+pub mod Places
+pub mod Stepped
+pub mod Premise
