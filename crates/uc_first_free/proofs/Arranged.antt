@@ -192,6 +192,15 @@ module _ {A : Type 0} (goes : A → A → Bool) where
   unfolding in_order
   ordered_stuck x xs h = ap (λ b. b && in_order goes xs) (first_waits goes x xs h)
 
+  -- items that are in order are arranged as they are
+  pub in_order_stays : (n : ℕ) (xs : List A) → in_order goes xs ≡ true → arranged_in goes n xs ≡ xs
+  unfolding arranged_in in_order first_free
+  in_order_stays zero xs h = refl
+  in_order_stays (suc n) [] h = refl
+  in_order_stays (suc n) (x ∷ xs) h =
+      let a = and_true (list_all (goes x) xs) (in_order goes xs) h in
+      ap (λ b. led_by (arranged_in goes n) (x ∷ xs) (if b then Some (x, xs) else first_free goes (x ∷ []) xs)) a.0 ∙ ap (λ ys. x ∷ ys) (in_order_stays n xs a.1)
+
   -- items without one stay in order
   order_without : (before after : List A) (x : A) → in_order goes (before ++ x ∷ after) ≡ true → in_order goes (before ++ after) ≡ true
   unfolding in_order

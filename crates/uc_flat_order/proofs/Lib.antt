@@ -3,3 +3,4 @@ pub mod Coded
 pub mod Orders
 mod Used
 mod Along
+mod Finding

@@ -7,7 +7,7 @@ use Rattle.std.proofs.lemmas.List.Folds.{list_all-append}
 use Rattle.uc_syntax.specs.declared.statement.Stmt.{Stmt}
 use Rattle.uc_flat_expressions.specs.declared.typed.Meant.{Meant}
 use Rattle.uc_first_free.specs.Arranged.{in_order, IsReordered}
-use Rattle.uc_first_free.proofs.Arranged.{and_true, true_and, all_reordered, keeps_items, ordered_if_any}
+use Rattle.uc_first_free.proofs.Arranged.{and_true, true_and, all_reordered, keeps_items, in_order_stays, ordered_if_any}
 use Rattle.uc_flat_once.specs.declared.once.Part.{Part}
 use Rattle.uc_flat_once.specs.Once.{touched, each_writes, writer, written_by}
 use Rattle.uc_flat_once.specs.Written.{written_parts}
@@ -147,4 +147,7 @@ order_holds = record {
       let each = each_fine names n other whole in
       let own : list_all (fine names n) code ≡ true = sym (all_reordered (fine names n) other code r) ∙ each in
       arranged_is names n code own ∙ ordered_if_any (may_go names n) _ code other refl r (sym (order_is names n other each) ∙ whole);
+  stays = λ names n code h.
+      let whole : all_fine names n code ≡ true = sym (once_is names n code) ∙ h in
+      in_order_stays (may_go names n) _ code (sym (order_is names n code (each_fine names n code whole)) ∙ whole);
 }

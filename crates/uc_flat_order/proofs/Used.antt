@@ -1,10 +1,9 @@
 -- What the statements of a block use, and which they need.
 use Rattle.std.proofs.Common.{◌≡◌, ℕ, zero, suc, ◌+◌, ◌<◌, ◌≤◌, List, [], ◌∷◌, ◌++◌, map, length, get_or, refl, sym, ap, ◌∙◌, true, false, Bool, Option, Some, None, ◌⊎◌, inl, inr, ⊎_elim, arith, length-append}
-use Rattle.std.specs.Prelude.{not, ◌&&◌, ◌||◌, nat_eq, slice_get}
+use Rattle.std.specs.Prelude.{not, ◌&&◌, nat_eq, slice_get}
 use Rattle.std.specs.Option.{option_map, option_and_then, is_some}
 use Rattle.std.specs.List.{list_all}
 use Rattle.std.proofs.lemmas.Bool.Decides.{nat_tests}
-use Rattle.std.proofs.lemmas.List.Folds.{list_any-append}
 use Rattle.uc_syntax.specs.declared.statement.Stmt.{Stmt}
 use Rattle.uc_flat_expressions.specs.declared.typed.Meant.{Meant}
 use Rattle.uc_flat_expressions.specs.Expressions.{all_of}
@@ -31,58 +30,14 @@ within (y ∷ xs) (suc k) x h = omega (arith, within xs k x h)
 some_same : {A : Type 0} (x y : A) → Some x ≡ Some y → x ≡ y
 some_same x y h = cc
 
--- ---- the needs of one statement
-
-has_pushed : (ns : List ℕ) (k j : ℕ) → has (ns ++ k ∷ []) j ≡ (has ns j || (nat_eq j k || false))
-has_pushed ns k j = list_any-append (nat_eq j) ns (k ∷ [])
-
-same : (n : ℕ) → nat_eq n n ≡ true
+pub same : (n : ℕ) → nat_eq n n ≡ true
 same n = grind (arith, nat_tests)
 
-other : (j k : ℕ) → (j ≡ k → ⊥) → nat_eq j k ≡ false
-other j k h = grind (arith, nat_tests, h)
-
-or_false : (b : Bool) → (b || (false || false)) ≡ b
-or_false true = refl
-or_false false = refl
-
--- the needs among the first statements
-pub record NeedsUpTo (uses : List Uses) (ps : List Part) (k : ℕ) (ns : List ℕ) : Type 0 where
-  pub below : (j : ℕ) (u : Uses) → j < k → slice_get uses j ≡ Some u → has ns j ≡ not (spared ps u.writes)
-  pub above : (j : ℕ) → k ≤ j → has ns j ≡ false
-
-pub needs_begin : (uses : List Uses) (ps : List Part) → NeedsUpTo uses ps 0 []
-needs_begin uses ps = record { below = λ j u l e. absurd (omega (arith, l)); above = λ j l. refl }
-
-here_or_before : (j k : ℕ) → j < k + 1 → (j < k) ⊎ (j ≡ k)
+pub here_or_before : (j k : ℕ) → j < k + 1 → (j < k) ⊎ (j ≡ k)
 here_or_before zero zero l = inr refl
 here_or_before zero (suc k) l = inl (omega arith)
 here_or_before (suc j) zero l = absurd (omega (arith, l))
 here_or_before (suc j) (suc k) l = ⊎_elim (λ h. inl (omega (arith, h))) (λ h. inr (ap suc h)) (here_or_before j k (omega (arith, l)))
-
-pub needs_push : (uses : List Uses) (ps : List Part) (k : ℕ) (ns more : List ℕ) (u : Uses) → NeedsUpTo uses ps k ns → slice_get uses k ≡ Some u → spared ps u.writes ≡ false → more ≡ ns ++ k ∷ [] → NeedsUpTo uses ps (k + 1) more
-needs_push uses ps k ns more u s at b added = record {
-  below = λ j v l e.
-      ap (λ ms. has ms j) added ∙ has_pushed ns k j
-      ∙ ⊎_elim
-      (λ h. ap (λ c. has ns j || (c || false)) (other j k (λ q. omega (arith, h, q))) ∙ or_false (has ns j) ∙ s.below j v h e)
-      (λ h. ap (λ i. has ns j || (nat_eq i k || false)) h ∙ ap (λ c. c || (nat_eq k k || false)) (s.above j (omega (arith, h))) ∙ ap (λ c. c || false) (same k)
-      ∙ sym (ap not (ap (λ (w : Uses). spared ps w.writes) (some_same v u (sym e ∙ ap (slice_get uses) h ∙ at)) ∙ b)))
-      (here_or_before j k l);
-  above = λ j l. ap (λ ms. has ms j) added ∙ has_pushed ns k j ∙ ap (λ c. has ns j || (c || false)) (other j k (λ q. omega (arith, l, q))) ∙ or_false (has ns j) ∙ s.above j (omega (arith, l));
-}
-
-pub needs_skip : (uses : List Uses) (ps : List Part) (k : ℕ) (ns : List ℕ) (u : Uses) → NeedsUpTo uses ps k ns → slice_get uses k ≡ Some u → spared ps u.writes ≡ true → NeedsUpTo uses ps (k + 1) ns
-needs_skip uses ps k ns u s at b = record {
-  below = λ j v l e. ⊎_elim
-      (λ h. s.below j v h e)
-      (λ h. s.above j (omega (arith, h)) ∙ sym (ap not (ap (λ (w : Uses). spared ps w.writes) (some_same v u (sym e ∙ ap (slice_get uses) h ∙ at)) ∙ b)))
-      (here_or_before j k l);
-  above = λ j l. s.above j (omega (arith, l));
-}
-
-pub needs_end : (uses : List Uses) (ps : List Part) (k : ℕ) (ns : List ℕ) → NeedsUpTo uses ps k ns → length uses ≤ k → (j : ℕ) (u : Uses) → slice_get uses j ≡ Some u → has ns j ≡ not (spared ps u.writes)
-needs_end uses ps k ns s l j u e = s.below j u (omega (arith, within uses j u e, l)) e
 
 -- ---- all needs
 

@@ -7,7 +7,8 @@ use Rattle.uc_first_free.specs.Arranged.{IsReordered}
 use Rattle.uc_flat_once.specs.Once.{written_by}
 use Rattle.uc_flat_order.specs.Arranged.{block_arranged}
 
--- An arranged block has the statements of the block. Where some order of these writes no part of a cell on a way after it was written there, or read in the new state, the arranged block writes none so.
+-- An arranged block has the statements of the block. Where some order of these writes no part of a cell on a way after it was written there, or read in the new state, the arranged block writes none so; and a block that writes none so is arranged as it stands.
 pub record OrderLaw : Type 0 where
   pub same : (names : List Meant) (n : ℕ) (code : List Stmt) → IsReordered (block_arranged names n code) code
   pub enough : (names : List Meant) (n : ℕ) (code other : List Stmt) → IsReordered other code → is_some (written_by names n other []) ≡ true → is_some (written_by names n (block_arranged names n code) []) ≡ true
+  pub stays : (names : List Meant) (n : ℕ) (code : List Stmt) → is_some (written_by names n code []) ≡ true → block_arranged names n code ≡ code

@@ -1,3 +1,4 @@
 pub mod Arranged
 pub mod Laws
 pub mod Uses
+pub mod Writers

@@ -2,7 +2,8 @@
 
 ghost use Rattle.uc_flat_order.specs.Laws.{OrderLaw};
 
-/// An arranged block has the statements of the block, and it can be run where they can be run in some order.
+/// An arranged block has the statements of the block, it can be run where they can be run in some order, and it is the block itself where
+/// this can be run.
 pub fn any_order()
     ensures { OrderLaw }
 {}

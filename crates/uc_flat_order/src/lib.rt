@@ -4,6 +4,7 @@
 mod code;
 mod law;
 mod uses;
+mod writers;
 
 pub use code::code_arranged;
 pub use law::any_order;

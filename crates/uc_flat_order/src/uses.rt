@@ -1,15 +1,14 @@
 //! What the statements of a block write and read, and the order that follows from it.
 
-ghost use Rattle.std.specs.Prelude.{◌≡◌, ℕ, not, Some, map, slice_get, IfOk};
+ghost use Rattle.std.specs.Prelude.{◌≡◌, map, IfOk};
 ghost use Rattle.uc_flat_expressions.specs.Expressions.{all_of};
-ghost use Rattle.uc_needed_first.specs.Order.{has};
-ghost use Rattle.uc_flat_order.specs.declared.uses.Uses.{Uses};
-ghost use Rattle.uc_flat_order.specs.Uses.{spared, use_of, AreNeeds, IsOrder};
+ghost use Rattle.uc_flat_order.specs.Uses.{use_of, AreNeeds, IsOrder};
 
+use crate::writers::{needs_of, writers_of};
 use std::alloc::{AllocError, Global};
 use uc_first_free::first_free_order;
 use uc_flat_expressions::Meant;
-use uc_flat_once::{Part, statement_parts, touched, written_parts};
+use uc_flat_once::{Part, statement_parts, written_parts};
 use uc_items::{Items, beside};
 use uc_syntax::Stmt;
 
@@ -75,30 +74,11 @@ fn use_of(
 fn needs_graph(alloc: Global, uses: &[Uses]) -> Result<Items<Items<usize>>, AllocError>
     ensures { IfOk result (AreNeeds uses.now) }
 {
+    let writers = writers_of(alloc, uses)?;
     let mut graph = Items::new(alloc);
     for own in uses {
-        let needs = needs_of(alloc, uses, own.parts.as_slice())?;
+        let needs = needs_of(alloc, uses, &writers, own.parts.as_slice())?;
         graph.push(needs)?;
     }
     Ok(graph)
-}
-
-/// The places of the statements that write a part that overlaps one of these.
-fn needs_of(alloc: Global, uses: &[Uses], parts: &[Part]) -> Result<Items<usize>, AllocError>
-    ensures { IfOk result (λ needs. (j : ℕ) (u : Uses) → slice_get uses.now j ≡ Some u → has needs j ≡ not (spared parts.now u.writes)) }
-{
-    let mut needs = Items::new(alloc);
-    for (place, other) in uses.iter().enumerate() {
-        if !spares(parts, other.writes.as_slice()) {
-            needs.push(place)?;
-        }
-    }
-    Ok(needs)
-}
-
-/// Whether none of the written parts overlaps one of the others.
-fn spares(parts: &[Part], writes: &[Part]) -> bool
-    ensures { result ≡ spared parts.now writes.now }
-{
-    writes.iter().all(|part| !touched(parts, part))
 }
