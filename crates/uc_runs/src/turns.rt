@@ -18,11 +18,7 @@ pub struct Turns {
 }
 
 /// The turns of a loop by its bounds. Numbers past the ranges of the types are want of memory.
-pub fn turns_between(
-    alloc: Global,
-    from: RangeBound,
-    to: RangeBound,
-) -> Result<Turns, AllocError>
+pub fn turns_between(alloc: Global, from: RangeBound, to: RangeBound) -> Result<Turns, AllocError>
     ensures ty { IfOk result (λ t. t.ty ≡ turn_type from) }
     ensures values { IfOk result (λ t. t.values ≡ turns from to) }
 {
@@ -35,12 +31,7 @@ pub fn turns_between(
 }
 
 /// The variable of a loop in a turn.
-pub fn turn_local(
-    alloc: Global,
-    name: u32,
-    ty: &Ty,
-    value: &Value,
-) -> Result<Local, AllocError>
+pub fn turn_local(alloc: Global, name: u32, ty: &Ty, value: &Value) -> Result<Local, AllocError>
     ensures { IfOk result (λ l. l ≡ record { name = name; ty = ty.now; value = value.now }) }
 {
     let ty = copy_ty(alloc, ty)?;
