@@ -54,7 +54,7 @@ name_equal a b h =
 name_same : (a : NameAt) → same_name_at a a ≡ true
 name_same a = ap (λ b. b && nat_eq a.name a.name) (path_same a.path) ∙ same a.name
 
-use_equal : (u v : Used) → same_use u v ≡ true → u ≡ v
+pub use_equal : (u v : Used) → same_use u v ≡ true → u ≡ v
 use_equal (UsedDefine a) (UsedDefine b) h = ap UsedDefine (name_equal a b h)
 use_equal (UsedProcedure a) (UsedProcedure b) h = ap UsedProcedure (name_equal a b h)
 use_equal (UsedInput a) (UsedInput b) h = ap UsedInput (name_equal a b h)
@@ -65,13 +65,13 @@ use_equal (UsedProcedure a) (UsedInput b) h = nothing (sym h)
 use_equal (UsedInput a) (UsedDefine b) h = nothing (sym h)
 use_equal (UsedInput a) (UsedProcedure b) h = nothing (sym h)
 
-use_same : (u : Used) → same_use u u ≡ true
+pub use_same : (u : Used) → same_use u u ≡ true
 use_same (UsedDefine a) = name_same a
 use_same (UsedProcedure a) = name_same a
 use_same (UsedInput a) = name_same a
 
 -- a define or an input, not a procedure
-abbrev IsExpression : Used → Type 0
+abbrev pub IsExpression : Used → Type 0
 IsExpression (UsedDefine n) = Unit {0}
 IsExpression (UsedInput n) = Unit {0}
 IsExpression (UsedProcedure n) = ⊥
@@ -199,7 +199,7 @@ module _ (system : System) where
   binding_kind None v h = absurd h
   binding_kind (Some b) v h = expression_kind b.0 b.1 v h
 
-  use_kind : (u v : Used) → IsExpression u → IsAmong v (uses_of system u) → IsExpression v
+  pub use_kind : (u v : Used) → IsExpression u → IsAmong v (uses_of system u) → IsExpression v
   use_kind (UsedDefine m) v e h = body_kind m.path (option_and_then (λ c. define_of c m.name) (module_at system m.path)) v h
   use_kind (UsedInput m) v e h = binding_kind (binding_of system m.path m.name) v h
   use_kind (UsedProcedure m) v e h = absurd e
@@ -210,7 +210,7 @@ module _ (system : System) where
     abbrev step : Used → ℕ → Used → Bool
     step v k x = same_use v x || leads_to k (uses_of system) (same_use v) x
 
-    first : (u x v : Used) → IsAmong x (uses_of system u) → (x ≡ v) ⊎ UseLeads system x v → UseLeads system u v
+    pub first : (u x v : Used) → IsAmong x (uses_of system u) → (x ≡ v) ⊎ UseLeads system x v → UseLeads system u v
     unfolding leads_to
     first u x v among h =
         ⊎_elim

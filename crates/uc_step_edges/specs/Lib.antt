@@ -1,0 +1,3 @@
+pub mod Edges
+pub mod Numbers
+pub mod Building
