@@ -6,5 +6,7 @@
 
 mod entry;
 mod running;
+mod start;
 
 pub use entry::init_end;
+pub use start::start_holds;
