@@ -1,2 +1,3 @@
 pub mod Rounds
 pub mod Nodes
+pub mod JudgedRoots

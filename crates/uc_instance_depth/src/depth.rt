@@ -9,7 +9,7 @@ use std::alloc::{AllocError, Global};
 use uc_module_names::DesignNames;
 
 /// The most modules that a chain of instances may have.
-const LONGEST_CHAIN: usize = 32;
+pub(crate) const LONGEST_CHAIN: usize = 32;
 
 /// Whether a chain of instances has more than 32 modules, from any module on.
 pub fn has_deep_module(alloc: Global, design: &DesignNames) -> Result<bool, AllocError>
@@ -25,7 +25,7 @@ pub fn has_deep_module(alloc: Global, design: &DesignNames) -> Result<bool, Allo
     Ok(false)
 }
 
-fn flag_at(flags: &[bool], node: usize) -> bool
+pub(crate) fn flag_at(flags: &[bool], node: usize) -> bool
     ensures { result ≡ slice_index_or flags.now node false }
 {
     match flags.get(node) {

@@ -3,7 +3,9 @@
 
 mod depth;
 mod graph;
+mod judged;
 mod ways;
 
 pub use depth::has_deep_module;
+pub use judged::judged_roots;
 pub use ways::long_ways;

@@ -6,11 +6,12 @@ use std::process::Abort;
 use std::test::Fail;
 use uc_lone_faults::{note_large_enums, note_long_loops, note_named_twice};
 use uc_lookup::SystemRef;
+use uc_module_names::DesignNames;
 use uc_rules::Fault;
 use uc_sizes::is_too_large;
 use uc_stepped_once::note_stepped_twice;
 use uc_syntax::{Module, Names};
-use uc_use_cycles::note_use_cycles;
+use uc_use_rules::{has_long_uses, note_use_cycles};
 
 /// What the modules of a text are judged to be.
 #[derive(Clone, Copy, Debug, PartialEq, Eq)]
@@ -24,15 +25,26 @@ enum Answer {
 
 use Answer::{Breaks, Kept, NoMemory, NotRead};
 
-fn first_fault(alloc: Global, modules: &[Module]) -> Result<Option<Fault>, AllocError> {
+/// A design with its first module as main.
+fn design_of<'a>(names: &'a Names, modules: &'a [Module]) -> SystemRef<'a> {
+    SystemRef {
+        names,
+        files: &[],
+        modules,
+        main: 0,
+    }
+}
+
+fn first_fault(alloc: Global, system: SystemRef<'_>) -> Result<Option<Fault>, AllocError> {
     let mut first = None;
-    for module in modules {
+    for module in system.modules {
         note_long_loops(module, &mut first);
         note_large_enums(alloc, module, &mut first)?;
         note_named_twice(alloc, module, &mut first)?;
         note_stepped_twice(alloc, module, &mut first)?;
     }
-    note_use_cycles(alloc, modules, &mut first)?;
+    let design = DesignNames::of(alloc, system)?;
+    note_use_cycles(alloc, &design, &mut first)?;
     Ok(first)
 }
 
@@ -41,7 +53,7 @@ fn judged(alloc: Global, text: &[u8]) -> Answer {
     let Some(modules) = modules_of(alloc, &mut names, text) else {
         return NotRead;
     };
-    match first_fault(alloc, modules.as_slice()) {
+    match first_fault(alloc, design_of(&names, modules.as_slice())) {
         Ok(None) => Kept,
         Ok(Some(fault)) => Breaks(fault.rule.number(), fault.place.line, fault.place.col),
         Err(AllocError) => NoMemory,
@@ -49,7 +61,7 @@ fn judged(alloc: Global, text: &[u8]) -> Answer {
 }
 
 /// Texts with a fault each, and the nearest ones without one.
-const ROWS: [(&[u8], Answer); 28] = [
+const ROWS: [(&[u8], Answer); 33] = [
     (b"module m { init { for i in range(1, 4096) { } } }", Kept),
     (
         b"module m { init { for i in range(0, 4096) { } } }",
@@ -147,6 +159,26 @@ const ROWS: [(&[u8], Answer); 28] = [
         b"module m { procedure r() { call p(); } procedure p() { call q(); } procedure q() { if (a) { call p(); } } }",
         Breaks(23, 1, 40),
     ),
+    (
+        b"module m { input x : boolean; } module main { instance a : m(x : (b.x)); instance b : m(x : (a.x)); }",
+        Breaks(23, 1, 62),
+    ),
+    (
+        b"module m { input x : boolean; } module main { instance a : m(x : (b.x)); instance b : m(x : (true)); }",
+        Kept,
+    ),
+    (
+        b"module m { input x : boolean; } module main { define f() : boolean = a.x; instance a : m(x : (f())); }",
+        Breaks(23, 1, 47),
+    ),
+    (
+        b"module k { input y : boolean; } module m { input x : boolean; instance i : k(y : (x)); } module main { instance a : m(x : (a.i.y)); }",
+        Breaks(23, 1, 78),
+    ),
+    (
+        b"module k { input y : boolean; } module m { input x : boolean; instance i : k(y : (x)); } module main { instance a : m(x : (b.i.y)); instance b : m(x : (true)); }",
+        Kept,
+    ),
 ];
 
 #[test]
@@ -184,13 +216,7 @@ fn an_enum_has_at_most_4096_labels(rt: HostRuntime) -> Result<(), Fail> {
 fn is_large(alloc: Global, text: &[u8]) -> Option<bool> {
     let mut names = Names::new(alloc);
     let modules = modules_of(alloc, &mut names, text)?;
-    let system = SystemRef {
-        names: &names,
-        files: &[],
-        modules: modules.as_slice(),
-        main: 0,
-    };
-    is_too_large(alloc, &system).ok()
+    is_too_large(alloc, &design_of(&names, modules.as_slice())).ok()
 }
 
 #[test]
@@ -230,5 +256,36 @@ fn main_has_at_most_65535_instances(rt: HostRuntime) -> Result<(), Fail> {
     assert_eq!(rt; is_large(alloc, text.as_slice()), Some(false));
     let deeper = with_levels(alloc, 16)?;
     assert_eq!(rt; is_large(alloc, deeper.as_slice()), Some(true));
+    Ok(())
+}
+
+/// A module with a chain of so many defines.
+fn with_chain(alloc: Global, count: u32) -> Result<Vec<u8>, AllocError> {
+    let mut text = Vec::from_slice(alloc, b"module m { ")?;
+    for number in 1..count {
+        let next = number + 1;
+        let define = format!(in alloc; "define f{number}() : boolean = f{next}(); ")?;
+        text.extend_from_slice(define.as_bytes())?;
+    }
+    let last = format!(in alloc; "define f{count}() : boolean = true; }}")?;
+    text.extend_from_slice(last.as_bytes())?;
+    Ok(text)
+}
+
+/// Whether a chain of uses of a text is too long.
+fn is_long(alloc: Global, text: &[u8]) -> Option<bool> {
+    let mut names = Names::new(alloc);
+    let modules = modules_of(alloc, &mut names, text)?;
+    let design = DesignNames::of(alloc, design_of(&names, modules.as_slice())).ok()?;
+    has_long_uses(alloc, &design).ok()
+}
+
+#[test]
+fn a_chain_has_at_most_32_uses(rt: HostRuntime) -> Result<(), Fail> {
+    let alloc = rt.alloc();
+    let text = with_chain(alloc, 32)?;
+    assert_eq!(rt; is_long(alloc, text.as_slice()), Some(false));
+    let longer = with_chain(alloc, 33)?;
+    assert_eq!(rt; is_long(alloc, longer.as_slice()), Some(true));
     Ok(())
 }

@@ -15,16 +15,16 @@ use Rattle.uc_way_laws.proofs.Following.{followed}
 use Rattle.uc_order_rules.specs.Roots.{NameAt, name_at, led, rooted, is_bound_input}
 use Rattle.uc_order_rules.specs.Mentions.{Mention, Reads, Applies, ReadsOld, mentions, expressions_in, calls_in}
 use Rattle.uc_order_rules.specs.Uses.{Used, UsedDefine, UsedProcedure, UsedInput, name_uses, define_uses, mention_uses, expression_uses, clause_expressions, procedure_uses, body_uses, binding_uses, uses_of, same_use, all_uses}
-use Rattle.uc_use_laws.specs.Ways.{Leads}
-use Rattle.uc_use_laws.proofs.Ways.{Way, leads_by}
-use Rattle.uc_use_laws.proofs.Names.{goes, use_is, use_same}
+use Rattle.uc_use_bounds.specs.Ways.{Leads}
+use Rattle.uc_use_bounds.proofs.Ways.{Way, leads_by}
+use Rattle.uc_use_bounds.proofs.Names.{goes, use_is, use_same}
 use Rattle.uc_use_bounds.specs.BoundLaw.{InstancesEnd, UsesAreFollowed, is_counted}
 use Rattle.uc_use_bounds.proofs.Listed.{nodes, define_listed, procedure_listed, input_listed}
 
 nothing : {A : Type 0} → false ≡ true → A
 nothing h = cc
 
-map_back : {A B : Type 0} (f : A → B) (y : B) (xs : List A) → IsAmong y (map f xs) → (x : A) × IsAmong x xs × (y ≡ f x)
+pub map_back : {A B : Type 0} (f : A → B) (y : B) (xs : List A) → IsAmong y (map f xs) → (x : A) × IsAmong x xs × (y ≡ f x)
 unfolding IsAmong
 map_back f y [] h = absurd h
 map_back f y (x ∷ xs) h = ⊎_elim (λ e. (x, inl refl, e)) (λ r. let b = map_back f y xs r in (b.0, inr b.1, b.2)) h
@@ -126,7 +126,7 @@ module _ (s : System) (known : InstancesEnd s) (k : ℕ) where
   procedure_covered n y None is h = absurd h
   procedure_covered n y (Some d) is h = procedure_listed s known k n d is
 
-  covered : (u y : Used) → is_counted K u ≡ true → IsAmong y (uses_of K u) → IsAmong u (nodes s known k)
+  pub covered : (u y : Used) → is_counted K u ≡ true → IsAmong y (uses_of K u) → IsAmong u (nodes s known k)
   covered (UsedDefine n) y is h = define_covered n y (option_and_then (λ m. define_of m n.name) (module_at K n.path)) refl h
   covered (UsedProcedure n) y is h = procedure_covered n y (option_and_then (λ m. procedure_of m n.name) (module_at K n.path)) refl h
   covered (UsedInput n) y is h = input_listed s known k n is

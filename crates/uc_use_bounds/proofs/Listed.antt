@@ -17,7 +17,7 @@ use Rattle.uc_way_laws.specs.AliasLaw.{IsAmong}
 use Rattle.uc_way_laws.proofs.Among.{among_flat, find_among}
 use Rattle.uc_order_rules.specs.Roots.{NameAt, rooted, name_at, is_input, is_bound_input}
 use Rattle.uc_order_rules.specs.Uses.{Used, UsedDefine, UsedProcedure, UsedInput, UsePlace, binding_places, uses_in, all_uses}
-use Rattle.uc_use_laws.proofs.Moving.{is_as_list, listed}
+use Rattle.uc_use_bounds.proofs.Instances.{is_as_list, listed}
 use Rattle.uc_use_bounds.specs.BoundLaw.{InstancesEnd}
 use Rattle.uc_use_bounds.proofs.Ranks.{depth, equal, first, instance_is, rank, rank_most}
 
@@ -119,7 +119,7 @@ module _ (s : System) (known : InstancesEnd s) (k : ℕ) where
       )
 
   -- the module at a path, with its instance
-  record IsThere (path : List ℕ) (c : Module) : Type 0 where
+  pub record IsThere (path : List ℕ) (c : Module) : Type 0 where
     pub root : Module
     pub is_root : slice_get s.modules k ≡ Some root
     pub here : InstanceAt
@@ -127,7 +127,7 @@ module _ (s : System) (known : InstancesEnd s) (k : ℕ) where
     pub at : here.path ≡ path
     pub code : here.code ≡ c
 
-  located : (path : List ℕ) (c : Module) → module_at K path ≡ Some c → IsThere path c
+  pub located : (path : List ℕ) (c : Module) → module_at K path ≡ Some c → IsThere path c
   located path c h =
       let m = then_some (λ (x : Module). module_from K x path) (slice_get s.modules k) c h in
       let d : length path ≤ rank s known.ends m.0.name = depth s known.ends k path m.0 c (known.alone k m.0 m.1) m.2 in

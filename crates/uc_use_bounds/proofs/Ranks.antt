@@ -107,7 +107,7 @@ module _ (s : System) (ends : (x : ℕ) → on_instance_cycle s x ≡ false) whe
 
   -- ---- instances
 
-  among_names : (m : Module) (ms : List Module) → IsAmong m ms → IsAmong m.name (map {B = ℕ} (λ k. k.name) ms)
+  pub among_names : (m : Module) (ms : List Module) → IsAmong m ms → IsAmong m.name (map {B = ℕ} (λ k. k.name) ms)
   unfolding IsAmong
   among_names m [] h = absurd h
   among_names m (k ∷ ms) h = ⊎_elim (λ e. inl (ap (λ (q : Module). q.name) e)) (λ r. inr (among_names m ms r)) h
@@ -126,10 +126,10 @@ module _ (s : System) (ends : (x : ℕ) → on_instance_cycle s x ≡ false) whe
   pub instance_is : (m : Module) (i : ℕ) (p : InstanceParts) → instance_of m i ≡ Some p → p.name ≡ i
   instance_is m i p h = found_named (λ (k : InstanceParts). k.name) i (instances_of m) p h
 
-  among_modules : (x : ℕ) (m : Module) → module_named s x ≡ Some m → IsAmong m s.modules
+  pub among_modules : (x : ℕ) (m : Module) → module_named s x ≡ Some m → IsAmong m s.modules
   among_modules x m h = find_among (λ n. nat_eq n.name x) s.modules m h
 
-  among_steps : (p : InstanceParts) (is : List InstanceParts) → IsAmong p is → IsAmong p.module_name (map {B = ℕ} (λ i. i.module_name) is)
+  pub among_steps : (p : InstanceParts) (is : List InstanceParts) → IsAmong p is → IsAmong p.module_name (map {B = ℕ} (λ i. i.module_name) is)
   unfolding IsAmong
   among_steps p [] h = absurd h
   among_steps p (k ∷ is) h = ⊎_elim (λ e. inl (ap (λ (q : InstanceParts). q.module_name) e)) (λ r. inr (among_steps p is r)) h

@@ -1,12 +1,16 @@
 -- How far ways of uses are followed.
 use Rattle.std.specs.Prelude.{◌≡◌, ℕ, Bool, true, false, length, slice_get, Some}
 use Rattle.uc_syntax.specs.declared.declaration.Module.{Module}
-use Rattle.uc_meaning.specs.Lookup.{System, module_named}
+use Rattle.uc_meaning.specs.Lookup.{System, InstanceParts, instance_of, instances_of, module_named}
+use Rattle.uc_way_laws.specs.AliasLaw.{IsAmong}
 use Rattle.uc_rules.specs.Cycles.{leads_to, on_instance_cycle}
 use Rattle.uc_order_rules.specs.Roots.{rooted, is_bound_input}
 use Rattle.uc_order_rules.specs.Uses.{Used, UsedDefine, UsedProcedure, UsedInput, uses_of, same_use, all_uses}
-use Rattle.uc_use_laws.specs.Ways.{Leads}
-use Rattle.uc_use_laws.specs.TopLaw.{InstancesStand}
+use Rattle.uc_use_bounds.specs.Ways.{Leads}
+
+-- no two instances of a module have one name
+abbrev pub InstancesStand : System → Type 0
+InstancesStand system = (m : Module) (i : InstanceParts) → IsAmong m system.modules → IsAmong i (instances_of m) → instance_of m i.name ≡ Some i
 
 -- Modules and instances are found by their names, and no module has itself as an instance.
 pub record InstancesEnd (system : System) : Type 0 where

@@ -11,9 +11,9 @@ use Rattle.uc_graph_cycles.proofs.Ways.{by_edge, leads_on}
 use Rattle.uc_way_laws.specs.AliasLaw.{IsAmong}
 use Rattle.uc_order_rules.specs.Roots.{NameAt, name_at}
 use Rattle.uc_order_rules.specs.Uses.{Used, UsedDefine, UsedProcedure, UsedInput, has_way, uses_of}
-use Rattle.uc_use_laws.specs.Ways.{Leads}
-use Rattle.uc_use_laws.proofs.Ways.{Way, Goes, goes_one, goes_on}
-use Rattle.uc_use_laws.proofs.Names.{goes, leads}
+use Rattle.uc_use_bounds.specs.Ways.{Leads}
+use Rattle.uc_use_bounds.proofs.Ways.{Way, Goes, goes_one, goes_on}
+use Rattle.uc_use_bounds.proofs.Names.{goes, leads}
 use Rattle.uc_instance_tree.specs.declared.tree.Node.{Node}
 use Rattle.uc_instance_tree.specs.declared.tree.InstanceTree.{InstanceTree}
 use Rattle.uc_instance_tree.specs.Trees.{IsTree}

@@ -7,7 +7,7 @@ use Rattle.uc_needed_first.specs.Order.{needs}
 use Rattle.uc_graph_cycles.specs.Cycles.{LiesOnCycle}
 use Rattle.uc_order_rules.specs.Roots.{NameAt, is_bound_input}
 use Rattle.uc_order_rules.specs.Uses.{Used, UsedDefine, UsedProcedure, UsedInput, has_way, uses_of}
-use Rattle.uc_use_laws.specs.Ways.{Leads}
+use Rattle.uc_use_bounds.specs.Ways.{Leads}
 use Rattle.uc_instance_tree.specs.declared.tree.InstanceTree.{InstanceTree}
 use Rattle.uc_instance_tree.specs.Trees.{IsTree, node_at}
 use Rattle.uc_use_graph.specs.declared.uses.UseKind.{UseKind}

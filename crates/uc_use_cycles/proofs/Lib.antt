@@ -1,4 +1,0 @@
-pub mod Same
-pub mod Staying
-pub mod Told
-pub mod Whole

@@ -1,4 +1,0 @@
-pub mod Ways
-pub mod RootReads
-pub mod TopLaw
-pub mod GraphLaw

@@ -1,0 +1,3 @@
+pub mod Told
+pub mod Same
+pub mod Judging

@@ -1,0 +1,2 @@
+pub mod RootUses
+pub mod Noted
