@@ -33,11 +33,7 @@ pub fn judged_roots(alloc: Global, design: &DesignNames) -> Result<Items<bool>, 
 }
 
 /// Whether a root has neither too long a chain of instances nor too many of them.
-fn is_within(
-    system: SystemRef<'_>,
-    number: usize,
-    is_deep: bool,
-) -> Result<bool, AllocError>
+fn is_within(system: SystemRef<'_>, number: usize, is_deep: bool) -> Result<bool, AllocError>
     ensures { IfOk result (λ b. b ≡ not (is_deep || has_many_instances (rooted (system_in system.entry) number))) }
 {
     if is_deep {
