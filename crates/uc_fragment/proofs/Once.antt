@@ -1,9 +1,8 @@
 -- Lists in which one element at most passes a test.
-use Rattle.std.proofs.Common.{◌≡◌, ℕ, ◌<◌, ◌+◌, List, [], ◌∷◌, length, get_or, take, drop, ◌-◌, ◌≤◌, Bool, true, false, not, ◌&&◌, nat_le, cond, refl, ap, ◌∙◌, sym, rules, arith}
+use Rattle.std.proofs.Common.{◌≡◌, ℕ, ◌<◌, ◌+◌, List, [], ◌∷◌, length, get_or, take, ◌≤◌, Bool, true, false, not, nat_le, cond, refl, ap, ◌∙◌, sym, rules, arith}
 use Rattle.std.specs.List.{list_any, filter, count_by}
 use Rattle.std.proofs.lemmas.List.Sums.{length-filter, count_by_more_yes, count_by_more_no}
-use Rattle.std.proofs.lemmas.List.{at_drop_more, take_rest, take_all}
-use Rattle.std.proofs.Math.ListN.{drop_of_length-le}
+use Rattle.std.proofs.lemmas.List.{take_all}
 use Rattle.uc_meaning.specs.Fragment.{at_most_one, at_most_one_after}
 
 none_turn : {A : Type 0} (p : A → Bool) (x : A) (xs : List A) (b : Bool) → p x ≡ b → not (list_any p xs) ≡ nat_le (length (filter p xs)) 0 →

@@ -2,6 +2,10 @@
 use Rattle.std.specs.Prelude.{ℕ, Bool, true, false, ◌&&◌, nat_eq, nat_le, List, [], ◌∷◌, Option, Some, None}
 use Rattle.std.specs.List.{list_all}
 use Rattle.uc_syntax.specs.declared.place.Identifier.{Identifier}
+use Rattle.uc_syntax.specs.declared.type_expression.TypeExpr.{TypeExpr}
+use Rattle.uc_syntax.specs.declared.type_expression.TypeExpr.TheOpen.{TypeExpr-F}
+use Rattle.uc_syntax.specs.declared.type_expression.TypeExpr.TheOpen.TypeExpr-F.{Record, Array}
+use Rattle.uc_syntax.specs.declared.type_expression.TypeExpr.TheFolds.{fold-TypeExpr}
 use Rattle.uc_syntax.specs.declared.declaration.WrittenRun.TheVariants.{Unroll}
 use Rattle.uc_syntax.specs.declared.declaration.Command.{Command}
 use Rattle.uc_syntax.specs.declared.declaration.Command.TheVariants.{Run, Check, PrintResults, PrintCounterexamples}
@@ -53,9 +57,18 @@ runs_once cells other = false
 
 -- ---- declarations
 
--- a declaration of a type, of variables, inputs or outputs, a block, an invariant, or a control block that runs once
+-- no array stands in a written type
+abbrev pub spares_arrays_form : TypeExpr-F Bool → Bool
+spares_arrays_form (Record place fields) = list_all (λ p. p.ty) fields
+spares_arrays_form (Array place index element) = false
+spares_arrays_form other = true
+
+unfoldable pub spares_arrays : TypeExpr → Bool
+spares_arrays = fold-TypeExpr Bool spares_arrays_form
+
+-- an alias of a type without arrays, a declaration of variables, inputs or outputs, a block, an invariant, or a control block that runs once
 abbrev pub is_plain_decl : List ℕ → Decl → Bool
-is_plain_decl cells (TypeAlias place i type) = true
+is_plain_decl cells (TypeAlias place i type) = spares_arrays type
 is_plain_decl cells (Variables place kind is type) = true
 is_plain_decl cells (Init place block) = true
 is_plain_decl cells (Next place block) = true

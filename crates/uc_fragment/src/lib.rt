@@ -4,6 +4,7 @@
 mod blocks;
 mod control;
 mod plain;
+mod types;
 
 pub use control::{MOST_STEPS, is_print, variables};
 pub use plain::is_plain;

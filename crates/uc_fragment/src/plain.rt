@@ -7,6 +7,7 @@ ghost use Rattle.uc_fragment.specs.Plain.{with_variables, is_plain_decl, is_plai
 
 use crate::blocks::at_most_one_control;
 use crate::control::{runs_once, variables};
+use crate::types::spares_arrays;
 use std::alloc::{AllocError, Global};
 use uc_syntax::{Decl, Module};
 use uc_type_names::NameSet;
@@ -15,7 +16,7 @@ fn is_plain_decl(cells: &NameSet, decl: &Decl) -> bool
     ensures { result ≡ is_plain_decl cells.now decl.now }
 {
     match decl {
-        Decl::TypeAlias(..) => true,
+        Decl::TypeAlias(_, _, ty) => spares_arrays(ty),
         Decl::Variables(..) => true,
         Decl::Init(..) => true,
         Decl::Next(..) => true,
