@@ -29,10 +29,10 @@ use Rattle.uc_flat_design.specs.Design.{flat_cell, next_names, next_arranged, Is
 use Rattle.uc_flat_design.specs.Laws.{IsInitialThere, IsInitialHere, InitialLaw, IsStepThere, IsStepHere, StepLaw}
 use Rattle.uc_flat_design.proofs.Tables.{fit_cells, fit_types, all_plain, no_instances, init_table}
 use Rattle.uc_flat_design.proofs.NextTable.{next_table}
-use Rattle.uc_first_free.specs.Arranged.{IsReordered}
+use Rattle.uc_flat_order.specs.Arranged.{IsTakenFrom}
 use Rattle.uc_flat_code.specs.Code.{code_of}
-use Rattle.uc_flat_order.proofs.Coded.{built_in_any_order}
-use Rattle.uc_flat_order.proofs.Pairs.{arranged_has}
+use Rattle.uc_flat_order.proofs.GuardedCode.{built_if_taken}
+use Rattle.uc_flat_order.proofs.Pairs.{block_taken}
 
 some_same : {A : Type 0} (x y : A) → Some x ≡ Some y → x ≡ y
 some_same x y h = cc
@@ -73,7 +73,7 @@ init_is system code f d i cells left =
 pub next_built : (system : System) (code : Module) (f : Flat) → IsFlatOf system code f → (flat : List Statement) × (code_of (next_names system code) (primed_behind (length (cells_of system))) (next_of code) ≡ Some flat)
 next_built system code f d =
     let w = primed_behind (length (cells_of system)) in
-    built_in_any_order (next_names system code) w (next_arranged system code) (next_of code) d.next (arranged_has (next_names system code) (length (cells_of system)) (next_of code)) d.next_is
+    built_if_taken (next_names system code) w (next_arranged system code) (next_of code) d.next (block_taken (next_names system code) (length (cells_of system)) (next_of code)) d.next_is
 
 -- an ending over cells from one of the design, and the other way round
 from_ending : (i : Interp) (types : List Ty) (others : List Value) (e : Ending) (o : Option Placed) (r : Running) → EndAlike i types others e o → e ≡ Goes r → (p : Placed) × (o ≡ Some p) × AreAt i types others r p
@@ -177,8 +177,8 @@ module _ (system : System) (code : Module) (f : Flat) (i : Interp) (m : Model) (
   next_code : IsNextCode system m (next_names system code) i (cells_of system) (next_arranged system code) d.next
   next_code = record { table = next_table system code (alone_of system code f d) m d.types i; plain = all_plain (types_of system) d.types; is = d.next_is }
 
-  same_statements : IsReordered (next_arranged system code) (next_of code)
-  same_statements = arranged_has (next_names system code) (length (cells_of system)) (next_of code)
+  same_statements : IsTakenFrom (next_arranged system code) (next_of code)
+  same_statements = block_taken (next_names system code) (length (cells_of system)) (next_of code)
 
   pub next_is : main_next system ≡ next_of code
   next_is = ap (λ o. flat_map next_of (as_list o)) (main_is system code f d) ∙ append-nil (next_of code)

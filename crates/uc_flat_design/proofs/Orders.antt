@@ -1,5 +1,5 @@
--- What statements ask of two states does not depend on their order.
-use Rattle.std.proofs.Common.{◌≡◌, ℕ, ◌+◌, List, [], ◌∷◌, ◌++◌, map, length, refl, sym, ap, ◌∙◌, subst, true, false, Bool, Option, Some, None}
+-- What statements ask of two states does not depend on their order, and is what their guarded statements ask.
+use Rattle.std.proofs.Common.{◌≡◌, ℕ, ◌+◌, List, [], ◌∷◌, ◌++◌, map, length, refl, sym, ap, ◌∙◌, subst, true, false, Bool, Option, Some, None, ⊎_elim}
 use Rattle.std.specs.Prelude.{◌&&◌, ◌||◌, nat_eq}
 use Rattle.std.specs.Option.{is_some}
 use Rattle.std.specs.List.{list_all, list_any}
@@ -22,6 +22,10 @@ use Rattle.uc_flat_code.specs.Code.{MayBe, statement_of, code_of}
 use Rattle.uc_first_free.specs.Arranged.{IsReordered}
 use Rattle.uc_first_free.proofs.Arranged.{and_true, all_reordered}
 use Rattle.uc_flat_order.proofs.Coded.{is_coded, coded}
+use Rattle.uc_guarded.specs.Guarded.{all_guarded}
+use Rattle.uc_guarded.specs.Laws.{IsIn, AllStay}
+use Rattle.uc_guarded.proofs.Asked.{code_asked}
+use Rattle.uc_flat_order.specs.Arranged.{IsTakenFrom}
 use Rattle.uc_flat_design.specs.Next.{between, primed_behind, IsNextTable, IsAsked}
 use Rattle.uc_flat_design.proofs.Effects.{Effect, parts_in, all_agree, agree_append, writes_none, kept_true}
 use Rattle.uc_flat_design.proofs.Told.{both, asked, asks_both, statement_gives}
@@ -186,15 +190,71 @@ module _ (system : System) (blocks : Blocks) (i : Interp) (m : Model) (types : L
           }
 
   -- from a block to its statements in some order that have code
-  pub asked_in_order : (cells : List Cell) (order code : List Stmt) (flat : List Statement) (choices : List Value) (sites : List Site) → IsReordered order code → code_of names (primed_behind n) order ≡ Some flat
+  asked_in_turn : (cells : List Cell) (order code : List Stmt) (flat : List Statement) (choices : List Value) (sites : List Site) → IsReordered order code → code_of names (primed_behind n) order ≡ Some flat
       → IsAsked system blocks i cells code old new choices sites → IsAsked system blocks i cells order old new choices sites
-  asked_in_order cells order code flat choices sites same is a =
+  asked_in_turn cells order code flat choices sites same is a =
       let c = coded names (primed_behind n) order flat is in
       asked_alike cells code order choices sites (sym (all_reordered (is_coded names (primed_behind n)) order code same) ∙ c) c (same_turned types new (all_effects order) (all_effects code) (in_any_order types new effect_of order code same)) a
 
   -- and back
-  pub asked_of_block : (cells : List Cell) (order code : List Stmt) (flat : List Statement) (choices : List Value) (sites : List Site) → IsReordered order code → code_of names (primed_behind n) order ≡ Some flat
+  asked_in_text : (cells : List Cell) (order code : List Stmt) (flat : List Statement) (choices : List Value) (sites : List Site) → IsReordered order code → code_of names (primed_behind n) order ≡ Some flat
       → IsAsked system blocks i cells order old new choices sites → IsAsked system blocks i cells code old new choices sites
-  asked_of_block cells order code flat choices sites same is a =
+  asked_in_text cells order code flat choices sites same is a =
       let c = coded names (primed_behind n) order flat is in
       asked_alike cells order code choices sites c (sym (all_reordered (is_coded names (primed_behind n)) order code same) ∙ c) (in_any_order types new effect_of order code same) a
+
+  -- ---- guarded statements
+
+  stays_asked : (e : Option (List Effect)) (w : Watched) → w.scope ≡ here → IsIn here (seen_by e w)
+  stays_asked None w h = tt
+  stays_asked (Some ms) w h = by_test (all_agree types new ms)
+    where
+      by_test : (b : Bool) → IsIn here (kept_if b (writes (parts_in ms) w))
+      by_test true = h
+      by_test false = tt
+
+  -- statements that have code leave the scope as it is
+  coded_stay : (code : List Stmt) → list_all (is_coded names (primed_behind n)) code ≡ true → AllStay here (map (check_statement system blocks) code)
+  coded_stay [] h = tt
+  coded_stay (s ∷ code) h =
+      let a = and_true (is_coded names (primed_behind n) s) (list_all (is_coded names (primed_behind n)) code) h in
+      (λ w f. subst (IsIn here) (sym (one_asks s (flat_of_one s) refl a.0 w f)) (stays_asked (effect_by s (flat_of_one s) refl) w f), coded_stay code a.1)
+
+  guarded_ask : (code : List Stmt) → list_all (is_coded names (primed_behind n)) (all_guarded code) ≡ true → (w : Watched) → w.scope ≡ here → check_by system blocks (all_guarded code) w ≡ check_by system blocks code w
+  guarded_ask code h w f = code_asked system blocks here code (coded_stay (all_guarded code) h) w f
+
+  guarded_code : (order code : List Stmt) (flat : List Statement) → IsReordered order (all_guarded code) → code_of names (primed_behind n) order ≡ Some flat → list_all (is_coded names (primed_behind n)) (all_guarded code) ≡ true
+  guarded_code order code flat apart is = sym (all_reordered (is_coded names (primed_behind n)) order (all_guarded code) apart) ∙ coded names (primed_behind n) order flat is
+
+  to_guarded : (cells : List Cell) (code : List Stmt) (choices : List Value) (sites : List Site) → list_all (is_coded names (primed_behind n)) (all_guarded code) ≡ true
+      → IsAsked system blocks i cells code old new choices sites → IsAsked system blocks i cells (all_guarded code) old new choices sites
+  to_guarded cells code choices sites h a = record {
+    seen = a.seen;
+    holds = guarded_ask code h (watched_first i (state_of old) (state_of new) choices) refl ∙ a.holds;
+    uses_all = a.uses_all;
+    lists = a.lists;
+    keeps = a.keeps;
+  }
+
+  from_guarded : (cells : List Cell) (code : List Stmt) (choices : List Value) (sites : List Site) → list_all (is_coded names (primed_behind n)) (all_guarded code) ≡ true
+      → IsAsked system blocks i cells (all_guarded code) old new choices sites → IsAsked system blocks i cells code old new choices sites
+  from_guarded cells code choices sites h a = record {
+    seen = a.seen;
+    holds = sym (guarded_ask code h (watched_first i (state_of old) (state_of new) choices) refl) ∙ a.holds;
+    uses_all = a.uses_all;
+    lists = a.lists;
+    keeps = a.keeps;
+  }
+
+  -- from a block to what is taken from it, and back
+  pub asked_in_order : (cells : List Cell) (order code : List Stmt) (flat : List Statement) (choices : List Value) (sites : List Site) → IsTakenFrom order code → code_of names (primed_behind n) order ≡ Some flat
+      → IsAsked system blocks i cells code old new choices sites → IsAsked system blocks i cells order old new choices sites
+  asked_in_order cells order code flat choices sites taken is a =
+      ⊎_elim (λ whole. asked_in_turn cells order code flat choices sites whole is a)
+      (λ apart. asked_in_turn cells order (all_guarded code) flat choices sites apart is (to_guarded cells code choices sites (guarded_code order code flat apart is) a)) taken
+
+  pub asked_of_block : (cells : List Cell) (order code : List Stmt) (flat : List Statement) (choices : List Value) (sites : List Site) → IsTakenFrom order code → code_of names (primed_behind n) order ≡ Some flat
+      → IsAsked system blocks i cells order old new choices sites → IsAsked system blocks i cells code old new choices sites
+  asked_of_block cells order code flat choices sites taken is a =
+      ⊎_elim (λ whole. asked_in_text cells order code flat choices sites whole is a)
+      (λ apart. from_guarded cells code choices sites (guarded_code order code flat apart is) (asked_in_text cells order (all_guarded code) flat choices sites apart is a)) taken

@@ -24,9 +24,9 @@ use Rattle.uc_flat_code.specs.declared.writing.Writing.{Writing}
 use Rattle.uc_flat_code.specs.Code.{code_of}
 use Rattle.uc_flat_design.specs.Tables.{Scopes, IsSaid}
 use Rattle.uc_same_values.specs.Same.{has_no_array}
-use Rattle.uc_first_free.specs.Arranged.{IsReordered}
 use Rattle.uc_flat_once.specs.declared.once.Part.{Part}
 use Rattle.uc_flat_once.specs.Once.{written_by}
+use Rattle.uc_flat_order.specs.Arranged.{IsTakenFrom}
 
 -- in main, between an old and a new state
 abbrev pub between : Interp → List Value → Scopes
@@ -91,7 +91,7 @@ pub record IsNextCode (system : System) (m : Model) (names : List Meant) (i : In
   pub plain : All (λ ty. has_no_array ty ≡ true) (types_in cells)
   pub is : code_of names (primed_behind (length cells)) code ≡ Some flat
 
--- Where the next block holds between two states, with no choices and no sites, the code over cells of its statements in some order leads from the one to the other, if no way through them in this order writes a part of a cell after it was written there, or read in the new state.
+-- Where the next block holds between two states, with no choices and no sites, the code over cells of its statements, or of its guarded statements, in some order leads from the one to the other, if no way through them in this order writes a part of a cell after it was written there, or read in the new state.
 pub record IsFound (m : Model) (cells : List Cell) (flat : List Statement) (old new choices : List Value) (sites : List Site) : Type 0 where
   pub no_choices : choices ≡ []
   pub no_sites : sites ≡ []
@@ -100,7 +100,7 @@ pub record IsFound (m : Model) (cells : List Cell) (flat : List Statement) (old 
 abbrev pub StepFoundLaw : Type 0
 StepFoundLaw =
     (system : System) (blocks : Blocks) (i : Interp) (m : Model) (names : List Meant) (cells : List Cell) (code order : List Stmt) (flat : List Statement) (old new choices : List Value) (sites : List Site) (after : List Part)
-    → IsReordered order code → IsNextCode system m names i cells order flat → written_by names (length cells) order [] ≡ Some after → FitAll (types_in cells) old → FitAll (types_in cells) new
+    → IsTakenFrom order code → IsNextCode system m names i cells order flat → written_by names (length cells) order [] ≡ Some after → FitAll (types_in cells) old → FitAll (types_in cells) new
     → IsAsked system blocks i cells code old new choices sites → IsFound m cells flat old new choices sites
 
 -- Where that code over cells leads from one state to another, the next block holds between the two, with no choices and no sites.
@@ -112,7 +112,7 @@ pub record IsStepThere (system : System) (blocks : Blocks) (i : Interp) (cells :
 abbrev pub StepIsLaw : Type 0
 StepIsLaw =
     (system : System) (blocks : Blocks) (i : Interp) (m : Model) (names : List Meant) (cells : List Cell) (code order : List Stmt) (flat : List Statement) (old new choices : List Value) (sites : List ℕ) (after : List Part)
-    → IsReordered order code → IsNextCode system m names i cells order flat → written_by names (length cells) order [] ≡ Some after → FitAll (types_in cells) old → FitAll (types_in cells) new
+    → IsTakenFrom order code → IsNextCode system m names i cells order flat → written_by names (length cells) order [] ≡ Some after → FitAll (types_in cells) old → FitAll (types_in cells) new
     → IsReached m (types_in cells) (step_code cells flat) old new choices sites → IsStepThere system blocks i cells code old new choices sites
 
 -- The code over cells leads from fitting cells to fitting cells.

@@ -10,8 +10,11 @@ use Rattle.uc_flat_expressions.specs.declared.typed.FlatError.{FlatError}
 use Rattle.uc_flat_expressions.specs.Answers.{IsAnswer}
 use Rattle.uc_flat_code.specs.declared.writing.Writing.{Writing}
 use Rattle.uc_flat_code.specs.Code.{MayBe, in_order, statement_of, code_of}
-use Rattle.uc_flat_order.specs.Arranged.{block_arranged, code_arranged}
+use Rattle.uc_flat_once.specs.Once.{code_once}
+use Rattle.uc_guarded.specs.Guarded.{all_guarded}
+use Rattle.uc_flat_order.specs.Arranged.{in_turn, code_arranged}
 use Rattle.uc_flat_order.specs.Uses.{code_at, IsOrder}
+use Rattle.uc_flat_order.proofs.Pairs.{block_whole, block_apart}
 
 pub one_there : (code : List Stmt) (k : ℕ) → k < length code → take (k + 1 - k) (drop k code) ≡ option_to_list (slice_get code k)
 one_there code k l = let one : k + 1 - k ≡ 1 = omega arith in ap (λ n. take n (drop k code)) one ∙ at code k l
@@ -44,10 +47,18 @@ along_is names w code (k ∷ order) =
     by_case None = nothing_first (code_of names w (filter_map (slice_get code) order))
     by_case (Some s) = alone (statement_of names w s) (code_of names w (filter_map (slice_get code) order))
 
-pub along_answer : (names : List Meant) (w : Writing) (code : List Stmt) (order : List ℕ) (r : Result (List Statement) FlatError) → IsOrder names w.shift code (Some order) → IsAnswer (in_order (map (code_at names w code) order)) r → IsAnswer (code_arranged names w code) r
+pub along_answer : (names : List Meant) (w : Writing) (code : List Stmt) (order : List ℕ) (r : Result (List Statement) FlatError) → IsOrder names w.shift code (Some order) → IsAnswer (in_order (map (code_at names w code) order)) r → IsAnswer (code_once names w (in_turn names w.shift code)) r
 along_answer names w code order r is h =
     subst (λ o. IsAnswer o r)
-    (along_is names w code order ∙ ap (λ xs. code_of names w xs) is.0 ∙ sym (ap (λ b. if b then code_of names w (block_arranged names w.shift code) else None) is.1)) h
+    (along_is names w code order ∙ ap (λ xs. code_of names w xs) is.0 ∙ sym (ap (λ b. if b then code_of names w (in_turn names w.shift code) else None) is.1)) h
 
-pub none_answer : (names : List Meant) (w : Writing) (code : List Stmt) → IsOrder names w.shift code None → code_arranged names w code ≡ None
-none_answer names w code h = ap (λ b. if b then code_of names w (block_arranged names w.shift code) else None) h
+pub none_answer : (names : List Meant) (w : Writing) (code : List Stmt) → IsOrder names w.shift code None → code_once names w (in_turn names w.shift code) ≡ None
+none_answer names w code h = ap (λ b. if b then code_of names w (in_turn names w.shift code) else None) h
+
+-- the block as it stands
+pub whole_answer : (names : List Meant) (w : Writing) (code : List Stmt) (order : List ℕ) (r : Result (List Statement) FlatError) → IsOrder names w.shift code (Some order) → IsAnswer (in_order (map (code_at names w code) order)) r → IsAnswer (code_arranged names w code) r
+whole_answer names w code order r is h = subst (λ xs. IsAnswer (code_once names w xs) r) (sym (block_whole names w.shift code is.1)) (along_answer names w code order r is h)
+
+-- its guarded statements
+pub apart_answer : (names : List Meant) (w : Writing) (code : List Stmt) (r : Result (List Statement) FlatError) → IsOrder names w.shift code None → IsAnswer (code_once names w (in_turn names w.shift (all_guarded code))) r → IsAnswer (code_arranged names w code) r
+apart_answer names w code r is h = subst (λ xs. IsAnswer (code_once names w xs) r) (sym (block_apart names w.shift code is)) h

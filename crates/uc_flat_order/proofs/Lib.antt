@@ -1,5 +1,6 @@
 pub mod Pairs
 pub mod Coded
+pub mod GuardedCode
 pub mod Orders
 mod Used
 mod Along

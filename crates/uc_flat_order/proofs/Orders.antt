@@ -13,7 +13,7 @@ use Rattle.uc_first_free.specs.Places.{numbers_from, Follows, IsPlaced}
 use Rattle.uc_first_free.proofs.Arranged.{and_true, true_and, all_reordered, keeps_items, arranged_mapped, order_mapped}
 use Rattle.uc_flat_once.specs.Once.{each_writes, written_by}
 use Rattle.uc_flat_order.specs.declared.uses.Uses.{Uses}
-use Rattle.uc_flat_order.specs.Arranged.{may_go, block_arranged}
+use Rattle.uc_flat_order.specs.Arranged.{may_go, in_turn}
 use Rattle.uc_flat_order.specs.Uses.{spared, use_of, AreNeeds, IsOrder}
 use Rattle.uc_flat_order.proofs.Pairs.{fine, parts, writes, pair_is, arranged_is, arranged_not}
 use Rattle.uc_flat_order.proofs.Used.{own, used, unused}
@@ -110,10 +110,10 @@ module _ (names : List Meant) (n : ℕ) where
     whole : code ≡ map at numbers
     whole = sym (by_places code d) ∙ ap (λ k. map at (numbers_from 0 k)) (sym count)
 
-    arranged_by_places : block_arranged names n code ≡ map at (arranged goes numbers)
+    arranged_by_places : in_turn names n code ≡ map at (arranged goes numbers)
     arranged_by_places = ap (λ ss. arranged (may_go names n) ss) whole ∙ arranged_mapped at (may_go names n) numbers
 
-    order_by_places : in_order (may_go names n) (block_arranged names n code) ≡ in_order goes (arranged goes numbers)
+    order_by_places : in_order (may_go names n) (in_turn names n code) ≡ in_order goes (arranged goes numbers)
     order_by_places = ap (in_order (may_go names n)) arranged_by_places ∙ order_mapped at (may_go names n) (arranged goes numbers)
 
     placed : (o : Option (List ℕ)) → IsPlaced graph o → IsOrder names n code o

@@ -1,5 +1,5 @@
 -- Code writes no part again where no statement does so by itself, nor of two of them the second after the first.
-use Rattle.std.proofs.Common.{◌≡◌, ℕ, List, [], ◌∷◌, ◌++◌, map, refl, sym, ap, ◌∙◌, true, false, Bool, Some, None}
+use Rattle.std.proofs.Common.{◌≡◌, ℕ, List, [], ◌∷◌, ◌++◌, map, refl, sym, ap, ◌∙◌, true, false, Bool, Some, None, inl, inr, ⊎_elim}
 use Rattle.std.specs.Prelude.{if◌then◌else◌, ◌&&◌, not}
 use Rattle.std.specs.Option.{is_some}
 use Rattle.std.specs.List.{flat_map, list_all}
@@ -12,7 +12,8 @@ use Rattle.uc_flat_once.specs.declared.once.Part.{Part}
 use Rattle.uc_flat_once.specs.Once.{touched, each_writes, writer, written_by}
 use Rattle.uc_flat_once.specs.Written.{written_parts}
 use Rattle.uc_flat_once.proofs.Shapes.{as_writer, Shape, spared_none, one_more_is, statement_shape}
-use Rattle.uc_flat_order.specs.Arranged.{may_go, block_arranged}
+use Rattle.uc_guarded.specs.Guarded.{all_guarded}
+use Rattle.uc_flat_order.specs.Arranged.{may_go, in_turn, is_once, block_arranged, IsTakenFrom}
 use Rattle.uc_flat_order.specs.Laws.{OrderLaw}
 use Rattle.uc_flat_order.specs.Uses.{spared}
 
@@ -119,35 +120,69 @@ module _ (names : List Meant) (n : ℕ) where
       true_and (fine s) (list_all fine xs) a.0 (each_fine xs b.0)
 
   -- the statements in another order
-  pub arranged_has : (code : List Stmt) → IsReordered (block_arranged names n code) code
+  pub arranged_has : (code : List Stmt) → IsReordered (in_turn names n code) code
   arranged_has code = keeps_items (may_go names n) _ code
 
-  pub arranged_fine : (code : List Stmt) → list_all fine (block_arranged names n code) ≡ list_all fine code
-  arranged_fine code = all_reordered fine (block_arranged names n code) code (arranged_has code)
+  pub arranged_fine : (code : List Stmt) → list_all fine (in_turn names n code) ≡ list_all fine code
+  arranged_fine code = all_reordered fine (in_turn names n code) code (arranged_has code)
 
-  pub arranged_is : (code : List Stmt) → list_all fine code ≡ true → is_some (written_by names n (block_arranged names n code) []) ≡ in_order (may_go names n) (block_arranged names n code)
-  arranged_is code h = once_is (block_arranged names n code) ∙ order_is (block_arranged names n code) (arranged_fine code ∙ h)
+  pub arranged_is : (code : List Stmt) → list_all fine code ≡ true → is_some (written_by names n (in_turn names n code) []) ≡ in_order (may_go names n) (in_turn names n code)
+  arranged_is code h = once_is (in_turn names n code) ∙ order_is (in_turn names n code) (arranged_fine code ∙ h)
 
   -- a statement that is at odds with itself is so in any order
-  pub arranged_not : (code : List Stmt) → list_all fine code ≡ false → is_some (written_by names n (block_arranged names n code) []) ≡ false
-  arranged_not code h = by_test (all_fine (block_arranged names n code)) refl
+  pub arranged_not : (code : List Stmt) → list_all fine code ≡ false → is_some (written_by names n (in_turn names n code) []) ≡ false
+  arranged_not code h = by_test (all_fine (in_turn names n code)) refl
     where
       true_false : true ≡ false → ⊥
       true_false e = cc
 
-      by_test : (b : Bool) → all_fine (block_arranged names n code) ≡ b → is_some (written_by names n (block_arranged names n code) []) ≡ false
-      by_test true e = absurd (true_false (sym (each_fine (block_arranged names n code) e) ∙ arranged_fine code ∙ h))
-      by_test false e = once_is (block_arranged names n code) ∙ e
+      by_test : (b : Bool) → all_fine (in_turn names n code) ≡ b → is_some (written_by names n (in_turn names n code) []) ≡ false
+      by_test true e = absurd (true_false (sym (each_fine (in_turn names n code) e) ∙ arranged_fine code ∙ h))
+      by_test false e = once_is (in_turn names n code) ∙ e
+
+  -- in turn the statements write no part again where some order of them writes none
+  enough_in_turn : (code other : List Stmt) → IsReordered other code → is_once names n other ≡ true → is_once names n (in_turn names n code) ≡ true
+  enough_in_turn code other r h =
+      let whole : all_fine other ≡ true = sym (once_is other) ∙ h in
+      let each = each_fine other whole in
+      let own : list_all fine code ≡ true = sym (all_reordered fine other code r) ∙ each in
+      arranged_is code own ∙ ordered_if_any (may_go names n) _ code other refl r (sym (order_is other each) ∙ whole)
+
+  stays_in_turn : (code : List Stmt) → is_once names n code ≡ true → in_turn names n code ≡ code
+  stays_in_turn code h =
+      let whole : all_fine code ≡ true = sym (once_is code) ∙ h in
+      in_order_stays (may_go names n) _ code (sym (order_is code (each_fine code whole)) ∙ whole)
+
+  -- ---- the block as it is run
+
+  pub block_whole : (code : List Stmt) → is_once names n (in_turn names n code) ≡ true → block_arranged names n code ≡ in_turn names n code
+  block_whole code h = ap (λ b. if b then in_turn names n code else in_turn names n (all_guarded code)) h
+
+  pub block_apart : (code : List Stmt) → is_once names n (in_turn names n code) ≡ false → block_arranged names n code ≡ in_turn names n (all_guarded code)
+  block_apart code h = ap (λ b. if b then in_turn names n code else in_turn names n (all_guarded code)) h
+
+  pub block_taken : (code : List Stmt) → IsTakenFrom (block_arranged names n code) code
+  block_taken code = by_test (is_once names n (in_turn names n code))
+    where
+      by_test : (b : Bool) → IsTakenFrom (if b then in_turn names n code else in_turn names n (all_guarded code)) code
+      by_test true = inl (arranged_has code)
+      by_test false = inr (arranged_has (all_guarded code))
+
+  block_enough : (code other : List Stmt) → IsTakenFrom other code → is_once names n other ≡ true → is_once names n (block_arranged names n code) ≡ true
+  block_enough code other r h = by_test (is_once names n (in_turn names n code)) refl
+    where
+      true_not_false : true ≡ false → ⊥
+      true_not_false e = cc
+
+      by_test : (b : Bool) → is_once names n (in_turn names n code) ≡ b → is_once names n (if b then in_turn names n code else in_turn names n (all_guarded code)) ≡ true
+      by_test true e = e
+      by_test false e = ⊎_elim (λ whole. absurd (true_not_false (sym (enough_in_turn code other whole h) ∙ e))) (λ apart. enough_in_turn (all_guarded code) other apart h) r
 
 pub order_holds : OrderLaw
 order_holds = record {
-  same = λ names n code. arranged_has names n code;
-  enough = λ names n code other r h.
-      let whole : all_fine names n other ≡ true = sym (once_is names n other) ∙ h in
-      let each = each_fine names n other whole in
-      let own : list_all (fine names n) code ≡ true = sym (all_reordered (fine names n) other code r) ∙ each in
-      arranged_is names n code own ∙ ordered_if_any (may_go names n) _ code other refl r (sym (order_is names n other each) ∙ whole);
+  same = λ names n code. block_taken names n code;
+  enough = λ names n code other r h. block_enough names n code other r h;
   stays = λ names n code h.
-      let whole : all_fine names n code ≡ true = sym (once_is names n code) ∙ h in
-      in_order_stays (may_go names n) _ code (sym (order_is names n code (each_fine names n code whole)) ∙ whole);
+      let whole = stays_in_turn names n code h in
+      block_whole names n code (ap (is_once names n) whole ∙ h) ∙ whole;
 }

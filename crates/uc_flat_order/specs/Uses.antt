@@ -11,7 +11,7 @@ use Rattle.uc_flat_once.specs.declared.once.Part.{Part}
 use Rattle.uc_flat_once.specs.Once.{touched, writer, written_by}
 use Rattle.uc_flat_once.specs.Written.{written_parts}
 use Rattle.uc_flat_order.specs.declared.uses.Uses.{Uses}
-use Rattle.uc_flat_order.specs.Arranged.{block_arranged}
+use Rattle.uc_flat_order.specs.Arranged.{in_turn}
 
 -- no part of the second list overlaps one of the first
 abbrev pub spared : List Part → List Part → Bool
@@ -30,7 +30,7 @@ pub record AreNeeds (uses : List Uses) (graph : List (List ℕ)) : Type 0 where
   pub each : length graph ≡ length uses
   pub are : (i j : ℕ) (u v : Uses) → slice_get uses i ≡ Some u → slice_get uses j ≡ Some v → has (needs graph i) j ≡ not (spared u.parts v.writes)
 
--- the places of the statements as they are arranged, where this writes no part again
+-- the places of the statements in turn, where this writes no part again
 abbrev pub IsOrder : List Meant → ℕ → List Stmt → Option (List ℕ) → Type 0
-IsOrder names n code (Some order) = (filter_map (slice_get code) order ≡ block_arranged names n code) × (is_some (written_by names n (block_arranged names n code) []) ≡ true)
-IsOrder names n code None = is_some (written_by names n (block_arranged names n code) []) ≡ false
+IsOrder names n code (Some order) = (filter_map (slice_get code) order ≡ in_turn names n code) × (is_some (written_by names n (in_turn names n code) []) ≡ true)
+IsOrder names n code None = is_some (written_by names n (in_turn names n code) []) ≡ false

@@ -4,7 +4,9 @@ ghost use Rattle.std.specs.Prelude.{◌≡◌, map, slice_get};
 ghost use Rattle.std.specs.Option.{option_to_list};
 ghost use Rattle.uc_flat_expressions.specs.Answers.{IsAnswer};
 ghost use Rattle.uc_flat_code.specs.Code.{in_order};
-ghost use Rattle.uc_flat_order.specs.Arranged.{code_arranged};
+ghost use Rattle.uc_flat_once.specs.Once.{code_once};
+ghost use Rattle.uc_guarded.specs.Guarded.{all_guarded};
+ghost use Rattle.uc_flat_order.specs.Arranged.{in_turn, code_arranged};
 ghost use Rattle.uc_flat_order.specs.Uses.{code_at};
 
 use crate::uses::order_of;
@@ -12,12 +14,13 @@ use std::alloc::Global;
 use uc_flat::Statement;
 use uc_flat_code::{Writing, flat_code};
 use uc_flat_expressions::{FlatError, Meant};
+use uc_guarded::guarded_statements;
 use uc_items::Items;
 use uc_syntax::Stmt;
 
 /// The code over cells of a next block, where names stand for what is listed by their numbers: that of its statements, each time the first
-/// that may be run before all that are left. Not built is what `flat_code` does not build, and where each order of the statements writes a
-/// part of a cell on some way after it was written there, or read in the new state.
+/// that may be run before all that are left, or, where each order of them writes a part of a cell on some way after it was written there, or
+/// read in the new state, that of its guarded statements. Not built is what `flat_code` does not build, and where these have no such order.
 pub fn code_arranged(
     alloc: Global,
     names: &[Meant],
@@ -25,6 +28,34 @@ pub fn code_arranged(
     code: &[Stmt],
 ) -> Result<Items<Statement>, FlatError>
     ensures { IsAnswer (code_arranged names.now writing code.now) result }
+{
+    match order_of(alloc, names, writing.shift, code)? {
+        Some(order) => code_along(alloc, names, writing, code, order.as_slice()),
+        None => code_apart(alloc, names, writing, code),
+    }
+}
+
+/// The code of the guarded statements of a block.
+fn code_apart(
+    alloc: Global,
+    names: &[Meant],
+    writing: Writing,
+    code: &[Stmt],
+) -> Result<Items<Statement>, FlatError>
+    ensures { IsAnswer (code_once names.now writing (in_turn names.now writing.shift (all_guarded code.now))) result }
+{
+    let statements = guarded_statements(alloc, code)?;
+    code_in_turn(alloc, names, writing, statements.as_slice())
+}
+
+/// The code of statements, each time the first that may be run before all that are left.
+fn code_in_turn(
+    alloc: Global,
+    names: &[Meant],
+    writing: Writing,
+    code: &[Stmt],
+) -> Result<Items<Statement>, FlatError>
+    ensures { IsAnswer (code_once names.now writing (in_turn names.now writing.shift code.now)) result }
 {
     let Some(order) = order_of(alloc, names, writing.shift, code)? else {
         return Err(FlatError::NotBuilt);

@@ -12,7 +12,7 @@ use Rattle.uc_front.specs.declared.refusal.Refusal.TheVariants.{NoFile, TooLong,
 use Rattle.uc_front.specs.Sources.{AreTexts, AreSources, texts_of}
 use Rattle.uc_syntax.specs.Contents.{Contents, design_of}
 use Rattle.uc_meaning.specs.Lookup.{system_of}
-use Rattle.uc_rules.specs.Declarations.{IsFirstFault}
+use Rattle.uc_rules.specs.Declarations.{KeepsRules, IsFirstFault}
 use Rattle.uc_front.specs.Denotes.{names_of, AreSpelled, main_in, main_name, IsDesignOf}
 use Rattle.uc_front.specs.Refused.{IsUnread, IsUnlexed, place_at, refusal_of, IsUnspelled, IsUnbuilt, IsRefused}
 use Rattle.uc_front.specs.Errors.{IsFrontError, IsTextError, IsRuleFault}
@@ -40,15 +40,16 @@ pub no_main : (files : List (List ℕ)) (sources : List Source) (names : List (L
 no_main files sources names modules same all none =
     (modules, subst (λ ns. AreSpelled ns sources modules) same all, ap (λ ns. main_in ns modules) (sym same) ∙ none)
 
--- of the static rules
+-- of the rules
 pub by_rules : (files : List (List ℕ)) (sources : List Source) (d : Contents) (main : ℕ) (e : FrontError) → IsDesignOf files sources (system_of d main) → d ≡ design_of d.names d.files d.modules →
-    IsTextError (IsRuleFault d) e → IsTextError (IsUnbuilt files sources) e
+    IsTextError (IsRuleFault d main) e → IsTextError (IsUnbuilt files sources) e
 by_rules files sources d main NoMemory denoted whole h = tt
 by_rules files sources d main ReadFault denoted whole h = h
 by_rules files sources d main (Refused r) denoted whole h = by r h
   where
-    by : (r : Refusal) → IsRuleFault d r → IsUnbuilt files sources r
-    by (BreaksRule fault) h = (system_of d main, denoted, subst (λ c. IsFirstFault c main_name fault) whole h)
+    by : (r : Refusal) → IsRuleFault d main r → IsUnbuilt files sources r
+    by (BreaksRule fault) (inl h) = (system_of d main, denoted, inl (subst (λ c. IsFirstFault c main_name fault) whole h))
+    by (BreaksRule fault) (inr h) = (system_of d main, denoted, inr (subst (λ c. KeepsRules c main_name) whole h.0, h.1))
     by (NoFile n) h = absurd h
     by (TooLong n) h = absurd h
     by (BadByte p) h = absurd h

@@ -1,5 +1,5 @@
 -- Which design files denote.
-use Rattle.std.specs.Prelude.{◌≡◌, ℕ, Bool, codes, List, [], ◌∷◌, ◌++◌, map, fold, slice_get, unwrap_or, Option, Some}
+use Rattle.std.specs.Prelude.{◌≡◌, ◌⊎◌, ℕ, Bool, codes, List, [], ◌∷◌, ◌++◌, map, fold, slice_get, slice_index_or, Option, Some}
 use Rattle.std.specs.Str.{bytes_eq}
 use Rattle.std.specs.List.{position_from}
 use Rattle.uc_syntax.specs.declared.declaration.Module.{Module}
@@ -10,7 +10,9 @@ use Rattle.uc_grammar.specs.declared.word.Word.{Word}
 use Rattle.uc_grammar.specs.Language.{grammar}
 use Rattle.uc_words.specs.Words.{AreWords, with_tokens}
 use Rattle.uc_meaning.specs.Lookup.{System}
-use Rattle.uc_rules.specs.Declarations.{KeepsRules}
+use Rattle.uc_rules.specs.declared.fault.Fault.{Fault}
+use Rattle.uc_rules.specs.Declarations.{KeepsRules, IsFirstFault}
+use Rattle.uc_order_rules.specs.Order.{KeepsOrder, IsFirstOrderFault}
 use Rattle.uc_runnable.specs.Runnable.{IsRunnable}
 use Rattle.uc_front.specs.declared.lexing.Source.{Source}
 use Rattle.uc_front.specs.Sources.{AreSources}
@@ -48,7 +50,7 @@ main_name = codes "main"
 
 -- whether a module has it
 abbrev pub is_main : List (List ℕ) → Module → Bool
-is_main names m = bytes_eq (unwrap_or (slice_get names m.name) []) main_name
+is_main names m = bytes_eq main_name (slice_index_or names m.name [])
 
 -- the number of the first module that is called so
 abbrev pub main_in : List (List ℕ) → List Module → Option ℕ
@@ -72,9 +74,17 @@ abbrev pub contents_of : System → Contents
 contents_of system = design_of system.names system.files system.modules
 
 -- the design keeps the static rules
-abbrev pub IsKept : System → Type 0
-IsKept system = KeepsRules (contents_of system) main_name
+abbrev pub IsTyped : System → Type 0
+IsTyped system = KeepsRules (contents_of system) main_name
 
--- It denotes one that keeps the static rules and runs today.
+-- the design keeps the static rules, and the rules on order and sizes
+abbrev pub IsKept : System → Type 0
+IsKept system = IsTyped system × KeepsOrder system
+
+-- It breaks a rule: this is the first fault of the static rules, or, where these are kept, of the rules on order and sizes.
+abbrev pub IsFirstBroken : System → Fault → Type 0
+IsFirstBroken system fault = IsFirstFault (contents_of system) main_name fault ⊎ (IsTyped system × IsFirstOrderFault system fault)
+
+-- It denotes one that keeps the rules and runs today.
 abbrev pub IsAccepted : (List ℕ → Option (List ℕ)) → List (List ℕ) → System → Type 0
 IsAccepted held files system = Denotes held files system × IsKept system × IsRunnable system

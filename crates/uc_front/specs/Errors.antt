@@ -1,7 +1,9 @@
 -- What the errors of this crate say.
-use Rattle.std.specs.Prelude.{◌≡◌, ℕ, ◌<◌, List, length, Option, None, IsSomeAnd}
+use Rattle.std.specs.Prelude.{◌≡◌, ◌⊎◌, ℕ, ◌<◌, List, length, Option, None, IsSomeAnd}
 use Rattle.uc_syntax.specs.Contents.{Contents}
-use Rattle.uc_rules.specs.Declarations.{IsFirstFault}
+use Rattle.uc_meaning.specs.Lookup.{System, system_of}
+use Rattle.uc_rules.specs.Declarations.{KeepsRules, IsFirstFault}
+use Rattle.uc_order_rules.specs.Order.{IsFirstOrderFault}
 use Rattle.uc_front.specs.declared.error.FrontError.{FrontError}
 use Rattle.uc_front.specs.declared.error.FrontError.TheVariants.{NoMemory, ReadFault, Refused}
 use Rattle.uc_front.specs.declared.refusal.Refusal.{Refusal}
@@ -25,7 +27,12 @@ IsUnreadFile held file room (NoFile n) = (n ≡ file) × (held ≡ None)
 IsUnreadFile held file room (TooLong n) = (n ≡ file) × IsSomeAnd held (λ text. room < length text)
 IsUnreadFile held file room other = ⊥
 
--- a design is refused for the first fault of the static rules
-abbrev pub IsRuleFault : Contents → Refusal → Type 0
-IsRuleFault d (BreaksRule fault) = IsFirstFault d main_name fault
-IsRuleFault d other = ⊥
+-- a design is refused for the first fault of the static rules, or, where it keeps these, of the rules on order and sizes
+abbrev pub IsRuleFault : Contents → ℕ → Refusal → Type 0
+IsRuleFault d main (BreaksRule fault) = IsFirstFault d main_name fault ⊎ (KeepsRules d main_name × IsFirstOrderFault (system_of d main) fault)
+IsRuleFault d main other = ⊥
+
+-- the same, where the static rules are kept
+abbrev pub IsOrderFault : System → Refusal → Type 0
+IsOrderFault system (BreaksRule fault) = IsFirstOrderFault system fault
+IsOrderFault system other = ⊥

@@ -13,7 +13,6 @@ use Rattle.uc_grammar.specs.declared.word.Word.{Word}
 use Rattle.uc_words.specs.Words.{AreWords}
 use Rattle.uc_built.specs.Outside.{left_at}
 use Rattle.uc_meaning.specs.Lookup.{System, or_else}
-use Rattle.uc_rules.specs.Declarations.{IsFirstFault as IsFirstBroken}
 use Rattle.uc_runnable.specs.Unfit.{unfit_of}
 use Rattle.uc_runnable.specs.Runnable.{IsRunnable}
 use Rattle.uc_front.specs.declared.lexing.Source.{Source}
@@ -21,7 +20,7 @@ use Rattle.uc_front.specs.declared.refusal.Refusal.{Refusal}
 use Rattle.uc_front.specs.declared.refusal.Refusal.TheVariants.{NoFile, TooLong, BadByte, BadNumber, OpenComment, Syntax, TooDeep, TooManyNames, NoMain, BreaksRule, NotBuilt}
 use Rattle.uc_front.specs.Sources.{AreTexts, AreLexed, AreSources, texts_of}
 use Rattle.uc_front.specs.Refusals.{front}
-use Rattle.uc_front.specs.Denotes.{names_of, HasAnswer, AreSpelled, main_in, IsDesignOf, main_name, contents_of, IsKept}
+use Rattle.uc_front.specs.Denotes.{names_of, HasAnswer, AreSpelled, main_in, IsDesignOf, IsKept, IsFirstBroken}
 
 -- Reading refuses: no text has the name of the file of this number; or its text and those before it pass the limit.
 abbrev pub IsUnread : (List ℕ → Option (List ℕ)) → List (List ℕ) → Refusal → Type 0
@@ -70,14 +69,14 @@ AreJoined names (source ∷ sources) ws =
 abbrev pub IsLeftAt : List (List ℕ) → List Source → System → Place → Type 0
 IsLeftAt names sources system p = (ws : List Word) × AreJoined names sources ws × (p ≡ unwrap_or (or_else (left_at false ws) (unfit_of system)) (front 0))
 
--- The passes behind lexing refuse: parsing; no module is called `main`; the design breaks a static rule, and this is the first fault, by its place and then by its
--- number; or it keeps the rules and is none that runs today.
+-- The passes behind lexing refuse: parsing; no module is called `main`; the design breaks a static rule, or else a rule on order or sizes, and this is the first fault, by
+-- its place and then by its number; or it keeps the rules and is none that runs today.
 abbrev pub IsUnbuilt : List (List ℕ) → List Source → Refusal → Type 0
 IsUnbuilt files sources (Syntax p) = IsUnspelled (names_of files sources) sources (Syntax p)
 IsUnbuilt files sources (TooDeep p) = IsUnspelled (names_of files sources) sources (TooDeep p)
 IsUnbuilt files sources (TooManyNames p) = IsUnspelled (names_of files sources) sources (TooManyNames p)
 IsUnbuilt files sources NoMain = (modules : List Module) × AreSpelled (names_of files sources) sources modules × (main_in (names_of files sources) modules ≡ None)
-IsUnbuilt files sources (BreaksRule fault) = (system : System) × IsDesignOf files sources system × IsFirstBroken (contents_of system) main_name fault
+IsUnbuilt files sources (BreaksRule fault) = (system : System) × IsDesignOf files sources system × IsFirstBroken system fault
 IsUnbuilt files sources (NotBuilt p) =
     (system : System) × IsDesignOf files sources system × IsKept system × (IsRunnable system → ⊥) × IsLeftAt (names_of files sources) sources system p
 IsUnbuilt files sources other = ⊥

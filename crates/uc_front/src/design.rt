@@ -1,13 +1,15 @@
 //! From the sources of all files to their design.
 
-ghost use Rattle.std.specs.Prelude.{◌≡◌, ◌∷◌, [], ◌≤◌, ◌<◌, codes, length, map, slice_get, unwrap_or, Some, IsOk, IfOk, IfErr};
+ghost use Rattle.std.specs.Prelude.{◌≡◌, ◌∷◌, [], ◌≤◌, ◌<◌, codes, length, map, slice_get, slice_index_or, Some, IsOk, IfOk, IfErr};
 ghost use Rattle.std.specs.List.{concat, position_from};
 ghost use Rattle.std.specs.Str.{bytes_eq};
 ghost use Rattle.uc_runnable.specs.Runnable.{IsRunnable};
-ghost use Rattle.uc_rules.specs.Declarations.{KeepsRules};
+ghost use Rattle.uc_meaning.specs.Lookup.{system_of};
+ghost use Rattle.uc_rules.specs.Declarations.{KeepsRules, main_number};
+ghost use Rattle.uc_order_rules.specs.Order.{KeepsOrder};
 ghost use Rattle.uc_syntax.specs.Contents.{design_of};
 ghost use Rattle.uc_front.specs.Denotes.{AreSpelled, IsDesignOf, IsKept, names_of, is_main, main_in, main_name};
-ghost use Rattle.uc_front.specs.Errors.{IsRuleFault, IsTextError};
+ghost use Rattle.uc_front.specs.Errors.{IsOrderFault, IsRuleFault, IsTextError};
 ghost use Rattle.uc_front.specs.Refused.{IsUnbuilt, IsUnspelled};
 ghost use Rattle.uc_front.specs.Sources.{words_of, AreLexed, texts_of};
 
@@ -19,11 +21,12 @@ use crate::reading::MAX_FILES;
 use crate::refusal::Refusal;
 use std::alloc::Global;
 use uc_lexer::MAX_TEXT;
+use uc_order::{OrderError, order};
 use uc_runnable::{NotRunnable, Runnable};
 use uc_syntax::{Design, Module, Names};
-use uc_types::{TypeError, check};
+use uc_types::{TypeError, TypedDesign, check};
 
-/// The design that the sources of these files spell, if it keeps the static rules and runs today.
+/// The design that the sources of these files spell, if it keeps the rules and runs today.
 pub(crate) fn design_of(
     alloc: Global,
     files: &[&str],
@@ -47,7 +50,7 @@ pub(crate) fn design_of(
         drop(design);
         return Err(FrontError::NoMemory);
     };
-    let kept = checked(alloc, design)?;
+    let kept = checked(alloc, design, main)?;
     match Runnable::of(alloc, kept, main) {
         Ok(runnable) => {
             runnable.keeps();
@@ -79,19 +82,34 @@ fn spelled(alloc: Global, files: &[&str], sources: &[Source]) -> Result<Design, 
     Ok(Design::of(alloc, names, files, modules)?)
 }
 
-/// The same design, if it keeps the static rules.
-fn checked(alloc: Global, design: Design) -> Result<Design, FrontError>
+/// The same design, if it keeps the static rules and those on order and sizes.
+fn checked(alloc: Global, design: Design, main: u32) -> Result<Design, FrontError>
+    requires { main_number design main_name ≡ Some main }
     ensures same { IfOk result (λ d. d ≡ design) }
-    ensures kept { IsOk result → KeepsRules design main_name }
-    ensures refused { IfErr result (IsTextError (IsRuleFault design)) }
+    ensures typed { IsOk result → KeepsRules design main_name }
+    ensures ordered { IsOk result → KeepsOrder (system_of design main) }
+    ensures refused { IfErr result (IsTextError (IsRuleFault design main)) }
 {
     match check(alloc, design, "main") {
-        Ok(typed) => {
-            let (design, _) = typed.parts();
-            Ok(design)
-        }
+        Ok(typed) => ordered(alloc, typed),
         Err(TypeError::NoMemory) => Err(FrontError::NoMemory),
         Err(TypeError::Fault(fault)) => Err(FrontError::Refused(Refusal::BreaksRule(fault))),
+    }
+}
+
+/// The same design, if it keeps the rules on order and sizes.
+fn ordered(alloc: Global, typed: TypedDesign) -> Result<Design, FrontError>
+    ensures same { IfOk result (λ d. d ≡ typed.contents) }
+    ensures kept { IsOk result → KeepsOrder (system_of typed.contents typed.main) }
+    ensures refused { IfErr result (IsTextError (IsOrderFault (system_of typed.contents typed.main))) }
+{
+    match order(alloc, typed) {
+        Ok(ordered) => {
+            let (design, _) = ordered.parts();
+            Ok(design)
+        }
+        Err(OrderError::NoMemory) => Err(FrontError::NoMemory),
+        Err(OrderError::Fault(fault)) => Err(FrontError::Refused(Refusal::BreaksRule(fault))),
     }
 }
 
@@ -105,6 +123,15 @@ fn main_in(names: &Names, modules: &[Module]) -> Option<usize>
 fn is_main(names: &Names, code: &Module) -> bool
     ensures { result ≡ is_main names.now code.now }
 {
-    let name = code.name;
-    (name as usize) < names.len() && names.text(name) == b"main".as_slice()
+    b"main".as_slice() == text_of(names, code.name)
+}
+
+/// The text of a name, and none where there is no such name.
+fn text_of(names: &Names, name: u32) -> &[u8]
+    ensures { result.now ≡ slice_index_or names.now name [] }
+{
+    if name as usize >= names.len() {
+        return b"";
+    }
+    names.text(name)
 }

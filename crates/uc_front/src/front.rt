@@ -16,7 +16,7 @@ use std::alloc::Global;
 use uc_io::Texts;
 use uc_runnable::Runnable;
 
-/// The design that the texts of these names denote, if it runs today. A file is numbered by its place.
+/// The design that the texts of these names denote, if it keeps the rules and runs today. A file is numbered by its place.
 ///
 /// A name that comes twice is read twice.
 pub fn read_design<X: Texts>(

@@ -27,9 +27,10 @@ pub enum Refusal {
     TooManyNames(Place),
     /// No module is called `main`.
     NoMain,
-    /// The design breaks a static rule. This is the fault at the first place, and there the one of the least number.
+    /// The design breaks a static rule or, where it keeps these, a rule on order or sizes. This is the fault at the first place, and there the one of the
+    /// least number.
     BreaksRule(Fault),
-    /// The design keeps the static rules and is none of those that run today: at this token the texts name the first form that does not run. Where they name
+    /// The design keeps the rules and is none of those that run today: at this token the texts name the first form that does not run. Where they name
     /// none, it is the first declaration or statement that has no form over cells, or else the front of the first file.
     NotBuilt(Place),
 }

@@ -23,7 +23,7 @@ use Rattle.uc_read_laws.proofs.Through.{IsExpression, first, inputs_read_uses, u
 use Rattle.uc_instance_tree.specs.declared.tree.Node.{Node}
 use Rattle.uc_instance_tree.specs.declared.tree.Step.{Step}
 use Rattle.uc_instance_tree.specs.declared.tree.InstanceTree.{InstanceTree}
-use Rattle.uc_instance_tree.specs.Trees.{IsBelow, IsInstanceIn, instance_at, joined, led_node, led_on, node_at, step}
+use Rattle.uc_instance_tree.specs.Trees.{IsBelow, IsInstanceIn, IsTree, code_at, instance_at, joined, led_node, led_on, node_at, step}
 use Rattle.uc_instance_tree.specs.PathLaw.{IsLed}
 use Rattle.uc_instance_tree.proofs.Lists.{get_within, none_some, some_same}
 use Rattle.uc_use_graph.specs.declared.uses.UseKind.TheVariants.{Define, Input}
@@ -103,6 +103,21 @@ module _ (graph : List (List ℕ)) (count : ℕ) where
   passes_first : (a z m : ℕ) → has (needs graph a) z ≡ true → count ≤ z → Passes graph count z m → Passes graph count a m
   passes_first a z m e behind p = (suc p.0, pass_first p.0 a z m e behind p.1)
 
+-- names of nodes lead to names of nodes
+module _ (system : System) (t : InstanceTree) (tree : IsTree system t) (whole : IsWhole t) where
+  pub led_there : (k : ℕ) (m : Module) → code_at t k ≡ Some m → (x : ℕ) (ys : List ℕ) → led_node t k x ys ≡ None → ⊥
+  unfolding led_node
+  led_there k m code x [] h = none_is h
+    where
+      none_is : {A : Type 0} {a : A} → Some a ≡ None → ⊥
+      none_is {a = a} h = none_some a (sym h)
+  led_there k m code x (y ∷ ys) h = by (instance_at t k x) refl (λ j n there. led_there j n there y ys) h
+    where
+      by : (o : Option (Option ℕ)) → instance_at t k x ≡ o → ((j : ℕ) (n : Module) → code_at t j ≡ Some n → led_node t j y ys ≡ None → ⊥) → led_on (Some (step k x)) (λ j. led_node t j y ys) o ≡ None → ⊥
+      by None is more h = none_some (step k x) (sym h)
+      by (Some None) is more h = whole k x m code is
+      by (Some (Some j)) is more h = let a = tree.above k x j is in more j a.0.code.now (ap (option_map (λ (q : Node). q.code.now)) a.1) h
+
 module _ (system : System) (t : InstanceTree) (u : UseTable) (c : CellTable) (known : AreCellsOf system t c) (knows : KnowsUses t u) (whole : IsWhole t) where
   abbrev M : Module
   M = known.root
@@ -165,19 +180,6 @@ module _ (system : System) (t : InstanceTree) (u : UseTable) (c : CellTable) (kn
 
   -- ---- mentions
 
-  led_there : (k x : ℕ) (ys : List ℕ) → led_node t k x ys ≡ None → ⊥
-  unfolding led_node
-  led_there k x [] h = none_is h
-    where
-      none_is : {A : Type 0} {a : A} → Some a ≡ None → ⊥
-      none_is {a = a} h = none_some a (sym h)
-  led_there k x (y ∷ ys) h = by (instance_at t k x) refl (λ j. led_there j y ys) h
-    where
-      by : (o : Option (Option ℕ)) → instance_at t k x ≡ o → ((j : ℕ) → led_node t j y ys ≡ None → ⊥) → led_on (Some (step k x)) (λ j. led_node t j y ys) o ≡ None → ⊥
-      by None is more h = none_some (step k x) (sym h)
-      by (Some None) is more h = whole k x is
-      by (Some (Some j)) is more h = more j h
-
   read_match : (n : NameAt) (s : Step) → node_at t n.path ≡ Some s.node → n.name ≡ s.name → Match (uses_from (Some (read_at u s))) (names_from (Some (read_at u s))) (name_uses system n) (named_cell system n)
   read_match n s there named = by (number u (use_name Input s.node s.name)) refl
     where
@@ -206,7 +208,7 @@ module _ (system : System) (t : InstanceTree) (u : UseTable) (c : CellTable) (kn
     led_match x ys = by (led_node t k x ys) refl ((paths system M t known.is_root known.tree).leads path k n.code.now x ys to (ap (option_map (λ (q : Node). q.code.now)) at))
       where
         by : (o : Option Step) → led_node t k x ys ≡ o → IsLed system t o (led system path x ys) → Match (uses_from (option_map (read_at u) o)) (names_from (option_map (read_at u) o)) (name_uses system (led system path x ys)) (named_cell system (led system path x ys))
-        by None is h = absurd (led_there k x ys is)
+        by None is h = absurd (led_there system t known.tree whole k n.code.now (ap (option_map (λ (q : Node). q.code.now)) at) x ys is)
         by (Some s) is h = read_match (led system path x ys) s h.0 h.1
 
     applied_match : (f : ℕ) → Match (uses_from (option_map Use (number u (use_name Define k f)))) (names_from (option_map Use (number u (use_name Define k f)))) (define_uses path f (option_and_then (λ q. define_of q f) (module_at system path))) []

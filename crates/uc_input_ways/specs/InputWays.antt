@@ -1,5 +1,6 @@
 -- Graphs with the uses of a tree as nodes.
 use Rattle.std.specs.Prelude.{◌≡◌, ◌⊎◌, ◌↔◌, ◌<◌, ◌≤◌, ℕ, true, List, [], length, slice_index_or, Some, None}
+use Rattle.uc_syntax.specs.declared.declaration.Module.{Module}
 use Rattle.uc_meaning.specs.Lookup.{System}
 use Rattle.uc_way_laws.specs.AliasLaw.{IsAmong}
 use Rattle.uc_needed_first.specs.Order.{has, needs}
@@ -10,7 +11,7 @@ use Rattle.uc_passage_laws.specs.Passages.{Passes}
 use Rattle.uc_read_laws.specs.Reading.{UsesEnd}
 use Rattle.uc_instance_tree.specs.declared.tree.Step.{Step}
 use Rattle.uc_instance_tree.specs.declared.tree.InstanceTree.{InstanceTree}
-use Rattle.uc_instance_tree.specs.Trees.{instance_at}
+use Rattle.uc_instance_tree.specs.Trees.{code_at, instance_at}
 use Rattle.uc_use_graph.specs.declared.table.UseTable.{UseTable}
 use Rattle.uc_use_graph.specs.Tables.{KnowsUses}
 use Rattle.uc_use_graph.specs.Resolving.{all_source_names, all_source_uses}
@@ -32,9 +33,9 @@ pub record IsUseGraph (t : InstanceTree) (u : UseTable) (c : CellTable) (graph :
   pub behind : (i : ℕ) → length c.cells ≤ using i
   pub edges : (i b : ℕ) → i < length u.uses → (has (needs graph (using i)) b ≡ true) ↔ UseEdge t u c using i b
 
--- the module of each instance is there
+-- the module of each instance of a node is there
 abbrev pub IsWhole : InstanceTree → Type 0
-IsWhole t = (k x : ℕ) → instance_at t k x ≡ Some None → ⊥
+IsWhole t = (k x : ℕ) (m : Module) → code_at t k ≡ Some m → instance_at t k x ≡ Some None → ⊥
 
 -- a cell with this number is read
 abbrev pub ReadsNumber : System → InstanceTree → CellTable → NameAt → ℕ → Type 0

@@ -74,12 +74,14 @@ fn is_instance(system: &SystemRef<'_>, path: &[u32], name: u32) -> bool
     }
 }
 
-/// What the parent of the instance at a path binds to a name, where the name is an input.
+/// What the parent of the instance at a path binds to a name, where the name is an input. Bindings are looked at first, since main has none and
+/// an instance has fewer of them than its module has names.
 pub(crate) fn bound_input<'a>(system: &SystemRef<'a>, path: &[u32], name: u32) -> Option<Bound<'a>>
     ensures { option_map (bound_parts path.now) result ≡ (if is_bound_input (system_in system.now) (name_at path.now name) then binding_of (system_in system.now) path.now name else None) }
 {
+    let bound = system.binding_of(path, name)?;
     if is_input(system, path, name) {
-        system.binding_of(path, name)
+        Some(bound)
     } else {
         None
     }

@@ -23,7 +23,7 @@ returns-in-Ok-of-clause-denotes c =
 pub returns-in-Ok-of-clause-kept : goal.returns-in-Ok-of-clause-kept
 returns-in-Ok-of-clause-kept c =
     let same = c.in-Ok-of.ensures.design ∙ ap (λ d. system_of d c.in-Ok.main) c.in_ok-kept.ensures.same in
-    let keeps : IsKept (system_of c.in_ok-design.design c.in-Ok.main) = subst (λ d. KeepsRules d main_name) c.in_ok-design.ensures.whole (c.in_ok-kept.ensures.kept refl) in
+    let keeps : IsKept (system_of c.in_ok-design.design c.in-Ok.main) = (subst (λ d. KeepsRules d main_name) c.in_ok-design.ensures.whole (c.in_ok-kept.ensures.typed refl), c.in_ok-kept.ensures.ordered refl) in
     subst IsKept (sym same) keeps
 
 pub returns-in_err-kept-clause-refused : goal.returns-in_err-kept-clause-refused
@@ -46,7 +46,7 @@ returns-in_ok-place-in-Err-NotBuilt-clause-refused c =
     let modules : AreSpelled c.in_ok-design.design.names c.args.sources.now c.in_ok-design.design.modules = c.in_ok-design.ensures.modules in
     let main : main_in c.in_ok-design.design.names c.in_ok-design.design.modules ≡ Some c.in-Ok.main = search rules in
     let denoted : IsDesignOf (words_of c.args.files.now) c.args.sources.now system = record { names_are = names; files_are = files; modules_are = modules; main_is = main } in
-    let keeps : IsKept system = subst (λ d. KeepsRules d main_name) c.in_ok-design.ensures.whole (c.in_ok-kept.ensures.kept refl) in
+    let keeps : IsKept system = (subst (λ d. KeepsRules d main_name) c.in_ok-design.ensures.whole (c.in_ok-kept.ensures.typed refl), c.in_ok-kept.ensures.ordered refl) in
     let of_kept : IsNoneFor (system_of c.in_ok-kept.kept c.in-Ok.main) (NotBuilt c.in-Err-NotBuilt.unfit) =
     subst (λ r. IfErr r (IsNoneFor (system_of c.in_ok-kept.kept c.in-Ok.main))) (c.in-Err-NotBuilt.is ∙ ap Err c.in-Err-NotBuilt.field-0-is) c.of.ensures.none in
     let told : IsNoneFor system (NotBuilt c.in-Err-NotBuilt.unfit) = subst (λ d. IsNoneFor (system_of d c.in-Ok.main) (NotBuilt c.in-Err-NotBuilt.unfit)) c.in_ok-kept.ensures.same of_kept in

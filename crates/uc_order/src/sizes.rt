@@ -1,0 +1,79 @@
+//! Loops and enums that are too large, and designs that pass a limit as a whole.
+
+ghost use Rattle.std.specs.Prelude.{◌≡◌, ◌++◌, None, IfOk, OnOk};
+ghost use Rattle.std.specs.List.{flat_map};
+ghost use Rattle.uc_meaning.specs.Lookup.{main_module};
+ghost use Rattle.uc_meaning.specs.Cells.{as_list};
+ghost use Rattle.uc_rules.specs.declared.rule.Rule.TheVariants.{TooLarge};
+ghost use Rattle.uc_rules.specs.Faults.{first_of, breaks_where};
+ghost use Rattle.uc_use_bounds.specs.BoundLaw.{InstancesEnd};
+ghost use Rattle.uc_order_rules.specs.Sizes.{label_faults, turn_faults};
+ghost use Rattle.uc_order_rules.specs.Order.{cycles, size_faults, whole_faults, passes_limit};
+
+use std::alloc::{AllocError, Global};
+use uc_instance_depth::has_deep_module;
+use uc_lone_faults::{note_large_enums, note_long_loops};
+use uc_module_names::DesignNames;
+use uc_rules::{Fault, Rule, note_where};
+use uc_sizes::is_too_large;
+use uc_syntax::Module;
+use uc_use_rules::has_long_uses;
+
+/// Notes what is too large, behind the cycles of uses: the limits on the whole are judged only where nothing else was noted.
+pub(crate) fn note_sizes(
+    alloc: Global,
+    names: &DesignNames<'_>,
+    first: &mut Option<Fault>,
+) -> Result<(), AllocError>
+    ensures { OnOk result (InstancesEnd names.now → first.old ≡ first_of None (cycles names.now) → first.new ≡ first_of first.old (size_faults names.now ++ whole_faults names.now)) }
+{
+    let modules = names.system().modules;
+    note_each(alloc, modules, first)?;
+    if first.is_some() {
+        return Ok(());
+    }
+    note_whole(alloc, names, first)
+}
+
+/// Notes the loops with too many turns and the enums with too many labels.
+fn note_each(alloc: Global, modules: &[Module], first: &mut Option<Fault>) -> Result<(), AllocError>
+    ensures { OnOk result (first.new ≡ first_of first.old (flat_map (λ m. label_faults m ++ turn_faults m) modules.now)) }
+{
+    for code in modules {
+        note_large_enums(alloc, code, first)?;
+        note_long_loops(code, first);
+    }
+    Ok(())
+}
+
+/// Notes at main's place that the design passes a limit as a whole.
+fn note_whole(
+    alloc: Global,
+    names: &DesignNames<'_>,
+    first: &mut Option<Fault>,
+) -> Result<(), AllocError>
+    ensures { OnOk result (InstancesEnd names.now → first.new ≡ first_of first.old (flat_map (λ m. breaks_where (passes_limit names.now) TooLarge m.place) (as_list (main_module names.now)))) }
+{
+    let system = names.system();
+    match system.main_module() {
+        Some(main) => {
+            let is_broken = passes_limit(alloc, names)?;
+            note_where(first, is_broken, Rule::TooLarge, main.place);
+            Ok(())
+        }
+        None => Ok(()),
+    }
+}
+
+/// Whether some chain is too long, or what main expands to is too large.
+fn passes_limit(alloc: Global, names: &DesignNames<'_>) -> Result<bool, AllocError>
+    ensures { IfOk result (λ b. InstancesEnd names.now → b ≡ passes_limit names.now) }
+{
+    if has_deep_module(alloc, names)? {
+        return Ok(true);
+    }
+    if has_long_uses(alloc, names)? {
+        return Ok(true);
+    }
+    is_too_large(alloc, &names.system())
+}

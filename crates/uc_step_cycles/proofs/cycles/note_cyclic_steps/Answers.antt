@@ -1,0 +1,34 @@
+use Rattle.std.proofs.Common.{◌≡◌, Some, ap, length, sym, subst, ◌∙◌, arith, false}
+use Rattle.std.specs.Prelude.{slice_get, slice_index_or}
+use Rattle.std.proofs.lemmas.Option.{slice_get-get_or}
+use Rattle.uc_meaning.specs.Lookup.{System}
+use Rattle.uc_rules.specs.Faults.{first_of}
+use Rattle.uc_order_rules.specs.Roots.{rooted}
+use Rattle.uc_order_rules.specs.Order.{dependence_in, roots}
+use Rattle.uc_instance_tree.specs.Modules.{KnowsModules}
+use Rattle.uc_use_rules.proofs.Told.{root_at, root_length, told_begin, told_end, told_more}
+use Rattle.uc_step_cycles.proofs.cycles.note_cyclic_steps.Goals as goal
+
+pub loop-number-init : goal.loop-number-init
+loop-number-init c = λ known has. told_begin dependence_in (roots c.args.names.now) c.args.first.now
+
+pub loop-number-preserved : goal.loop-number-preserved
+loop-number-preserved c = λ known has.
+    let s = c.args.names.now in
+    let k = c.loop-number.number in
+    let m = c.root-item.result in
+    let modules : c.system-system.result.modules.now ≡ s.modules = ap (λ (x : System). x.modules) c.system-system.ensures in
+    let size : length c.system-system.result.modules.now ≡ length s.modules = ap length modules in
+    let many : length (roots s) ≡ length s.modules = root_length s in
+    let at : slice_get s.modules k ≡ Some m = ap (λ ms. slice_get ms k) (sym modules) ∙ slice_get-get_or c.system-system.result.modules.now k m c.loop-number-test.true ∙ ap (λ x. Some x) (sym c.root-item.is) in
+    told_more dependence_in (roots s) c.args.first.now k (rooted s k, m) c.loop-number.first c.note_judged.new.first (omega (arith, size, many, c.loop-number-test.true)) (c.loop-number.invariant known has)
+    (c.in_ok-note_judged.ensures s k (subst (λ ms. KnowsModules ms c.in_ok-modules.modules) modules c.in_ok-modules.ensures) at known has
+    (c.flag_at-judges.ensures ∙ ap (λ fs. slice_index_or fs k false) c.as_slice.ensures ∙ c.in_ok-judged.ensures k m at)
+    ∙ ap (λ r. first_of c.loop-number.first (dependence_in r)) (sym (root_at s k m (rooted s k, m) at)))
+
+pub returns : goal.returns
+returns c = λ known has.
+    let s = c.args.names.now in
+    let size : length c.system-system.result.modules.now ≡ length s.modules = ap (λ (x : System). length x.modules) c.system-system.ensures in
+    let many : length (roots s) ≡ length s.modules = root_length s in
+    told_end dependence_in (roots s) c.args.first.now c.loop-number.number c.loop-number.first (omega (arith, size, many, c.loop-number-test.false)) (c.loop-number.invariant known has)
