@@ -2,17 +2,15 @@
 use Rattle.std.specs.Prelude.{Bool, true, false, ◌||◌, ◌&&◌, if◌then◌else◌, List, [], ◌∷◌, Option, Some, None}
 use Rattle.uc_lexer.specs.declared.place.Place.{Place}
 use Rattle.uc_grammar.specs.declared.word.Kind.{Kind}
-use Rattle.uc_grammar.specs.declared.word.Kind.TheVariants.{Arrow, KwModule, KwConst, KwFunction, KwDefine, KwProcedure, KwInstance, KwAxiom, KwHyperinvariant, KwHyperaxiom, KwInteger, KwFor, KwCall, KwAssert, KwForall, KwExists, KwWhile}
+use Rattle.uc_grammar.specs.declared.word.Kind.TheVariants.{Arrow, KwModule, KwFunction, KwDefine, KwProcedure, KwInstance, KwHyperinvariant, KwHyperaxiom, KwInteger, KwFor, KwCall, KwAssert, KwForall, KwExists, KwWhile}
 use Rattle.uc_grammar.specs.declared.word.Word.{Word}
 
--- Constants, functions, defines, procedures, instances, axioms and hyper formulas; whole numbers and arrays with a part replaced; loops, calls, assertions and quantifiers.
+-- Functions, defines, procedures, instances and hyper formulas; whole numbers and arrays with a part replaced; loops, calls, assertions and quantifiers.
 abbrev pub is_outside : Kind → Bool
-is_outside KwConst = true
 is_outside KwFunction = true
 is_outside KwDefine = true
 is_outside KwProcedure = true
 is_outside KwInstance = true
-is_outside KwAxiom = true
 is_outside KwHyperinvariant = true
 is_outside KwHyperaxiom = true
 is_outside KwInteger = true

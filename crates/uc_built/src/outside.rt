@@ -11,12 +11,10 @@ fn is_outside(kind: Kind) -> bool
 {
     matches!(
         kind,
-        Kind::KwConst
-            | Kind::KwFunction
+        Kind::KwFunction
             | Kind::KwDefine
             | Kind::KwProcedure
             | Kind::KwInstance
-            | Kind::KwAxiom
             | Kind::KwHyperinvariant
             | Kind::KwHyperaxiom
             | Kind::KwInteger
