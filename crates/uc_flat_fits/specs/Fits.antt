@@ -11,6 +11,7 @@ use Rattle.uc_flat_expressions.specs.declared.typed.TypedExpression.{TypedExpres
 use Rattle.uc_flat_expressions.specs.declared.typed.Meant.{Meant}
 use Rattle.uc_flat_expressions.specs.declared.typed.Meant.TheVariants.{Cell}
 use Rattle.uc_flat_expressions.specs.Expressions.{flat_of}
+use Rattle.uc_symstep.specs.Known.{ReadsTyped, CodeReadsTyped}
 use Rattle.uc_flat_code.specs.declared.writing.Writing.{Writing}
 use Rattle.uc_flat_code.specs.Code.{code_of}
 
@@ -30,6 +31,10 @@ ExpressionsFit names types = (e : Expr) (t : TypedExpression) → flat_of names 
 abbrev pub ExpressionsReadBelow : List Meant → ℕ → Type 0
 ExpressionsReadBelow names n = (e : Expr) (t : TypedExpression) → flat_of names e ≡ Some t → ReadsBelow n t.expression
 
+-- it reads only constants of these types, at their types
+abbrev pub ExpressionsReadTyped : List Meant → List Ty → Type 0
+ExpressionsReadTyped names constants = (e : Expr) (t : TypedExpression) → flat_of names e ≡ Some t → ReadsTyped constants t.expression
+
 -- Where expressions fit, so does code.
 abbrev pub FitsLaw : Type 0
 FitsLaw =
@@ -41,6 +46,12 @@ abbrev pub ReadsLaw : Type 0
 ReadsLaw =
     (names : List Meant) (w : Writing) (n : ℕ) (code : List Stmt) (flat : List Statement) → ExpressionsReadBelow names n → code_of names w code ≡ Some flat
     → CodeReadsBelow n flat
+
+-- Where its expressions read the constants at their types, so does code.
+abbrev pub TypedLaw : Type 0
+TypedLaw =
+    (names : List Meant) (w : Writing) (constants : List Ty) (code : List Stmt) (flat : List Statement) → ExpressionsReadTyped names constants → code_of names w code ≡ Some flat
+    → CodeReadsTyped constants flat
 
 -- Sequential code writes the cells that names stand for.
 abbrev pub SequentialLaw : Type 0

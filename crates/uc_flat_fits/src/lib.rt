@@ -1,7 +1,7 @@
-//! Laws of code that stands for code of a design: it fits the cells, and reads only constants that there are.
+//! Laws of code that stands for code of a design: it fits the cells, and reads only constants that there are, at their types.
 #![tactic(auto)]
 
-ghost use Rattle.uc_flat_fits.specs.Fits.{FitsLaw, ReadsLaw, SequentialLaw, StepLaw};
+ghost use Rattle.uc_flat_fits.specs.Fits.{FitsLaw, ReadsLaw, TypedLaw, SequentialLaw, StepLaw};
 
 /// The types of code.
 pub fn fits()
@@ -11,6 +11,11 @@ pub fn fits()
 /// The constants of code.
 pub fn reads()
     ensures { ReadsLaw }
+{}
+
+/// The types at which code reads constants.
+pub fn reads_typed()
+    ensures { TypedLaw }
 {}
 
 /// The cells that sequential code writes.

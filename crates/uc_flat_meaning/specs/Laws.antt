@@ -1,5 +1,5 @@
 -- What the expression over cells of an expression says.
-use Rattle.std.specs.Prelude.{◌≡◌, ℕ, List, Some}
+use Rattle.std.specs.Prelude.{◌≡◌, List, Some}
 use Rattle.uc_syntax.specs.declared.expression.Expr.{Expr}
 use Rattle.uc_values.specs.declared.ty.Ty.{Ty}
 use Rattle.uc_values.specs.declared.value.Value.{Value}
@@ -15,5 +15,5 @@ use Rattle.uc_flat_meaning.specs.Sayings.{Says, AreMeant}
 -- Where names stand for what they mean in a scope, the expression over cells of an expression says what the expression says there.
 abbrev pub FlatLaw : Type 0
 FlatLaw =
-    (system : System) (s : Scope) (n : ℕ) (m : Model) (types : List Ty) (cells : List Value) (names : List Meant) (e : Expr) (t : TypedExpression)
-    → AreMeant system s n m types cells names → flat_of names e ≡ Some t → Says n m types cells (reading system s e) t
+    (system : System) (s : Scope) (constants : List Ty) (m : Model) (types : List Ty) (cells : List Value) (names : List Meant) (e : Expr) (t : TypedExpression)
+    → AreMeant system s constants m types cells names → flat_of names e ≡ Some t → Says constants m types cells (reading system s e) t

@@ -1,14 +1,17 @@
 -- When an expression over cells says what an expression of a design says.
-use Rattle.std.specs.Prelude.{◌≡◌, ℕ, pos, Bool as Truth, IsTrue, List, Option, Some, None}
+use Rattle.std.specs.Prelude.{◌≡◌, ℕ, pos, Bool as Truth, IsTrue, List, Option, Some, None, slice_get}
 use Rattle.uc_values.specs.Values.{fits}
 use Rattle.uc_values.specs.declared.ty.Ty.{Ty}
 use Rattle.uc_values.specs.declared.ty.Ty.TheVariants.{Int}
 use Rattle.uc_values.specs.declared.value.Value.{Value}
 use Rattle.uc_values.specs.declared.value.Value.TheVariants.{Int as whole}
 use Rattle.uc_ops.specs.declared.model.Model.{Model}
+use Rattle.uc_ops.specs.declared.op.Op.TheVariants.{Symbol}
 use Rattle.uc_ops.specs.Typing.{Valid}
 use Rattle.uc_flat.specs.Reading.{type_of, value_of}
-use Rattle.uc_flat.specs.Fine.{IsTyped, ReadsBelow}
+use Rattle.uc_flat.specs.Fine.{IsTyped, IsWithin}
+use Rattle.uc_flat.specs.declared.expression.Expression.{Expression}
+use Rattle.uc_flat.specs.declared.expression.Expression.TheVariants.{Apply}
 use Rattle.uc_flat_expressions.specs.declared.typed.TypedExpression.{TypedExpression}
 use Rattle.uc_flat_expressions.specs.declared.typed.Meant.{Meant}
 use Rattle.uc_flat_expressions.specs.Names.{named}
@@ -21,10 +24,14 @@ abbrev pub IsNumber : Option ℕ → Reading → Type 0
 IsNumber None r = Unit {0}
 IsNumber (Some n) r = (r.type ≡ Int) × (r.value ≡ whole (pos n))
 
--- An expression over cells of these types says what is read: it is typed and of its type, a valid one, has constants with numbers below n, and what is read has this type and the value that the expression has on the cells, which fits the type.
-pub record Says (n : ℕ) (m : Model) (types : List Ty) (cells : List Value) (r : Reading) (t : TypedExpression) : Type 0 where
+-- each constant that an expression reads is one of these types, by its number, and is read at its type
+abbrev pub ReadsTyped : List Ty → Expression → Type 0
+ReadsTyped constants e = (number : ℕ) (ty : Ty) (parts : List Expression) → IsWithin e (Apply (Symbol number ty) parts) → slice_get constants number ≡ Some ty
+
+-- An expression over cells of these types says what is read: it is typed and of its type, a valid one, reads constants of these types, and what is read has this type and the value that the expression has on the cells, which fits the type.
+pub record Says (constants : List Ty) (m : Model) (types : List Ty) (cells : List Value) (r : Reading) (t : TypedExpression) : Type 0 where
   pub typed : IsTyped types t.expression
-  pub below : ReadsBelow n t.expression
+  pub reads : ReadsTyped constants t.expression
   pub own : type_of types t.expression ≡ t.ty
   pub valid : Valid t.ty
   pub type : r.type ≡ t.ty
@@ -33,10 +40,11 @@ pub record Says (n : ℕ) (m : Model) (types : List Ty) (cells : List Value) (r 
   pub literal : IsNumber t.number r
 
 -- what stands for a name says what the name says in a scope, and the name is that of no instance there
-pub record IsMeant (system : System) (s : Scope) (n : ℕ) (m : Model) (types : List Ty) (cells : List Value) (x : ℕ) (primed : Truth) (t : TypedExpression) : Type 0 where
+pub record IsMeant (system : System) (s : Scope) (constants : List Ty) (m : Model) (types : List Ty) (cells : List Value) (x : ℕ) (primed : Truth) (t : TypedExpression) : Type 0 where
   pub alone : instance_at system s x ≡ None
-  pub says : Says n m types cells (name system (elsewhere system) s x primed) t
+  pub says : Says constants m types cells (name system (elsewhere system) s x primed) t
 
 -- the same of all names that stand for something
-abbrev pub AreMeant : System → Scope → ℕ → Model → List Ty → List Value → List Meant → Type 0
-AreMeant system s n m types cells names = (x : ℕ) (primed : Truth) (t : TypedExpression) → named names x primed ≡ Some t → IsMeant system s n m types cells x primed t
+abbrev pub AreMeant : System → Scope → List Ty → Model → List Ty → List Value → List Meant → Type 0
+AreMeant system s constants m types cells names =
+    (x : ℕ) (primed : Truth) (t : TypedExpression) → named names x primed ≡ Some t → IsMeant system s constants m types cells x primed t

@@ -7,14 +7,16 @@ use Rattle.uc_syntax.specs.declared.declaration.Module.{Module}
 use Rattle.uc_values.specs.declared.ty.Ty.{Ty}
 use Rattle.uc_meaning.specs.Lookup.{System, instances_of, main_module, variable_of}
 use Rattle.uc_meaning.specs.Types.{label_of, type_of_written}
-use Rattle.uc_meaning.specs.Cells.{cell_of, cells_of}
+use Rattle.uc_meaning.specs.Cells.{ConstantParts, modules_in_use, cell_of, cells_of, constant_number, constants_of}
 use Rattle.uc_meaning.specs.Expressions.{label_count}
+use Rattle.uc_flat.specs.declared.flat.Constant.{Constant as FlatConstant}
 use Rattle.uc_flat_expressions.specs.declared.typed.Meant.{Meant}
-use Rattle.uc_flat_expressions.specs.declared.typed.Meant.TheVariants.{Unknown, Cell, Label}
+use Rattle.uc_flat_expressions.specs.declared.typed.Meant.TheVariants.{Unknown, Cell, Label, Constant}
 
 -- a design of one module in use
 pub record StandsAlone (system : System) (code : Module) : Type 0 where
   pub main : main_module system ≡ Some code
+  pub used : modules_in_use system ≡ code ∷ []
   pub alone : instances_of code ≡ []
 
 -- a label, by the number of its enum and its place there
@@ -26,9 +28,9 @@ abbrev pub of_cell_number : Option ℕ → Ty → Meant
 of_cell_number None ty = Unknown
 of_cell_number (Some k) ty = Cell k None ty
 
--- constants are not built yet
+-- a constant, by its number in interpretations, or else a cell
 abbrev pub of_kind : System → Module → ℕ → TypeExpr → VariableKind → Meant
-of_kind system code x type constant_kind = Unknown
+of_kind system code x type constant_kind = Constant (constant_number system code x) (type_of_written system code type)
 of_kind system code x type other = of_cell_number (cell_of system [] x) (type_of_written system code type)
 
 abbrev pub of_variable : System → Module → ℕ → Option (VariableKind × TypeExpr) → Meant
@@ -55,3 +57,23 @@ names_over_cells system code = map (meant_in system code) (counted 0 (length sys
 -- the types of the cells
 abbrev pub types_of : System → List Ty
 types_of system = map (λ c. c.type) (cells_of system)
+
+-- a name that stands for a cell stands for nothing where there are no cells
+abbrev pub without_cell : Meant → Meant
+without_cell (Cell k new ty) = Unknown
+without_cell other = other
+
+-- what each name stands for in an axiom, which reads no cells
+abbrev pub names_of_constants : System → Module → List Meant
+names_of_constants system code = map without_cell (names_over_cells system code)
+
+-- the types of the constants, by their numbers
+abbrev pub constant_types : System → List Ty
+constant_types system = map (λ c. c.type) (constants_of system)
+
+abbrev pub flat_constant : ConstantParts → FlatConstant
+flat_constant c = record { name = c.symbol.name; ty = c.type }
+
+-- the constants of the design over cells, by their numbers
+abbrev pub flat_constants : System → List FlatConstant
+flat_constants system = map flat_constant (constants_of system)

@@ -1,5 +1,5 @@
--- The cells that a module alone declares.
-use Rattle.std.specs.Prelude.{Bool as Truth, true, false, if◌then◌else◌, List, [], ◌∷◌}
+-- The cells and the constants that a module alone declares.
+use Rattle.std.specs.Prelude.{Bool as Truth, true, false, if◌then◌else◌, List, [], ◌∷◌, map}
 use Rattle.std.specs.List.{flat_map}
 use Rattle.uc_syntax.specs.declared.place.Identifier.{Identifier}
 use Rattle.uc_syntax.specs.declared.declaration.VariableKind.{VariableKind}
@@ -10,6 +10,7 @@ use Rattle.uc_syntax.specs.declared.declaration.Module.{Module}
 use Rattle.uc_values.specs.declared.ty.Ty.{Ty}
 use Rattle.uc_meaning.specs.Lookup.{System}
 use Rattle.uc_meaning.specs.Types.{type_of_written}
+use Rattle.uc_flat.specs.declared.flat.Constant.{Constant as FlatConstant}
 use Rattle.uc_flat_table.specs.declared.cells.OwnCell.{OwnCell}
 
 -- a constant has no cell
@@ -27,3 +28,14 @@ declared_cells system code other = []
 -- in order
 abbrev pub own_cells : System → Module → List OwnCell
 own_cells system code = flat_map (declared_cells system code) code.decls
+
+abbrev pub own_constant : Ty → Identifier → FlatConstant
+own_constant ty i = record { name = i.name; ty = ty }
+
+abbrev pub declared_constants : System → Module → Decl → List FlatConstant
+declared_constants system code (Variables place Constant names type) = map (own_constant (type_of_written system code type)) names
+declared_constants system code other = []
+
+-- in order
+abbrev pub own_constants : System → Module → List FlatConstant
+own_constants system code = flat_map (declared_constants system code) code.decls
