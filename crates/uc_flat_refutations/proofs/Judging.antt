@@ -1,8 +1,9 @@
 -- The lines of a design are those of its formulas over cells.
-use Rattle.std.proofs.Common.{◌≡◌, ℕ, zero, suc, ◌+◌, List, [], ◌∷◌, ◌++◌, map, length, refl, sym, ap, ◌∙◌, subst, true, Option, Some, None, append-nil}
-use Rattle.std.specs.Prelude.{if◌then◌else◌}
+use Rattle.std.proofs.Common.{◌≡◌, ℕ, zero, suc, ◌+◌, List, [], ◌∷◌, ◌++◌, map, length, refl, sym, ap, ◌∙◌, subst, true, Option, Some, None, append-nil, cond}
+use Rattle.std.specs.Prelude.{if◌then◌else◌, nat_eq, All}
 use Rattle.std.specs.Option.{option_map}
-use Rattle.std.specs.List.{flat_map, filter_map, list_all, cons_option}
+use Rattle.std.specs.List.{flat_map, filter, filter_map, list_all, cons_option}
+use Rattle.std.proofs.lemmas.List.Elements.{All-head, All-tail}
 use Rattle.uc_lexer.specs.declared.place.Place.{Place}
 use Rattle.uc_syntax.specs.declared.statement.Arm.{Arm}
 use Rattle.uc_syntax.specs.declared.statement.Stmt.{Stmt}
@@ -25,7 +26,7 @@ use Rattle.uc_flat.specs.declared.statement.Statement.{Statement}
 use Rattle.uc_flat_expressions.specs.declared.typed.Meant.{Meant}
 use Rattle.uc_flat_expressions.specs.Types.{is_boolean}
 use Rattle.uc_flat_expressions.specs.Expressions.{flat_of, all_of}
-use Rattle.uc_flat_names.specs.Names.{names_over_cells}
+use Rattle.uc_flat_names.specs.Names.{names_over_cells, names_of_constants}
 use Rattle.uc_flat_names.proofs.Cells.{alone_instances}
 use Rattle.uc_flat_code.specs.declared.writing.Writing.{Writing}
 use Rattle.uc_flat_code.specs.declared.writing.FlatArm.{FlatArm}
@@ -34,9 +35,10 @@ use Rattle.uc_flat_design.specs.Sequential.{plainly}
 use Rattle.uc_flat_design.proofs.Options.{then_some, map_some, if_some, some_same}
 use Rattle.uc_flat_design.proofs.Sequential.{arms_in, else_in}
 use Rattle.uc_flat_design.specs.Next.{primed_behind}
-use Rattle.uc_flat_design.specs.Design.{next_names, is_built, condition_of, formula_in, formulas_from, IsFlatOf}
+use Rattle.uc_flat_design.specs.Design.{next_names, is_built, condition_of, invariant_in, axiom_in, formulas_from, IsFlatOf}
+use Rattle.uc_flat_design.proofs.Formulas.{formula_of, axioms_read, invariants_read}
 use Rattle.uc_flat_design.proofs.Laws.{next_built, main_is, alone_of}
-use Rattle.uc_flat_refutations.specs.Laws.{LinesLaw}
+use Rattle.uc_flat_refutations.specs.Laws.{singles_of, LinesLaw}
 
 -- ---- no sites
 
@@ -189,27 +191,59 @@ no_hypers (d ∷ decls) k h = ap (λ o. cons_option o (filter_map (hyperinvarian
 abbrev judged : Formula → Judged
 judged x = (OfFormula [] x.decl, 1)
 
-one_judged : (names : List Meant) (k : ℕ) (d : Decl) (xs : List Formula) (rest : List Judged) → formula_in names k d ≡ Some xs → cons_option (invariant_judged [] (k, d)) rest ≡ map judged xs ++ rest
+one_judged : (names : List Meant) (k : ℕ) (d : Decl) (xs : List Formula) (rest : List Judged) → invariant_in names k d ≡ Some xs → cons_option (invariant_judged [] (k, d)) rest ≡ map judged xs ++ rest
 one_judged names k (Invariant place name e) xs rest h =
-    let s = then_some (condition_of k) (flat_of names e) xs h in
-    let t = if_some (is_boolean s.0.ty) (Some (record { path = []; decl = k; copies = 1; condition = s.0.expression } ∷ [])) xs s.2 in
-    ap (λ ys. map judged ys ++ rest) (some_same (record { path = []; decl = k; copies = 1; condition = s.0.expression } ∷ []) xs t.1)
+    let s = then_some (condition_of 1 k) (flat_of names e) xs h in
+    let x = formula_of 1 k s.0 in
+    let t = if_some (is_boolean s.0.ty) (Some (x ∷ [])) xs s.2 in
+    ap (λ ys. map judged ys ++ rest) (some_same (x ∷ []) xs t.1)
 one_judged names k other xs rest h = ap (λ ys. map judged ys ++ rest) (some_same [] xs h)
 
 append_judged : (xs ys : List Formula) → map judged (xs ++ ys) ≡ map judged xs ++ map judged ys
 append_judged [] ys = refl
 append_judged (x ∷ xs) ys = ap (λ zs. judged x ∷ zs) (append_judged xs ys)
 
-formulas_judged : (names : List Meant) (k : ℕ) (decls : List Decl) (fs : List Formula) → formulas_from names k decls ≡ Some fs → filter_map (invariant_judged []) (numbered k decls) ≡ map judged fs
+formulas_judged : (names : List Meant) (k : ℕ) (decls : List Decl) (fs : List Formula) → formulas_from (invariant_in names) k decls ≡ Some fs → filter_map (invariant_judged []) (numbered k decls) ≡ map judged fs
 unfolding numbered formulas_from
 formulas_judged names k [] fs h = ap (map judged) (some_same [] fs h)
 formulas_judged names k (d ∷ decls) fs h =
-    let s = then_some (λ xs. option_map (λ ys. xs ++ ys) (formulas_from names (k + 1) decls)) (formula_in names k d) fs h in
-    let t = map_some (λ ys. s.0 ++ ys) (formulas_from names (k + 1) decls) fs s.2 in
+    let s = then_some (λ xs. option_map (λ ys. xs ++ ys) (formulas_from (invariant_in names) (k + 1) decls)) (invariant_in names k d) fs h in
+    let t = map_some (λ ys. s.0 ++ ys) (formulas_from (invariant_in names) (k + 1) decls) fs s.2 in
     one_judged names k d s.0 (filter_map (invariant_judged []) (numbered (k + 1) decls)) s.1
     ∙ ap (λ zs. map judged s.0 ++ zs) (formulas_judged names (k + 1) decls t.0 t.1)
     ∙ sym (append_judged s.0 t.0)
     ∙ ap (map judged) t.2
+
+-- ---- the formulas of one copy
+
+abbrev Copied : ℕ → Formula → Type 0
+Copied n x = x.copies ≡ n
+
+pub axioms_copied : (names : List Meant) (decls : List Decl) (fs : List Formula) → formulas_from (axiom_in names) 0 decls ≡ Some fs → All (Copied 0) fs
+axioms_copied names decls fs h = axioms_read (Copied 0) names decls (λ n place name e t at flat b. refl) fs h
+
+pub invariants_copied : (names : List Meant) (decls : List Decl) (fs : List Formula) → formulas_from (invariant_in names) 0 decls ≡ Some fs → All (Copied 1) fs
+invariants_copied names decls fs h = invariants_read (Copied 1) names decls (λ n place i e t at flat b. refl) fs h
+
+abbrev singles : List Formula → List Formula
+singles fs = filter (λ x. nat_eq x.copies 1) fs
+
+no_single : (fs rest : List Formula) → All (Copied 0) fs → singles (fs ++ rest) ≡ singles rest
+no_single [] rest h = refl
+no_single (x ∷ fs) rest h =
+    ap (λ n. cond (nat_eq n 1) (x ∷ singles (fs ++ rest)) (singles (fs ++ rest))) (All-head (Copied 0) x fs h) ∙ no_single fs rest (All-tail (Copied 0) x fs h)
+
+all_singles : (fs : List Formula) → All (Copied 1) fs → singles fs ≡ fs
+all_singles [] h = refl
+all_singles (x ∷ fs) h =
+    ap (λ n. cond (nat_eq n 1) (x ∷ singles fs) (singles fs)) (All-head (Copied 1) x fs h) ∙ ap (λ xs. x ∷ xs) (all_singles fs (All-tail (Copied 1) x fs h))
+
+-- they are those of the invariants
+pub singles_are : (system : System) (code : Module) (f : Flat) (d : IsFlatOf system code f) → singles_of f ≡ d.formulas
+singles_are system code f d =
+    ap singles_of d.is
+    ∙ no_single d.axioms d.formulas (axioms_copied (names_of_constants system code) code.decls d.axioms d.axioms_are)
+    ∙ all_singles d.formulas (invariants_copied (names_over_cells system code) code.decls d.formulas d.formulas_are)
 
 pub lines_hold : LinesLaw
 unfolding all_judged
@@ -221,4 +255,4 @@ lines_hold system code f steps d =
     ∙ ap (λ xs. xs ++ judged_by hyperinvariant_judged system) invariants
     ∙ ap (λ xs. map judged d.formulas ++ xs) hypers
     ∙ append-nil (map judged d.formulas)
-    ∙ ap (λ (g : Flat). map judged g.formulas) (sym d.is)
+    ∙ ap (map judged) (sym (singles_are system code f d))

@@ -3,7 +3,7 @@
 
 ghost use Rattle.uc_flat_refutations.specs.Laws.{FoundLaw, LinesLaw, RefutedLaw};
 
-/// The lines after so many steps are those of the formulas over cells, in order.
+/// The lines after so many steps are those of the formulas of one copy, in order.
 pub fn lines()
     ensures { LinesLaw }
 {}
