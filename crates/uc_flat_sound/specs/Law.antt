@@ -3,8 +3,13 @@ use Rattle.uc_syntax.specs.declared.declaration.Module.{Module}
 use Rattle.uc_meaning.specs.Lookup.{System}
 use Rattle.uc_flat.specs.declared.flat.Flat.{Flat}
 use Rattle.uc_flat.specs.Flats.{IsSound}
+use Rattle.uc_symstep.specs.Known.{ReadsOwnTypes}
 use Rattle.uc_flat_design.specs.Design.{IsFlatOf}
 
--- The types of its cells are types, and all its code and formulas fit them.
+-- The types of its cells are types, all its code and formulas fit them, and its axioms speak of no cells.
 abbrev pub SoundLaw : Type 0
 SoundLaw = (system : System) (code : Module) (f : Flat) → IsFlatOf system code f → IsSound f
+
+-- Every constant that it reads is read at its own type.
+abbrev pub OwnTypesLaw : Type 0
+OwnTypesLaw = (system : System) (code : Module) (f : Flat) → IsFlatOf system code f → ReadsOwnTypes f
