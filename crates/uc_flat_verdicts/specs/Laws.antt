@@ -36,8 +36,8 @@ IsRightOf system line Passed = IsValid system line
 IsRightOf system line (Failed t) = Refutes system line (trace_of t)
 IsRightOf system line (Undef why) = Unit {0}
 
--- A right verdict over cells is right of the line of the design.
+-- A right verdict over cells on a formula of one copy is right of the line of the design.
 abbrev pub VerdictLaw : Type 0
 VerdictLaw =
-    (system : System) (code : Module) (f : Flat) (command : ℕ) (l : FlatLine) (x : Formula) → IsFlatOf system code f → slice_get f.formulas l.formula ≡ Some x → IsRightLine f l
+    (system : System) (code : Module) (f : Flat) (command : ℕ) (l : FlatLine) (x : Formula) → IsFlatOf system code f → slice_get f.formulas l.formula ≡ Some x → x.copies ≡ 1 → IsRightLine f l
     → IsRightOf system (design_line f command (l.steps, l.formula)) l.verdict
