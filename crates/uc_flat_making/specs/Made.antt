@@ -1,23 +1,25 @@
 -- The design over numbered cells of a design, or that it has none.
-use Rattle.std.specs.Prelude.{nat_eq, List, [], ◌∷◌, map, length, if◌then◌else◌, Option, Some, None, Result, Ok, Err}
+use Rattle.std.specs.Prelude.{nat_eq, List, [], ◌∷◌, ◌++◌, map, length, if◌then◌else◌, Option, Some, None, Result, Ok, Err}
 use Rattle.std.specs.Option.{option_map, option_and_then}
 use Rattle.std.specs.List.{list_all}
 use Rattle.uc_syntax.specs.declared.declaration.Module.{Module}
+use Rattle.uc_syntax.specs.declared.declaration.Decl.{Decl}
 use Rattle.uc_meaning.specs.Lookup.{System, init_of, next_of}
 use Rattle.uc_meaning.specs.Cells.{Cell, cells_of}
 use Rattle.uc_flat.specs.declared.flat.Flat.{Flat}
-use Rattle.uc_flat.specs.declared.flat.Formula.{Formula}
+use Rattle.uc_flat.specs.declared.flat.Constant.{Constant}
 use Rattle.uc_flat.specs.declared.statement.Statement.{Statement}
 use Rattle.uc_flat_order.specs.Arranged.{code_arranged}
 use Rattle.uc_flat_expressions.specs.declared.typed.Meant.{Meant}
 use Rattle.uc_flat_expressions.specs.declared.typed.FlatError.{FlatError}
 use Rattle.uc_flat_expressions.specs.declared.typed.FlatError.TheVariants.{NoMemory, NotBuilt}
 use Rattle.uc_flat_code.specs.Code.{code_of}
-use Rattle.uc_flat_names.specs.Names.{names_over_cells, types_of}
+use Rattle.uc_flat_names.specs.Names.{names_over_cells, types_of, without_cell, constant_types, flat_constants}
 use Rattle.uc_flat_design.specs.Sequential.{plainly}
 use Rattle.uc_flat_design.specs.Next.{primed_behind, names_between, step_code}
 use Rattle.uc_flat_table.specs.declared.cells.OwnCell.{OwnCell}
-use Rattle.uc_flat_design.specs.Design.{is_built, is_cell_type, flat_cell, formulas_from, IsFlatOf}
+use Rattle.uc_flat_design.specs.Design.{is_built, is_cell_type, flat_cell, invariant_in, axiom_in, formulas_from, IsFlatOf}
+use Rattle.uc_flat_making.specs.declared.parts.Conditions.{Conditions}
 
 -- The answer is the design over cells, or there is none; want of memory says nothing.
 abbrev pub IsMade : System → Result Flat FlatError → Type 0
@@ -31,16 +33,22 @@ IsMade system (Err NoMemory) = Unit {0}
 abbrev pub full : OwnCell → Cell
 full c = record { path = []; name = c.name; kind = c.kind; type = c.ty }
 
-abbrev pub flat_over : List Cell → List Statement → List Statement → List Formula → Flat
-flat_over cells init next formulas = record {
+-- the axioms, of names that stand for no cell, and then the invariants, where none is missing
+abbrev pub all_conditions : List Meant → List Decl → Option Conditions
+all_conditions names decls =
+    option_and_then (λ axioms. option_map (λ invariants. record { formulas = axioms ++ invariants; axioms = length axioms }) (formulas_from (invariant_in names) 0 decls))
+    (formulas_from (axiom_in (map without_cell names)) 0 decls)
+
+abbrev pub flat_over : List Cell → List Constant → List Statement → List Statement → Conditions → Flat
+flat_over cells constants init next conditions = record {
   cells = map flat_cell cells;
-  constants = [];
+  constants = constants;
   functions = [];
   init = init;
   step = step_code cells next;
   sites = [];
-  formulas = formulas;
-  axioms = 0;
+  formulas = conditions.formulas;
+  axioms = conditions.axioms;
 }
 
 -- the code of the next block, where this, arranged, writes no part of a cell on a way after it was written there, or read in the new state
@@ -48,13 +56,17 @@ abbrev pub next_once : List Meant → List Cell → Module → Option (List Stat
 next_once names cells code = code_arranged (names_between (length cells) names) (primed_behind (length cells)) (next_of code)
 
 -- the design over cells by what the names stand for
-abbrev pub made_over : List Meant → List Cell → Module → Option Flat
-made_over names cells code =
-    option_and_then (λ init. option_and_then (λ next. option_map (flat_over cells init next) (formulas_from names 0 code.decls)) (next_once names cells code)) (code_of names plainly (init_of code))
+abbrev pub made_over : List Meant → List Cell → List Constant → Module → Option Flat
+made_over names cells constants code =
+    option_and_then (λ init. option_and_then (λ next. option_map (flat_over cells constants init next) (all_conditions names code.decls)) (next_once names cells code)) (code_of names plainly (init_of code))
+
+-- the same, where the types of all constants are built
+abbrev pub made_with : System → Module → Option Flat
+made_with system code = if list_all is_cell_type (constant_types system) then made_over (names_over_cells system code) (cells_of system) (flat_constants system) code else None
 
 -- the same, where the types of all cells are built
 abbrev pub made_typed : System → Module → Option Flat
-made_typed system code = if list_all is_cell_type (types_of system) then made_over (names_over_cells system code) (cells_of system) code else None
+made_typed system code = if list_all is_cell_type (types_of system) then made_with system code else None
 
 -- the same, where all declarations are built
 abbrev pub made : System → Module → Option Flat

@@ -1,4 +1,5 @@
-//! The design over numbered cells of a design of one module, made: the types of its cells, its blocks, its formulas and the code of its inputs.
+//! The design over numbered cells of a design of one module, made: the types of its cells and of its constants, its blocks, its axioms and its
+//! other formulas, and the code of its inputs.
 #![tactic(auto)]
 
 mod blocks;
@@ -10,6 +11,6 @@ mod pieces;
 mod types;
 
 pub use making::flat_design;
-pub use names::names_between;
+pub use names::{names_between, without_cells};
 pub use parts::are_built;
 pub use types::is_cell_type;

@@ -1,24 +1,24 @@
 //! The tests of a design, and what is made of it.
 
-ghost use Rattle.std.specs.Prelude.{◌≡◌, ◌∷◌, [], true};
+ghost use Rattle.std.specs.Prelude.{◌≡◌, ◌∷◌, [], true, IfOk};
 ghost use Rattle.std.specs.List.{list_all};
 ghost use Rattle.uc_meaning.specs.Cells.{cells_of};
 ghost use Rattle.uc_flat_expressions.specs.Answers.{IsAnswer};
-ghost use Rattle.uc_flat_names.specs.Names.{StandsAlone, names_over_cells};
+ghost use Rattle.uc_flat_names.specs.Names.{StandsAlone, names_over_cells, flat_constants};
 ghost use Rattle.uc_flat_design.specs.Design.{is_built};
-ghost use Rattle.uc_flat_making.specs.Made.{IsMade, made_over, made_typed, made, made_whole};
+ghost use Rattle.uc_flat_making.specs.Made.{IsMade, made_over, made_with, made_typed, made, made_whole};
 
 use crate::parts::are_built;
 use crate::pieces::made_over;
 use crate::types::are_cell_types;
-use std::alloc::Global;
+use std::alloc::{AllocError, Global};
 use uc_flat::Flat;
 use uc_flat_expressions::FlatError;
-use uc_flat_table::{cell_types_of, names_table, own_cells};
+use uc_flat_table::{cell_types_of, constant_types_of, constants_of, names_table, own_cells};
 use uc_syntax::Module;
 use uc_type_reader::Tables;
 
-/// The design over numbered cells of a design, where this is one of one module whose declarations, types, code and invariants are built, and
+/// The design over numbered cells of a design, where this is one of one module whose declarations, types, code, axioms and invariants are built, and
 /// the statements of whose next block have an order in which no part of a cell is written on a way after it was written there, or read in
 /// the new state.
 pub fn flat_design(alloc: Global, tables: &Tables) -> Result<Flat, FlatError>
@@ -72,15 +72,43 @@ fn of_declarations(alloc: Global, tables: &Tables, code: &Module) -> Result<Flat
     if !are_cell_types(types.as_slice()) {
         return Err(FlatError::NotBuilt);
     }
-    over_cells(alloc, tables, code)
+    with_constants(alloc, tables, code)
 }
 
-/// The same, where all types are built too.
+/// The same, where the types of all cells are built too.
+fn with_constants(alloc: Global, tables: &Tables, code: &Module) -> Result<Flat, FlatError>
+    requires { StandsAlone tables.now code.now }
+    ensures { IsAnswer (made_with tables.now code.now) result }
+{
+    let types = constant_types_of(alloc, tables, code)?;
+    if !are_cell_types(types.as_slice()) {
+        return Err(FlatError::NotBuilt);
+    }
+    let flat = over_cells(alloc, tables, code)?;
+    let flat = constants_added(alloc, tables, code, flat)?;
+    Ok(flat)
+}
+
+/// The same but for its constants, where the types of these are built too.
 fn over_cells(alloc: Global, tables: &Tables, code: &Module) -> Result<Flat, FlatError>
     requires { StandsAlone tables.now code.now }
-    ensures { IsAnswer (made_over (names_over_cells tables.now code.now) (cells_of tables.now) code.now) result }
+    ensures { IsAnswer (made_over (names_over_cells tables.now code.now) (cells_of tables.now) [] code.now) result }
 {
     let names = names_table(alloc, tables, code)?;
     let cells = own_cells(alloc, tables, code)?;
     made_over(alloc, names.as_slice(), cells.as_slice(), code)
+}
+
+/// A design over cells with the constants of the module.
+fn constants_added(
+    alloc: Global,
+    tables: &Tables,
+    code: &Module,
+    mut flat: Flat,
+) -> Result<Flat, AllocError>
+    requires { StandsAlone tables.now code.now }
+    ensures { IfOk result (λ f. f ≡ record flat { constants = flat_constants tables.now }) }
+{
+    flat.constants = constants_of(alloc, tables, code)?;
+    Ok(flat)
 }

@@ -1,6 +1,7 @@
-//! What names stand for between two states.
+//! What names stand for between two states, and where there are no cells.
 
-ghost use Rattle.std.specs.Prelude.{◌≡◌, ◌+◌, Some, None, IfOk};
+ghost use Rattle.std.specs.Prelude.{◌≡◌, ◌+◌, Some, None, map, IfOk};
+ghost use Rattle.uc_flat_names.specs.Names.{without_cell};
 ghost use Rattle.uc_flat_design.specs.Next.{with_new, names_between};
 
 use std::alloc::{AllocError, Global};
@@ -43,6 +44,32 @@ pub fn names_between(alloc: Global, names: &[Meant], count: u32) -> Result<Items
     let mut all = Items::new(alloc);
     for meant in names {
         let more = with_new(alloc, meant, count)?;
+        all.push(more)?;
+    }
+    Ok(all)
+}
+
+fn without_cell(alloc: Global, meant: &Meant) -> Result<Meant, AllocError>
+    ensures { IfOk result (λ m. m ≡ without_cell meant.now) }
+{
+    match meant {
+        Meant::Unknown => Ok(Meant::Unknown),
+        Meant::Cell(_, _, _) => Ok(Meant::Unknown),
+        Meant::Label(number, labels, place) => Ok(Meant::Label(*number, *labels, *place)),
+        Meant::Constant(number, ty) => {
+            let ty = copy_ty(alloc, ty)?;
+            Ok(Meant::Constant(*number, ty))
+        }
+    }
+}
+
+/// What names stand for in an axiom, which reads no cells.
+pub fn without_cells(alloc: Global, names: &[Meant]) -> Result<Items<Meant>, AllocError>
+    ensures { IfOk result (λ all. all ≡ map without_cell names.now) }
+{
+    let mut all = Items::new(alloc);
+    for meant in names {
+        let more = without_cell(alloc, meant)?;
         all.push(more)?;
     }
     Ok(all)

@@ -1,6 +1,6 @@
 //! The design over cells by its cells and by what its names stand for.
 
-ghost use Rattle.std.specs.Prelude.{◌≡◌, ◌++◌, Some, map, length, IfOk};
+ghost use Rattle.std.specs.Prelude.{◌≡◌, ◌++◌, [], Some, map, length, IfOk};
 ghost use Rattle.uc_meaning.specs.Lookup.{init_of};
 ghost use Rattle.uc_flat_expressions.specs.Answers.{IsAnswer};
 ghost use Rattle.uc_flat_code.specs.Code.{code_of};
@@ -11,9 +11,9 @@ ghost use Rattle.uc_flat_making.specs.Made.{full, flat_over, next_once, made_ove
 
 use crate::blocks::{init_code, next_code};
 use crate::names::names_between;
-use crate::parts::{formulas, inputs};
+use crate::parts::{Conditions, all_conditions, inputs};
 use std::alloc::{AllocError, Global};
-use uc_flat::{Cell, Flat, Formula, Statement};
+use uc_flat::{Cell, Flat, Statement};
 use uc_flat_code::Writing;
 use uc_flat_expressions::{FlatError, Meant};
 use uc_flat_table::OwnCell;
@@ -76,16 +76,17 @@ fn step_code(
     Ok(code)
 }
 
+/// The design over cells but for its constants.
 fn flat_over(
     alloc: Global,
     cells: &[OwnCell],
     count: u32,
     init: Items<Statement>,
     next: Items<Statement>,
-    formulas: Items<Formula>,
+    conditions: Conditions,
 ) -> Result<Flat, FlatError>
     requires { count ≡ length (map full cells.now) }
-    ensures { IsAnswer (Some (flat_over (map full cells.now) init next formulas)) result }
+    ensures { IsAnswer (Some (flat_over (map full cells.now) [] init next conditions)) result }
 {
     let step = step_code(alloc, cells, count, next)?;
     let cells = flat_cells(alloc, cells)?;
@@ -96,8 +97,8 @@ fn flat_over(
         init,
         step,
         sites: Items::new(alloc),
-        formulas,
-        axioms: 0,
+        formulas: conditions.formulas,
+        axioms: conditions.axioms,
     })
 }
 
@@ -141,18 +142,18 @@ fn count_of(cells: &[OwnCell]) -> Result<u32, AllocError>
     }
 }
 
-/// The design over cells by its cells and by what its names stand for.
+/// The design over cells by its cells and by what its names stand for, but for its constants.
 pub(crate) fn made_over(
     alloc: Global,
     names: &[Meant],
     cells: &[OwnCell],
     code: &Module,
 ) -> Result<Flat, FlatError>
-    ensures { IsAnswer (made_over names.now (map full cells.now) code.now) result }
+    ensures { IsAnswer (made_over names.now (map full cells.now) [] code.now) result }
 {
     let count = count_of(cells)?;
     let init = plain_code(alloc, names, code)?;
     let next = next_once(alloc, names, cells, count, code)?;
-    let formulas = formulas(alloc, names, code.decls.as_slice())?;
-    flat_over(alloc, cells, count, init, next, formulas)
+    let conditions = all_conditions(alloc, names, code.decls.as_slice())?;
+    flat_over(alloc, cells, count, init, next, conditions)
 }

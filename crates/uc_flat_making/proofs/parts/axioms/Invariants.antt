@@ -1,0 +1,7 @@
+use Rattle.std.proofs.Common.{◌≡◌, ◌++◌, drop}
+use Rattle.std.specs.Option.{option_map}
+use Rattle.uc_flat_design.specs.Design.{axiom_in, formulas_from}
+use Rattle.uc_flat_making.proofs.parts.axioms.Given as goal
+
+abbrev pub invariant-loop-k : goal.invariant-loop-k
+invariant-loop-k l = formulas_from (axiom_in l.names) 0 l.decls ≡ option_map (λ xs. l.all ++ xs) (formulas_from (axiom_in l.names) l.k (drop l.k l.decls))
