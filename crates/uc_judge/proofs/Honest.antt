@@ -7,18 +7,17 @@ use Rattle.uc_syntax.specs.declared.declaration.Module.{Module}
 use Rattle.uc_meaning.specs.Lookup.{System, init_of}
 use Rattle.uc_meaning.specs.Cells.{cells_of}
 use Rattle.uc_flat.specs.declared.flat.Flat.{Flat}
-use Rattle.uc_flat.specs.Flats.{IsSound}
 use Rattle.uc_flat_code.specs.Code.{code_of}
-use Rattle.uc_flat_names.specs.Names.{names_over_cells}
+use Rattle.uc_flat_names.specs.Names.{names_over_cells, names_of_constants}
 use Rattle.uc_flat_design.specs.Sequential.{plainly}
 use Rattle.uc_flat_design.specs.Next.{primed_behind}
-use Rattle.uc_flat_design.specs.Design.{next_names, next_arranged, formulas_from, flat_with, IsFlatOf}
+use Rattle.uc_flat_design.specs.Design.{next_names, next_arranged, invariant_in, axiom_in, formulas_from, flat_with, IsFlatOf}
 use Rattle.uc_flat_lines.specs.declared.line.FlatLine.{FlatLine}
 use Rattle.uc_flat_lines.specs.declared.line.FlatVerdict.{FlatVerdict}
 use Rattle.uc_flat_lines.specs.declared.line.FlatVerdict.TheVariants.{Passed, Failed, Undef}
 use Rattle.uc_flat_lines.specs.declared.line.FlatWhy.TheVariants.{Budget, Memory}
 use Rattle.uc_flat_lines.specs.Lines.{lines_below, free_bits, IsHonestVerdict, IsHonestLine as IsHonestFlat, AreFlatJudged}
-use Rattle.uc_obligations.proofs.Knowing.{no_constants}
+use Rattle.uc_flat_sound.proofs.Sound.{own_types_hold}
 use Rattle.uc_symstep.specs.Known.{ReadsOwnTypes}
 use Rattle.uc_control.specs.declared.report.LineResult.{LineResult}
 use Rattle.uc_control.specs.Verdicts.{IsHonest}
@@ -36,8 +35,9 @@ one_flat system code other f g d e =
     let same : code ≡ other = ap (head_of code) (sym d.only ∙ e.only) in
     let init : d.init ≡ e.init = same_Some d.init e.init (sym d.init_is ∙ ap (λ m. code_of (names_over_cells system m) plainly (init_of m)) same ∙ e.init_is) in
     let next : d.next ≡ e.next = same_Some d.next e.next (sym d.next_is ∙ ap (λ m. code_of (next_names system m) (primed_behind (length (cells_of system))) (next_arranged system m)) same ∙ e.next_is) in
-    let formulas : d.formulas ≡ e.formulas = same_Some d.formulas e.formulas (sym d.formulas_are ∙ ap (λ m. formulas_from (names_over_cells system m) 0 m.decls) same ∙ e.formulas_are) in
-    d.is ∙ (λ i. flat_with system (init i) (next i) (formulas i)) ∙ sym e.is
+    let axioms : d.axioms ≡ e.axioms = same_Some d.axioms e.axioms (sym d.axioms_are ∙ ap (λ m. formulas_from (axiom_in (names_of_constants system m)) 0 m.decls) same ∙ e.axioms_are) in
+    let formulas : d.formulas ≡ e.formulas = same_Some d.formulas e.formulas (sym d.formulas_are ∙ ap (λ m. formulas_from (invariant_in (names_over_cells system m)) 0 m.decls) same ∙ e.formulas_are) in
+    d.is ∙ (λ i. flat_with system (init i) (next i) (axioms i) (formulas i)) ∙ sym e.is
 
 -- ---- verdicts
 
@@ -54,8 +54,7 @@ each_honest f budget (l ∷ ls) r h =
     (honest_as f budget l.steps l.verdict r (All-head (IsHonestFlat f budget) l ls h))
     (each_honest f budget ls r (All-tail (IsHonestFlat f budget) l ls h))
 
-pub honest_are : (system : System) (code : Module) (f : Flat) (budget before after n : ℕ) (ls : List FlatLine) → IsFlatOf system code f → IsSound f → AreFlatJudged f budget before after (lines_below f n) ls
+pub honest_are : (system : System) (code : Module) (f : Flat) (budget before after n : ℕ) (ls : List FlatLine) → IsFlatOf system code f → AreFlatJudged f budget before after (lines_below f n) ls
     → (other : Module) (g : Flat) → IsFlatOf system other g → All (IsHonestLine g budget) (map (line_as f budget) ls)
-honest_are system code f budget before after n ls d sound j other g e =
-    let none : f.constants ≡ [] = ap (λ (h : Flat). h.constants) d.is in
-    subst (λ h. All (IsHonestLine h budget) (map (line_as f budget) ls)) (one_flat system code other f g d e) (each_honest f budget ls (no_constants f sound none) j.honest)
+honest_are system code f budget before after n ls d j other g e =
+    subst (λ h. All (IsHonestLine h budget) (map (line_as f budget) ls)) (one_flat system code other f g d e) (each_honest f budget ls (own_types_hold system code f d) j.honest)

@@ -1,7 +1,8 @@
 -- Judged lines over cells are right lines of the report.
-use Rattle.std.proofs.Common.{◌≡◌, ℕ, zero, suc, ◌+◌, ◌*◌, ◌≤◌, List, [], ◌∷◌, ◌++◌, map, length, Bool, true, false, refl, sym, ap, ◌∙◌, subst, Option, Some, None}
+use Rattle.std.proofs.Common.{◌≡◌, ℕ, zero, suc, ◌+◌, ◌*◌, ◌≤◌, List, [], ◌∷◌, ◌++◌, map, length, Bool, true, false, refl, sym, ap, ◌∙◌, subst, Option, Some, None, arith}
 use Rattle.std.specs.Prelude.{cond, count_by, slice_get, nat_eq}
 use Rattle.std.specs.List.{All}
+use Rattle.std.proofs.lemmas.Bool.Decides.{nat_tests}
 use Rattle.std.proofs.lemmas.List.Sums.{sum_by-append}
 use Rattle.std.proofs.lemmas.List.Elements.{All-nil, All-cons, All-head, All-tail, All-append, All-map}
 use Rattle.uc_syntax.specs.declared.declaration.Module.{Module}
@@ -38,12 +39,16 @@ both P Q (x ∷ xs) h g = All-cons (λ x. P x × Q x) x xs (All-head P x xs h, A
 
 -- ---- each line is one of a formula
 
+-- a formula of one copy has the number
 abbrev IsThere : Flat → ℕ → Type 0
-IsThere f k = (x : Formula) × (slice_get f.formulas k ≡ Some x)
+IsThere f k = (x : Formula) × (slice_get f.formulas k ≡ Some x) × (x.copies ≡ 1)
 
-spoken : (o : Option Formula) → speaks_of_one o ≡ true → (x : Formula) × (o ≡ Some x)
+spoken : (o : Option Formula) → speaks_of_one o ≡ true → (x : Formula) × (o ≡ Some x) × (x.copies ≡ 1)
 spoken None h = absurd cc
-spoken (Some x) h = (x, refl)
+spoken (Some x) h = (x, refl, is_one x.copies h)
+  where
+    is_one : (n : ℕ) → nat_eq n 1 ≡ true → n ≡ 1
+    is_one n e = grind (arith, nat_tests)
 
 single_there : (f : Flat) (k : ℕ) (b : Bool) → speaks_of_one (slice_get f.formulas k) ≡ b → All (IsThere f) (listed_if b k)
 single_there f k true h = All-cons (IsThere f) k [] (spoken (slice_get f.formulas k) h) (All-nil (IsThere f))
@@ -97,7 +102,7 @@ pub verdicts_are : (system : System) (code : Module) (f : Flat) (budget before a
 verdicts_are system code f budget before after n ls d j =
     All-map (RightLine system) (line_as f budget) ls
     (weaker (λ l. IsThere f l.formula × IsRightLine f l) (λ l. RightLine system (line_as f budget l)) ls
-    (λ l h. right_as system budget (design_line f 0 (l.steps, l.formula)) l.verdict (verdict_holds system code f 0 l h.0.0 d h.0.1 h.1))
+    (λ l h. right_as system budget (design_line f 0 (l.steps, l.formula)) l.verdict (verdict_holds system code f 0 l h.0.0 d h.0.1 h.0.2 h.1))
     (both (λ l. IsThere f l.formula) (IsRightLine f) ls there j.right))
   where
     there : All (λ (l : FlatLine). IsThere f l.formula) ls

@@ -25,7 +25,6 @@ use Rattle.uc_flat_names.specs.Names.{StandsAlone}
 use Rattle.uc_flat_making.proofs.Answered.{stands_alone}
 use Rattle.uc_fragment.specs.Plain.{is_print}
 use Rattle.uc_runnable.specs.Runnable.{RunsOver}
-use Rattle.uc_flat_sound.proofs.Sound.{sound_holds}
 use Rattle.uc_judge.specs.Lines.{line_as}
 use Rattle.uc_judge.specs.Reports.{IsHonestLine, IsReport}
 use Rattle.uc_prints.specs.Prints.{print_as}
@@ -91,7 +90,7 @@ unrolled_report system f depth budget before after js prints r u judged ls ps de
       lines = ap (map (λ l. l.line)) is ∙ are ∙ sym (all_lines_are system depth prints u);
       commands = subst (All OwnCommand) (sym is) (commands_are f budget js);
       verdicts = subst (All (RightLine system)) (sym is) (verdicts_are system r.code f budget before after (depth + 1) js r.is_flat judged);
-      honest = λ code g e. subst (All (IsHonestLine g budget)) (sym is) (honest_are system r.code f budget before after (depth + 1) js r.is_flat (sound_holds system r.code f r.is_flat) judged code g e);
+      honest = λ code g e. subst (All (IsHonestLine g budget)) (sym is) (honest_are system r.code f budget before after (depth + 1) js r.is_flat judged code g e);
       prints = printed ∙ ap (λ ds. map (print_as ds ls) prints) own
           ∙ sym (prints_are system r.code depth prints ls alone u (subst AreFirst (sym is) (lines_first f budget js)) count);
     }

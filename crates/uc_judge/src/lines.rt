@@ -31,7 +31,7 @@ fn states_of(
     Ok(states)
 }
 
-/// A trace over cells as a trace of the design.
+/// A trace over cells as a trace of the design, with its constants.
 fn trace_of(alloc: Global, trace: FlatTrace) -> Result<Trace, AllocError>
     ensures { IfOk result (λ t. t ≡ trace_of trace) }
 {
@@ -40,7 +40,7 @@ fn trace_of(alloc: Global, trace: FlatTrace) -> Result<Trace, AllocError>
     copies.push(states)?;
     Ok(Trace {
         interp: Interp {
-            consts: Items::new(alloc),
+            consts: trace.constants,
             tables: Items::new(alloc),
         },
         copies,

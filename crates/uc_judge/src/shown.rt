@@ -8,7 +8,7 @@ use uc_heads::DesignView;
 use uc_runnable::Runnable;
 use uc_trace::ShownDesign;
 
-/// The design with its labels and its cells, by reference.
+/// The design with its labels, its constants and its cells, by reference.
 pub fn shown_design(d: &Runnable) -> ShownDesign<'_>
     ensures shown { IsShown result }
     ensures design { described result.view ≡ d.now }
@@ -20,9 +20,11 @@ pub fn shown_design(d: &Runnable) -> ShownDesign<'_>
         modules: system.modules,
         main: system.main,
     };
+    let flat = d.flat();
     ShownDesign {
         view,
         labels: d.labels(),
-        cells: d.flat().cells.as_slice(),
+        constants: flat.constants.as_slice(),
+        cells: flat.cells.as_slice(),
     }
 }

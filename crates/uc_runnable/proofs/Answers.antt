@@ -34,22 +34,22 @@ pub not_there : {A : Type 0} (o : Option A) → o ≡ None → false ≡ is_some
 not_there o e = sym (ap is_some e)
 
 pub no_formula : (names : List Meant) (place : Place) (e : Expr) → flat_of names e ≡ None → Some place ≡ unfit_condition names place e
-no_formula names place e h = sym (ap (λ o. unless_there place (option_and_then (condition_of 0) o)) h)
+no_formula names place e h = sym (ap (λ o. unless_there place (option_and_then (condition_of 1 0) o)) h)
 
 abbrev formula_of : TypedExpression → Formula
 formula_of t = record { path = []; decl = 0; copies = 1; condition = t.expression }
 
-truth_by : (place : Place) (t : TypedExpression) (b : Bool) → b ≡ is_boolean t.ty → b ≡ true → None ≡ unless_there place (condition_of 0 t)
+truth_by : (place : Place) (t : TypedExpression) (b : Bool) → b ≡ is_boolean t.ty → b ≡ true → None ≡ unless_there place (condition_of 1 0 t)
 truth_by place t b is holds = ap (λ c. unless_there place (if c then Some (formula_of t ∷ []) else None)) (sym (sym is ∙ holds))
 
 pub truth_formula : (names : List Meant) (place : Place) (e : Expr) (t : TypedExpression) (b : Bool) → flat_of names e ≡ Some t → b ≡ is_boolean t.ty → b ≡ true → None ≡ unfit_condition names place e
-truth_formula names place e t b h is holds = truth_by place t b is holds ∙ sym (ap (λ o. unless_there place (option_and_then (condition_of 0) o)) h)
+truth_formula names place e t b h is holds = truth_by place t b is holds ∙ sym (ap (λ o. unless_there place (option_and_then (condition_of 1 0) o)) h)
 
-other_by : (place : Place) (t : TypedExpression) (b : Bool) → b ≡ is_boolean t.ty → b ≡ false → Some place ≡ unless_there place (condition_of 0 t)
+other_by : (place : Place) (t : TypedExpression) (b : Bool) → b ≡ is_boolean t.ty → b ≡ false → Some place ≡ unless_there place (condition_of 1 0 t)
 other_by place t b is fails = ap (λ c. unless_there place (if c then Some (formula_of t ∷ []) else None)) (sym (sym is ∙ fails))
 
 pub other_formula : (names : List Meant) (place : Place) (e : Expr) (t : TypedExpression) (b : Bool) → flat_of names e ≡ Some t → b ≡ is_boolean t.ty → b ≡ false → Some place ≡ unfit_condition names place e
-other_formula names place e t b h is fails = other_by place t b is fails ∙ sym (ap (λ o. unless_there place (option_and_then (condition_of 0) o)) h)
+other_formula names place e t b h is fails = other_by place t b is fails ∙ sym (ap (λ o. unless_there place (option_and_then (condition_of 1 0) o)) h)
 
 -- ---- statements of a block
 

@@ -1,5 +1,5 @@
 -- Where a module that does not run is at fault: its first declaration, or statement of a block, that has no form over cells.
-use Rattle.std.specs.Prelude.{ℕ, Bool, ◌&&◌, nat_eq, nat_le, if◌then◌else◌, List, [], ◌∷◌, length, Option, Some, None}
+use Rattle.std.specs.Prelude.{ℕ, Bool, ◌&&◌, nat_eq, nat_le, if◌then◌else◌, List, [], ◌∷◌, map, length, Option, Some, None}
 use Rattle.std.specs.Option.{option_and_then}
 use Rattle.std.specs.List.{list_all}
 use Rattle.uc_lexer.specs.declared.place.Place.{Place}
@@ -14,7 +14,7 @@ use Rattle.uc_syntax.specs.declared.declaration.WrittenRun.TheVariants.{Unroll}
 use Rattle.uc_syntax.specs.declared.declaration.Command.{Command}
 use Rattle.uc_syntax.specs.declared.declaration.Command.TheVariants.{Run, Check, PrintResults, PrintCounterexamples}
 use Rattle.uc_syntax.specs.declared.declaration.Decl.{Decl}
-use Rattle.uc_syntax.specs.declared.declaration.Decl.TheVariants.{OpaqueType, TypeAlias, TypeImport, Variables, Init, Next, Invariant, Control}
+use Rattle.uc_syntax.specs.declared.declaration.Decl.TheVariants.{OpaqueType, TypeAlias, TypeImport, Variables, Init, Next, Invariant, Axiom, Control}
 use Rattle.uc_syntax.specs.declared.declaration.Module.{Module}
 use Rattle.uc_meaning.specs.Lookup.{System, or_else, first_some}
 use Rattle.uc_meaning.specs.Types.{type_of_written}
@@ -25,7 +25,7 @@ use Rattle.uc_flat_expressions.specs.Expressions.{flat_of}
 use Rattle.uc_flat_code.specs.declared.writing.Writing.{Writing}
 use Rattle.uc_flat_code.specs.Code.{code_of}
 use Rattle.uc_flat_order.specs.Arranged.{code_arranged}
-use Rattle.uc_flat_names.specs.Names.{names_over_cells}
+use Rattle.uc_flat_names.specs.Names.{names_over_cells, without_cell}
 use Rattle.uc_flat_design.specs.Sequential.{plainly}
 use Rattle.uc_flat_design.specs.Next.{primed_behind, names_between}
 use Rattle.uc_flat_design.specs.Design.{is_built, is_cell_type, condition_of}
@@ -73,7 +73,7 @@ abbrev pub unfit_type : System → Module → Place → TypeExpr → Option Plac
 unfit_type system m place type = if is_cell_type (type_of_written system m type) then None else Some place
 
 abbrev pub unfit_condition : List Meant → Place → Expr → Option Place
-unfit_condition names place e = unless_there place (option_and_then (condition_of 0) (flat_of names e))
+unfit_condition names place e = unless_there place (option_and_then (condition_of 1 0) (flat_of names e))
 
 -- the place where a command begins
 abbrev pub command_at : Command → Place
@@ -97,7 +97,7 @@ unfit_commands cells block [] = None
 unfit_commands cells block (Run p name (Unroll n) ∷ cs) = if nat_le n most_steps then unfit_behind cells block name cs else Some p
 unfit_commands cells block (c ∷ cs) = Some (command_at c)
 
--- A type that is not finite, a block with a statement that has no code, an invariant that is no truth value over cells, or a command that does not run.
+-- A type that is not finite, a block with a statement that has no code, an invariant that is no truth value over cells, an axiom that is none over constants, or a command that does not run.
 abbrev pub unfit : System → Module → List Meant → List ℕ → ℕ → Decl → Option Place
 unfit system m names cells count (OpaqueType place i) = Some place
 unfit system m names cells count (TypeImport place n) = Some place
@@ -106,6 +106,7 @@ unfit system m names cells count (Variables place kind is type) = unfit_type sys
 unfit system m names cells count (Init place block) = unfit_block names plainly block
 unfit system m names cells count (Next place block) = unfit_next (names_between count names) (primed_behind count) place block
 unfit system m names cells count (Invariant place i e) = unfit_condition names place e
+unfit system m names cells count (Axiom place i e) = unfit_condition (map without_cell names) place e
 unfit system m names cells count (Control place commands) = unfit_commands cells place commands
 unfit system m names cells count other = None
 

@@ -16,7 +16,7 @@ use crate::types::unfit_type;
 use std::alloc::{AllocError, Global};
 use uc_flat_code::Writing;
 use uc_flat_expressions::{FlatError, Meant, flat_expression, is_boolean};
-use uc_flat_making::{are_built, names_between};
+use uc_flat_making::{are_built, names_between, without_cells};
 use uc_flat_table::{names_table, own_cells};
 use uc_fragment::variables;
 use uc_syntax::{Decl, Expr, Module, Place};
@@ -79,6 +79,10 @@ fn unfit(
             unfit_next(alloc, names.as_slice(), writing, *place, block.as_slice())
         }
         Decl::Invariant(place, _, e) => unfit_condition(alloc, names, *place, e),
+        Decl::Axiom(place, _, e) => {
+            let constants = without_cells(alloc, names)?;
+            unfit_condition(alloc, constants.as_slice(), *place, e)
+        }
         Decl::Control(place, commands) => Ok(unfit_commands(cells, *place, commands.as_slice())),
         _ => Ok(None),
     }
