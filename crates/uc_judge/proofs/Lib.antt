@@ -1,3 +1,4 @@
 pub mod Lined
 pub mod Honest
 pub mod Reported
+pub mod Shown
