@@ -14,7 +14,7 @@ use Rattle.uc_control.specs.declared.report.Report.{Report}
 use Rattle.uc_control.specs.Prints.{prints_of}
 use Rattle.uc_control.specs.Verdicts.{IsRightVerdict, IsHonest}
 
--- the free bits of a line: those of the cells, of what the init code draws, and of what each step draws with its inputs
+-- the free bits of a line: those of the constants, of the cells, of what the init code draws, and of what each step draws with its inputs
 abbrev pub line_bits : Flat → At → ℕ
 line_bits f (Exactly steps) = free_bits f steps
 line_bits f other = 0
