@@ -27,7 +27,7 @@ use Rattle.uc_flat.specs.Reading.{type_of}
 use Rattle.uc_flat.specs.Fine.{IsTyped}
 use Rattle.uc_flat.proofs.Forms.{type_apply}
 use Rattle.uc_flat.proofs.Making.{typed_apply}
-use Rattle.uc_flat_meaning.proofs.Reads.{ReadsOnly, apply_reads}
+use Rattle.uc_flat_meaning.proofs.OnlyReads.{ReadsOnly, apply_reads}
 use Rattle.uc_flat_expressions.specs.declared.typed.TypedExpression.{TypedExpression}
 use Rattle.uc_flat_code.specs.Code.{field_in, fields_in, with_field, field_place, replaced_in}
 

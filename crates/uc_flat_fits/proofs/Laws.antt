@@ -10,7 +10,7 @@ use Rattle.uc_flat.specs.Fine.{IsTest}
 use Rattle.uc_flat.specs.declared.expression.Expression.TheVariants.{Cell as ReadCell}
 use Rattle.uc_flat.proofs.Forms.{type_cell}
 use Rattle.uc_flat.proofs.Making.{Alone, fine_alone, AloneReads, reads_alone, typed_cell}
-use Rattle.uc_flat_meaning.proofs.Reads.{cell_reads}
+use Rattle.uc_flat_meaning.proofs.OnlyReads.{cell_reads}
 use Rattle.uc_flat_expressions.specs.declared.typed.TypedExpression.{TypedExpression}
 use Rattle.uc_flat_expressions.specs.declared.typed.Meant.{Meant}
 use Rattle.uc_flat_expressions.specs.declared.typed.Meant.TheVariants.{Cell}

@@ -22,7 +22,7 @@ use Rattle.uc_flat_expressions.specs.declared.typed.TypedExpression.{TypedExpres
 use Rattle.uc_flat_expressions.specs.Building.{expressions_in, operation}
 use Rattle.uc_meaning.specs.Expressions.{Reading, reads}
 use Rattle.uc_flat_meaning.specs.Sayings.{ReadsTyped, Says}
-use Rattle.uc_flat_meaning.proofs.Reads.{apply_reads}
+use Rattle.uc_flat_meaning.proofs.OnlyReads.{apply_reads}
 
 abbrev pub types_in : List TypedExpression → List Ty
 types_in ts = map (λ t. t.ty) ts

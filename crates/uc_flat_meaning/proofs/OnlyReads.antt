@@ -1,5 +1,5 @@
 -- What is read inside an operation: where it reads constants of a kind, and its parts do, all of it does.
-use Rattle.std.proofs.Common.{◌≡◌, ℕ, List, map, rules, refl, sym, ap, ◌∙◌, subst, ◌⊎◌, inl, inr}
+use Rattle.std.proofs.Common.{◌≡◌, ℕ, List, rules, refl, sym, ap, ◌∙◌, subst, ◌⊎◌, inl, inr}
 use Rattle.std.specs.Prelude.{All, Contains}
 use Rattle.std.proofs.lemmas.List.Elements.{All-contains}
 use Rattle.uc_values.specs.declared.ty.Ty.{Ty}
