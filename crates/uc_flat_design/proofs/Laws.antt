@@ -10,17 +10,20 @@ use Rattle.uc_meaning.specs.declared.scope.Interp.{Interp}
 use Rattle.uc_meaning.specs.declared.scope.Site.{Site}
 use Rattle.uc_meaning.specs.declared.scope.State.{State}
 use Rattle.uc_meaning.specs.Lookup.{System, main_module, init_of, next_of}
-use Rattle.uc_meaning.specs.Cells.{Cell, longest_chain, as_list, instances_below, main_instance, cells_of, IsState, FitAll as FitTypes}
+use Rattle.uc_meaning.specs.Cells.{Cell, ConstantParts, constants_of, longest_chain, as_list, instances_below, main_instance, cells_of, IsState, FitAll as FitTypes}
 use Rattle.uc_meaning.specs.Code.{Running, Ending, Goes, Stopped, Unfit, then_run, run_each, run_by, bodies, run, in_scope}
 use Rattle.uc_meaning.specs.Expressions.{at_path}
 use Rattle.uc_meaning.specs.Steps.{IsInitial, IsStep, init_from, init, state_of, check_by, check_through, watched_first, main_next}
 use Rattle.uc_ops.specs.declared.model.Model.{Model}
 use Rattle.uc_flat.specs.declared.flat.Flat.{Flat}
+use Rattle.uc_flat.specs.declared.flat.Constant.{Constant as FlatConstant}
 use Rattle.uc_flat.specs.declared.statement.Statement.{Statement}
 use Rattle.uc_flat.specs.Flats.{cell_types}
 use Rattle.uc_flat.specs.Running.{Placed, run_all}
 use Rattle.uc_flat.specs.Executions.{FitAll, IsInitial as IsInitialOver, IsStep as IsStepOver}
-use Rattle.uc_flat_names.specs.Names.{StandsAlone, names_over_cells, types_of}
+use Rattle.uc_flat_names.specs.Names.{StandsAlone, names_over_cells, types_of, constant_types, flat_constant}
+use Rattle.uc_flat_names.specs.Constants.{SharesConstants}
+use Rattle.uc_flat_names.proofs.Cells.{stands_alone}
 use Rattle.uc_flat_design.specs.Sequential.{running, placed, AreAt, EndAlike}
 use Rattle.uc_flat_design.proofs.Sequential.{sequential_holds}
 use Rattle.uc_flat_design.specs.Next.{primed_behind, step_code, IsAsked, IsReached, IsNextCode}
@@ -44,7 +47,7 @@ pub main_is : (system : System) (code : Module) (f : Flat) → IsFlatOf system c
 main_is system code f d = ap (λ k. slice_get system.modules k) d.first ∙ ap (λ ms. slice_get ms 0) d.only
 
 pub alone_of : (system : System) (code : Module) (f : Flat) → IsFlatOf system code f → StandsAlone system code
-alone_of system code f d = record { main = main_is system code f d; alone = no_instances code.decls d.declarations }
+alone_of system code f d = stands_alone system code d.only d.first (no_instances code.decls d.declarations)
 
 types_are : (cells : List Cell) → map (λ c. c.ty) (map flat_cell cells) ≡ map (λ (c : Cell). c.type) cells
 types_are [] = refl
@@ -52,6 +55,13 @@ types_are (c ∷ cells) = ap (λ ts. c.type ∷ ts) (types_are cells)
 
 pub flat_types : (system : System) (code : Module) (f : Flat) → IsFlatOf system code f → cell_types f ≡ types_of system
 flat_types system code f d = ap cell_types d.is ∙ types_are (cells_of system)
+
+constants_are : (parts : List ConstantParts) → map (λ (c : FlatConstant). c.ty) (map flat_constant parts) ≡ map (λ (c : ConstantParts). c.type) parts
+constants_are [] = refl
+constants_are (c ∷ parts) = ap (λ ts. c.type ∷ ts) (constants_are parts)
+
+pub flat_constant_types : (system : System) (code : Module) (f : Flat) → IsFlatOf system code f → map (λ c. c.ty) f.constants ≡ constant_types system
+flat_constant_types system code f d = ap (λ (g : Flat). map (λ c. c.ty) g.constants) d.is ∙ constants_are (constants_of system)
 
 -- all init code is the init block of main
 init_is : (system : System) (code : Module) (f : Flat) → IsFlatOf system code f → (i : Interp) (cells left : List Value) → init system (running i cells left) ≡ run_by system (bodies system) (init_of code) (running i cells left)
@@ -116,9 +126,9 @@ whole [] (suc n) = refl
 whole (x ∷ xs) zero = refl
 whole (x ∷ xs) (suc n) = ap (λ ys. x ∷ ys) (whole xs n)
 
-module _ (system : System) (code : Module) (f : Flat) (i : Interp) (m : Model) (d : IsFlatOf system code f) where
+module _ (system : System) (code : Module) (f : Flat) (i : Interp) (m : Model) (d : IsFlatOf system code f) (shared : SharesConstants system i m) where
   abbrev alike : (others cells left : List Value) → FitAll (types_of system) cells → EndAlike i (types_of system) others (run_by system (bodies system) (init_of code) (running i cells left)) (run_all m (types_of system) d.init (placed others cells left))
-  alike others cells left fit = sequential_holds system (bodies system) i m (types_of system) (names_over_cells system code) (init_of code) d.init others cells left (init_table system code (alone_of system code f d) m d.types i) d.init_is fit
+  alike others cells left fit = sequential_holds system (bodies system) i m (types_of system) (names_over_cells system code) (init_of code) d.init others cells left (init_table system code (alone_of system code f d) m d.types d.constants i shared) d.init_is fit
 
   -- the init code over the cells of the design
   same_init : (p : Placed) → run_all m (cell_types f) f.init p ≡ run_all m (types_of system) d.init p
@@ -175,7 +185,7 @@ module _ (system : System) (code : Module) (f : Flat) (i : Interp) (m : Model) (
   -- ---- steps
 
   next_code : IsNextCode system m (next_names system code) i (cells_of system) (next_arranged system code) d.next
-  next_code = record { table = next_table system code (alone_of system code f d) m d.types i; plain = all_plain (types_of system) d.types; is = d.next_is }
+  next_code = record { table = next_table system code (alone_of system code f d) m d.types d.constants i shared; plain = all_plain (types_of system) d.types; is = d.next_is }
 
   same_statements : IsTakenFrom (next_arranged system code) (next_of code)
   same_statements = block_taken (next_names system code) (length (cells_of system)) (next_of code)
@@ -230,12 +240,12 @@ module _ (system : System) (code : Module) (f : Flat) (i : Interp) (m : Model) (
 
 pub initial_holds : InitialLaw
 initial_holds = record {
-  there = λ system code f i m s choices sites d h. initial_there system code f i m d s choices sites h;
-  here = λ system code f i m cells choices sites d h. initial_here system code f i m d cells choices sites h;
+  there = λ system code f i m s choices sites d shared h. initial_there system code f i m d shared s choices sites h;
+  here = λ system code f i m cells choices sites d shared h. initial_here system code f i m d shared cells choices sites h;
 }
 
 pub step_holds : StepLaw
 step_holds = record {
-  there = λ system code f i m old new choices sites d fit_old fit_new h. step_there system code f i m d old new choices sites fit_old fit_new h;
-  here = λ system code f i m old new choices sites d fit_old h. step_here system code f i m d old new choices sites fit_old h;
+  there = λ system code f i m old new choices sites d shared fit_old fit_new h. step_there system code f i m d shared old new choices sites fit_old fit_new h;
+  here = λ system code f i m old new choices sites d shared fit_old h. step_here system code f i m d shared old new choices sites fit_old h;
 }

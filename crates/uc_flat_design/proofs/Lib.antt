@@ -1,4 +1,5 @@
 pub mod Options
+pub mod Formulas
 pub mod Turns
 pub mod Fields
 pub mod Replacing

@@ -34,7 +34,8 @@ use Rattle.uc_flat_expressions.specs.Names.{of_cell, meant_as}
 use Rattle.uc_flat_expressions.specs.Expressions.{flat_of}
 use Rattle.uc_flat_meaning.specs.Sayings.{Says, IsMeant, AreMeant}
 use Rattle.uc_flat_meaning.proofs.Telling.{flat_says}
-use Rattle.uc_flat_names.specs.Names.{StandsAlone, names_over_cells, types_of}
+use Rattle.uc_flat_names.specs.Names.{StandsAlone, names_over_cells, types_of, constant_types}
+use Rattle.uc_flat_names.specs.Constants.{SharesConstants}
 use Rattle.uc_flat_names.proofs.Cells.{cell_type}
 use Rattle.uc_flat_names.proofs.Meaning.{name_in_cell, no_instance, names_hold}
 use Rattle.uc_flat_design.specs.Tables.{IsSaid}
@@ -45,7 +46,7 @@ use Rattle.uc_flat_design.proofs.Effects.{none_some}
 use Rattle.uc_flat_design.proofs.Halves.{get_behind, part_behind}
 use Rattle.uc_flat_design.proofs.Turns.{fit_part}
 use Rattle.uc_flat_design.proofs.Told.{fit_length, there_below}
-use Rattle.uc_flat_design.proofs.Tables.{all_valid, zeros_fit, no_interpretation, IsEntry, entry}
+use Rattle.uc_flat_design.proofs.Tables.{all_valid, zeros_fit, zero_interpretation, zero_model, zero_shared, IsEntry, entry}
 
 -- ---- names between two states
 
@@ -108,13 +109,14 @@ valid_at (t ∷ types) zero ty a h = subst Valid (some_same t ty h) (All-head Va
 valid_at (t ∷ types) (suc k) ty a h = valid_at types k ty (All-tail Valid t types a) h
 
 -- a cell says what is read, where it has its value
-cell_says : (m : Model) (types : List Ty) (values : List Value) (k : ℕ) (ty : Ty) (r : Reading) → Valid ty → slice_get types k ≡ Some ty → fits ty (part values k) ≡ true → r ≡ reads ty (part values k) → Says 0 m types values r (of_cell k ty)
-cell_says m types values k ty r v h f is = record {
+cell_says : (constants : List Ty) (m : Model) (types : List Ty) (values : List Value) (k : ℕ) (ty : Ty) (r : Reading) → Valid ty → slice_get types k ≡ Some ty → fits ty (part values k) ≡ true → r ≡ reads ty (part values k)
+    → Says constants m types values r (of_cell k ty)
+cell_says constants m types values k ty r v h f is = record {
   typed = record {
     cells = λ j w. omega (arith, there_below types k ty h, cell_number j k (within_cell k (CellOf j) w));
     parts = λ op parts w. absurd (apart_cell op parts k (within_cell k (Apply op parts) w));
   };
-  below = λ j t parts w. absurd (apart_cell _ parts k (within_cell k _ w));
+  reads = λ j t parts w. absurd (apart_cell _ parts k (within_cell k _ w));
   own = type_cell types k ∙ ap type_or h;
   valid = v;
   type = ap (λ (q : Reading). q.type) is;
@@ -123,9 +125,12 @@ cell_says m types values k ty r v h f is = record {
   literal = tt;
 }
 
-module _ (system : System) (code : Module) (alone : StandsAlone system code) (m : Model) (cell_types : list_all is_cell_type (types_of system) ≡ true) where
+module _ (system : System) (code : Module) (alone : StandsAlone system code) (m : Model) (cell_types : list_all is_cell_type (types_of system) ≡ true) (constants_fit : list_all is_cell_type (constant_types system) ≡ true) where
   abbrev types : List Ty
   types = types_of system
+
+  abbrev constants : List Ty
+  constants = constant_types system
 
   abbrev two : List Ty
   two = types ++ types
@@ -143,15 +148,16 @@ module _ (system : System) (code : Module) (alone : StandsAlone system code) (m 
   count = sym (length-map (cells_of system) (λ (c : CellOfDesign). c.type))
 
   -- what is said of the old cells is said of both
-  front : (old new : List Value) (r : Reading) (t : TypedExpression) → FitAll types old → Says 0 m types old r t → Says 0 m two (old ++ new) r t
+  front : (old new : List Value) (r : Reading) (t : TypedExpression) → FitAll types old → Says constants m types old r t → Says constants m two (old ++ new) r t
   front old new r t fit a =
       let f = front_holds m types types old new t.expression (fit_length types old fit) a.typed in
-      record { typed = f.typed; below = a.below; own = f.type ∙ a.own; valid = a.valid; type = a.type; value = a.value ∙ sym f.value; fit = a.fit; literal = a.literal }
+      record { typed = f.typed; reads = a.reads; own = f.type ∙ a.own; valid = a.valid; type = a.type; value = a.value ∙ sym f.value; fit = a.fit; literal = a.literal }
 
-  behind : (old new : List Value) (k : ℕ) (ty : Ty) (r : Reading) → FitAll types old → FitAll types new → slice_get types k ≡ Some ty → r ≡ reads ty (part new k) → Says 0 m two (old ++ new) r (of_cell (k + n) ty)
+  behind : (old new : List Value) (k : ℕ) (ty : Ty) (r : Reading) → FitAll types old → FitAll types new → slice_get types k ≡ Some ty → r ≡ reads ty (part new k)
+      → Says constants m two (old ++ new) r (of_cell (k + n) ty)
   behind old new k ty r fit_old fit_new h is =
       let there : part (old ++ new) (k + n) ≡ part new k = part_behind old new k n (count ∙ sym (fit_length types old fit_old)) in
-      cell_says m two (old ++ new) (k + n) ty r (valid_at types k ty valid h) (get_behind types types k n count ∙ h) (ap (fits ty) there ∙ fit_part types new k ty fit_new h) (is ∙ ap (reads ty) (sym there))
+      cell_says constants m two (old ++ new) (k + n) ty r (valid_at types k ty valid h) (get_behind types types k n count ∙ h) (ap (fits ty) there ∙ fit_part types new k ty fit_new h) (is ∙ ap (reads ty) (sym there))
 
   -- the entry of a name in the table of one state
   entry_between : (x k : ℕ) (p : Option ℕ) (ty : Ty) → slice_get (next_names system code) x ≡ Some (Cell k p ty) → IsEntry system code x k ty
@@ -160,30 +166,30 @@ module _ (system : System) (code : Module) (alone : StandsAlone system code) (m 
   typed : (x k : ℕ) (ty : Ty) → IsEntry system code x k ty → slice_get types k ≡ Some ty
   typed x k ty a = cell_type system code x k a.kind a.type alone a.has_cells a.variable a.cell ∙ ap Some a.own
 
-  module _ (i : Interp) (old new : List Value) (fit_old : FitAll types old) (fit_new : FitAll types new) where
+  module _ (i : Interp) (shared : SharesConstants system i m) (old new : List Value) (fit_old : FitAll types old) (fit_new : FitAll types new) where
     abbrev here : Scope
     here = between i new old
 
     top : IsTop here
     top = record { path = refl; locals = refl }
 
-    meant : AreMeant system here 0 m two (old ++ new) (next_names system code)
+    meant : AreMeant system here constants m two (old ++ new) (next_names system code)
     meant x primed t h = by_case (meant_between n (slice_get names x) primed t (ap (meant_as primed) (sym (slice_get-map (with_new n) names x)) ∙ h))
       where
-        by_case : (meant_as primed (slice_get names x) ≡ Some t) ⊎ IsNew n (slice_get names x) primed t → IsMeant system here 0 m two (old ++ new) x primed t
+        by_case : (meant_as primed (slice_get names x) ≡ Some t) ⊎ IsNew n (slice_get names x) primed t → IsMeant system here constants m two (old ++ new) x primed t
         by_case (inl e) =
-            let a = names_hold system code here 0 m old alone top refl valid fit_old x primed t e in
+            let a = names_hold system code here m old alone top shared (all_valid constants constants_fit) refl valid fit_old x primed t e in
             record { alone = a.alone; says = front old new (name system (elsewhere system) here x primed) t fit_old a.says }
         by_case (inr q) =
             let a = entry system code x q.cell q.other q.ty q.is in
             let read : name system (elsewhere system) here x true ≡ reads q.ty (part new q.cell) =
             name_in_cell system code alone here top (elsewhere system) x q.cell true a.kind a.type a.no_label a.variable a.has_cells a.cell ∙ ap (λ t. reads t (part new q.cell)) a.own in
-            subst (λ b. IsMeant system here 0 m two (old ++ new) x b t) (sym q.is_primed)
-            (subst (IsMeant system here 0 m two (old ++ new) x true) q.own
+            subst (λ b. IsMeant system here constants m two (old ++ new) x b t) (sym q.is_primed)
+            (subst (IsMeant system here constants m two (old ++ new) x true) q.own
             (record { alone = no_instance system code alone here top x; says = behind old new q.cell q.ty (name system (elsewhere system) here x true) fit_old fit_new (typed x q.cell q.ty a) read }))
 
-    says : (e : Expr) (t : TypedExpression) → flat_of (next_names system code) e ≡ Some t → Says 0 m two (old ++ new) (reading system here e) t
-    says e t h = flat_says system here 0 m two (old ++ new) (next_names system code) e t meant h
+    says : (e : Expr) (t : TypedExpression) → flat_of (next_names system code) e ≡ Some t → Says constants m two (old ++ new) (reading system here e) t
+    says e t h = flat_says system here constants m two (old ++ new) (next_names system code) e t meant h
 
     said : (e : Expr) (t : TypedExpression) → flat_of (next_names system code) e ≡ Some t → IsSaid system m two here (old ++ new) e t
     said e t h = let x = says e t h in record { same = x.value; fit = ap (fits t.ty) (sym x.value) ∙ x.fit }
@@ -193,17 +199,19 @@ module _ (system : System) (code : Module) (alone : StandsAlone system code) (m 
         let a = entry_between x k p ty h in
         name_in_cell system code alone here top (reading system) x k true a.kind a.type a.no_label a.variable a.has_cells a.cell ∙ ap (λ t. reads t (part new k)) a.own
 
-  pub next_table : (i : Interp) → IsNextTable system m types (next_names system code) i
-  next_table i = record {
-    says = λ old new fit_old fit_new e t h. said i old new fit_old fit_new e t h;
+  pub next_table : (i : Interp) → SharesConstants system i m → IsNextTable system m types (next_names system code) i
+  next_table i shared = record {
+    says = λ old new fit_old fit_new e t h. said i shared old new fit_old fit_new e t h;
     cells = λ x k p ty h. let a = entry_between x k p ty h in record { cell = a.cell; typed = typed x k ty a };
-    primes = λ x k p ty h old new fit_old fit_new. primes i old new fit_old fit_new x k p ty h;
+    primes = λ x k p ty h old new fit_old fit_new. primes i shared old new fit_old fit_new x k p ty h;
   }
 
-  -- what stands for an expression says it where all cells have the values that count as 0
-  pub next_says_at_zeros : (e : Expr) (t : TypedExpression) → flat_of (next_names system code) e ≡ Some t
-      → Says 0 m two (map zero_of types ++ map zero_of types) (reading system (between no_interpretation (map zero_of types) (map zero_of types)) e) t
-  next_says_at_zeros e t h =
-      let zeros = map zero_of types in
-      let fit = zeros_fit types cell_types in
-      says no_interpretation zeros zeros fit fit e t h
+-- what stands for an expression says it where all cells and constants have the values that count as 0
+pub next_says_at_zeros : (system : System) (code : Module) → StandsAlone system code → list_all is_cell_type (types_of system) ≡ true → list_all is_cell_type (constant_types system) ≡ true
+    → (e : Expr) (t : TypedExpression) → flat_of (next_names system code) e ≡ Some t
+    → Says (constant_types system) (zero_model system) (types_of system ++ types_of system) (map zero_of (types_of system) ++ map zero_of (types_of system))
+    (reading system (between (zero_interpretation system) (map zero_of (types_of system)) (map zero_of (types_of system))) e) t
+next_says_at_zeros system code alone cell_types constants_fit e t h =
+    let zeros = map zero_of (types_of system) in
+    let fit = zeros_fit (types_of system) cell_types in
+    says system code alone (zero_model system) cell_types constants_fit (zero_interpretation system) (zero_shared system constants_fit) zeros zeros fit fit e t h

@@ -1,5 +1,5 @@
 -- The table of names of a design is one for its init code and for its next block.
-use Rattle.std.proofs.Common.{◌≡◌, ℕ, List, [], ◌∷◌, map, length, refl, sym, ap, ◌∙◌, subst, true, false, Bool, Option, Some, None, arith}
+use Rattle.std.proofs.Common.{◌≡◌, ℕ, List, [], ◌∷◌, map, length, refl, sym, ap, ◌∙◌, subst, true, false, Bool, Option, Some, None, arith, append-nil}
 use Rattle.std.specs.Prelude.{◌&&◌, nat_lt, if◌then◌else◌, slice_get, All}
 use Rattle.std.specs.List.{list_all, filter_map}
 use Rattle.std.proofs.lemmas.List.Elements.{All-cons, All-nil}
@@ -23,7 +23,6 @@ use Rattle.uc_values.proofs.Shapes.{and_true, all_mapped}
 use Rattle.uc_values.proofs.Fitting.{zero-fits}
 use Rattle.uc_meaning.specs.declared.scope.Interp.{Interp}
 use Rattle.uc_meaning.specs.declared.scope.Scope.{Scope}
-use Rattle.uc_meaning.specs.declared.scope.State.{State}
 use Rattle.uc_meaning.specs.Lookup.{System, instance_in, variable_of}
 use Rattle.uc_meaning.specs.Types.{label_of, type_of_written}
 use Rattle.uc_meaning.specs.Cells.{cell_of, FitAll as FitTypes}
@@ -35,13 +34,15 @@ use Rattle.uc_ops.specs.Typing.{Valid, AllValid}
 use Rattle.uc_ops.specs.Meaning.{part}
 use Rattle.uc_flat.specs.Executions.{FitAll}
 use Rattle.uc_flat_expressions.specs.declared.typed.TypedExpression.{TypedExpression}
-use Rattle.uc_flat_expressions.specs.declared.typed.Meant.TheVariants.{Unknown, Cell, Label}
+use Rattle.uc_flat_expressions.specs.declared.typed.Meant.TheVariants.{Unknown, Cell, Label, Constant}
 use Rattle.uc_flat_expressions.specs.Expressions.{flat_of}
 use Rattle.uc_flat_meaning.specs.Sayings.{Says}
 use Rattle.uc_flat_meaning.proofs.Telling.{flat_says}
-use Rattle.uc_flat_names.specs.Names.{StandsAlone, of_label, of_cell_number, of_kind, of_variable, by_label, meant_in, counted, names_over_cells, types_of}
+use Rattle.uc_flat_names.specs.Names.{StandsAlone, of_label, of_cell_number, of_kind, of_variable, by_label, meant_in, counted, names_over_cells, types_of, names_of_constants, constant_types}
+use Rattle.uc_flat_names.specs.Constants.{SharesConstants}
 use Rattle.uc_flat_names.proofs.Cells.{HasCells, cell_type}
-use Rattle.uc_flat_names.proofs.Meaning.{counted_at, mapped_at, name_in_cell, names_hold}
+use Rattle.uc_flat_names.proofs.Meaning.{counted_at, mapped_at, name_in_cell, names_hold, constants_hold}
+use Rattle.uc_flat_names.proofs.Sharing.{shares_first}
 use Rattle.uc_flat_design.specs.Tables.{IsSaid, IsTable}
 use Rattle.uc_flat_design.specs.Sequential.{now}
 use Rattle.uc_same_values.specs.Same.{has_no_array, no_array_form}
@@ -151,6 +152,9 @@ no_cell_label system l k o ty h = by_test (nat_lt l.1 (label_count system l.0)) 
 no_cell_unknown : (k : ℕ) (o : Option ℕ) (ty : Ty) → Unknown ≡ Cell k o ty → ⊥
 no_cell_unknown k o ty h = cc
 
+no_cell_constant : (j k : ℕ) (o : Option ℕ) (u ty : Ty) → Constant j u ≡ Cell k o ty → ⊥
+no_cell_constant j k o u ty h = cc
+
 same_number : (k j : ℕ) (o p : Option ℕ) (t u : Ty) → Cell k o t ≡ Cell j p u → k ≡ j
 same_number k j o p t u h = cc
 
@@ -168,7 +172,7 @@ entry_kind : (system : System) (code : Module) (x k : ℕ) (p : Option ℕ) (ty 
 entry_kind system code x k p ty Variable type l v e = entry_cell system code x k p ty Variable type l v tt (cell_of system [] x) refl e
 entry_kind system code x k p ty Input type l v e = entry_cell system code x k p ty Input type l v tt (cell_of system [] x) refl e
 entry_kind system code x k p ty Output type l v e = entry_cell system code x k p ty Output type l v tt (cell_of system [] x) refl e
-entry_kind system code x k p ty constant_kind type l v e = absurd (no_cell_unknown k p ty e)
+entry_kind system code x k p ty constant_kind type l v e = absurd (no_cell_constant _ k p _ ty e)
 
 entry_variable : (system : System) (code : Module) (x k : ℕ) (p : Option ℕ) (ty : Ty) → label_of system code x ≡ None → (o : Option (VariableKind × TypeExpr)) → variable_of code x ≡ o
     → of_variable system code x o ≡ Cell k p ty → IsEntry system code x k ty
@@ -185,44 +189,65 @@ entry system code x k p ty h =
     let is : y.0 ≡ x = omega (arith, counted_at 0 (length system.names) x y.0 y.1) in
     entry_label system code x k p ty (label_of system code x) refl (ap (meant_in system code) (sym is) ∙ y.2)
 
-abbrev pub no_interpretation : Interp
-no_interpretation = record { consts = []; tables = [] }
+-- Where all constants have the values that count as 0: an interpretation, and a model.
+abbrev pub zero_interpretation : System → Interp
+zero_interpretation system = record { consts = map zero_of (constant_types system); tables = [] }
 
-module _ (system : System) (code : Module) (alone : StandsAlone system code) (m : Model) (cell_types : list_all is_cell_type (types_of system) ≡ true) where
-  valid : AllValid (types_of system)
-  valid = all_valid (types_of system) cell_types
+abbrev pub zero_model : System → Model
+zero_model system = record { symbols = map zero_of (constant_types system); tables = [] }
 
+pub zero_shared : (system : System) → list_all is_cell_type (constant_types system) ≡ true → SharesConstants system (zero_interpretation system) (zero_model system)
+zero_shared system constants_fit =
+    shares_first system (zero_interpretation system) (zero_model system) [] (zeros_fit (constant_types system) constants_fit) (sym (append-nil (map zero_of (constant_types system))))
+
+module _ (system : System) (code : Module) (alone : StandsAlone system code) (constants_fit : list_all is_cell_type (constant_types system) ≡ true) where
+  constants_valid : AllValid (constant_types system)
+  constants_valid = all_valid (constant_types system) constants_fit
+
+  -- what stands for an expression of an axiom says it
+  pub axiom_says : (s : Scope) (m : Model) → IsTop s → SharesConstants system s.interp m → (e : Expr) (t : TypedExpression) → flat_of (names_of_constants system code) e ≡ Some t
+      → Says (constant_types system) m [] [] (reading system s e) t
+  axiom_says s m top shared e t h = flat_says system s (constant_types system) m [] [] (names_of_constants system code) e t (constants_hold system code s m alone top shared constants_valid) h
+
+  pub axiom_says_at_zeros : (e : Expr) (t : TypedExpression) → flat_of (names_of_constants system code) e ≡ Some t
+      → Says (constant_types system) (zero_model system) [] [] (reading system (now (zero_interpretation system) []) e) t
+  axiom_says_at_zeros e t h = axiom_says (now (zero_interpretation system) []) (zero_model system) (record { path = refl; locals = refl }) (zero_shared system constants_fit) e t h
+
+module _ (system : System) (code : Module) (alone : StandsAlone system code) (m : Model) (cell_types : list_all is_cell_type (types_of system) ≡ true) (constants_fit : list_all is_cell_type (constant_types system) ≡ true) where
   -- what stands for an expression says it
-  says : (s : Scope) (cells : List Value) (top : IsTop s) → s.before ≡ state_of cells → FitAll (types_of system) cells → (e : Expr) (t : TypedExpression) → flat_of (names_over_cells system code) e ≡ Some t
-      → Says 0 m (types_of system) cells (reading system s e) t
-  says s cells top before fit e t h = flat_says system s 0 m (types_of system) cells (names_over_cells system code) e t (names_hold system code s 0 m cells alone top before valid fit) h
+  says : (s : Scope) (cells : List Value) (top : IsTop s) → SharesConstants system s.interp m → s.before ≡ state_of cells → FitAll (types_of system) cells → (e : Expr) (t : TypedExpression) → flat_of (names_over_cells system code) e ≡ Some t
+      → Says (constant_types system) m (types_of system) cells (reading system s e) t
+  says s cells top shared before fit e t h =
+      flat_says system s (constant_types system) m (types_of system) cells (names_over_cells system code) e t
+      (names_hold system code s m cells alone top shared (all_valid (constant_types system) constants_fit) before (all_valid (types_of system) cell_types) fit) h
 
-  said : (s : Scope) (cells : List Value) (top : IsTop s) → s.before ≡ state_of cells → FitAll (types_of system) cells → (e : Expr) (t : TypedExpression) → flat_of (names_over_cells system code) e ≡ Some t
+  said : (s : Scope) (cells : List Value) (top : IsTop s) → SharesConstants system s.interp m → s.before ≡ state_of cells → FitAll (types_of system) cells → (e : Expr) (t : TypedExpression) → flat_of (names_over_cells system code) e ≡ Some t
       → IsSaid system m (types_of system) s cells e t
-  said s cells top before fit e t h =
-      let x = says s cells top before fit e t h in
+  said s cells top shared before fit e t h =
+      let x = says s cells top shared before fit e t h in
       record { same = x.value; fit = ap (fits t.ty) (sym x.value) ∙ x.fit }
 
-  -- a table in scopes of main
-  table_in : (scopes : List Value → Scope) → ((cells : List Value) → IsTop (scopes cells)) → ((cells : List Value) → (scopes cells).before ≡ state_of cells) → IsTable system m (types_of system) (names_over_cells system code) scopes
-  table_in scopes tops befores = record {
-    expressions = λ cells fit e t h. said (scopes cells) cells (tops cells) (befores cells) fit e t h;
+  -- the table in main, with one state
+  pub init_table : (i : Interp) → SharesConstants system i m → IsTable system m (types_of system) (names_over_cells system code) (now i)
+  init_table i shared = record {
+    expressions = λ cells fit e t h. said (now i cells) cells (top cells) shared refl fit e t h;
     cells = λ x k p ty h.
         let a = entry system code x k p ty h in
         record {
           cell = a.cell;
           typed = cell_type system code x k a.kind a.type alone a.has_cells a.variable a.cell ∙ ap Some a.own;
           read = λ cells fit.
-              name_in_cell system code alone (scopes cells) (tops cells) (reading system) x k false a.kind a.type a.no_label a.variable a.has_cells a.cell
-              ∙ ap (λ (q : State). reads (type_of_written system code a.type) (part q.cells k)) (befores cells)
-              ∙ ap (λ t. reads t (part cells k)) a.own;
+              name_in_cell system code alone (now i cells) (top cells) (reading system) x k false a.kind a.type a.no_label a.variable a.has_cells a.cell ∙ ap (λ t. reads t (part cells k)) a.own;
         };
   }
+    where
+      top : (cells : List Value) → IsTop (now i cells)
+      top cells = record { path = refl; locals = refl }
 
-  pub init_table : (i : Interp) → IsTable system m (types_of system) (names_over_cells system code) (now i)
-  init_table i = table_in (now i) (λ cells. record { path = refl; locals = refl }) (λ cells. refl)
-
-  -- what stands for an expression says it where all cells have the values that count as 0
-  pub says_at_zeros : (e : Expr) (t : TypedExpression) → flat_of (names_over_cells system code) e ≡ Some t
-      → Says 0 m (types_of system) (map zero_of (types_of system)) (reading system (now no_interpretation (map zero_of (types_of system))) e) t
-  says_at_zeros e t h = says (now no_interpretation (map zero_of (types_of system))) (map zero_of (types_of system)) (record { path = refl; locals = refl }) refl (zeros_fit (types_of system) cell_types) e t h
+-- what stands for an expression says it where all cells and constants have the values that count as 0
+pub says_at_zeros : (system : System) (code : Module) → StandsAlone system code → list_all is_cell_type (types_of system) ≡ true → list_all is_cell_type (constant_types system) ≡ true
+    → (e : Expr) (t : TypedExpression) → flat_of (names_over_cells system code) e ≡ Some t
+    → Says (constant_types system) (zero_model system) (types_of system) (map zero_of (types_of system)) (reading system (now (zero_interpretation system) (map zero_of (types_of system))) e) t
+says_at_zeros system code alone cell_types constants_fit e t h =
+    let zeros = map zero_of (types_of system) in
+    says system code alone (zero_model system) cell_types constants_fit (now (zero_interpretation system) zeros) zeros (record { path = refl; locals = refl }) (zero_shared system constants_fit) refl (zeros_fit (types_of system) cell_types) e t h

@@ -24,9 +24,10 @@ use Rattle.uc_ops.specs.Decisions.{types-decided}
 use Rattle.uc_flat.specs.declared.expression.Expression.{Expression}
 use Rattle.uc_flat.specs.declared.expression.Expression.TheVariants.{Apply}
 use Rattle.uc_flat.specs.Reading.{type_of}
-use Rattle.uc_flat.specs.Fine.{IsTyped, ReadsBelow}
+use Rattle.uc_flat.specs.Fine.{IsTyped}
 use Rattle.uc_flat.proofs.Forms.{type_apply}
-use Rattle.uc_flat.proofs.Making.{typed_apply, reads_apply}
+use Rattle.uc_flat.proofs.Making.{typed_apply}
+use Rattle.uc_flat_meaning.proofs.OnlyReads.{ReadsOnly, apply_reads}
 use Rattle.uc_flat_expressions.specs.declared.typed.TypedExpression.{TypedExpression}
 use Rattle.uc_flat_code.specs.Code.{field_in, fields_in, with_field, field_place, replaced_in}
 
@@ -151,21 +152,21 @@ abbrev IsPlain : Op → Type 0
 IsPlain (Symbol k ty) = ⊥
 IsPlain other = Unit {0}
 
-plain_below : (n : ℕ) (op : Op) → IsPlain op → (k : ℕ) (ty : Ty) → op ≡ Symbol k ty → k < n
-plain_below n op h k ty e = absurd (subst IsPlain e h)
+plain_reads : (A : ℕ → Ty → Type 0) (op : Op) → IsPlain op → (k : ℕ) (ty : Ty) → op ≡ Symbol k ty → A k ty
+plain_reads A op h k ty e = absurd (subst IsPlain e h)
 
-module _ (n : ℕ) where
-  field_reads : (whole : Expression) (k : ℕ) → ReadsBelow n whole → ReadsBelow n (field_in whole k)
-  field_reads whole k h = reads_apply n (GetField k) (whole ∷ []) (plain_below n (GetField k) tt) (All-cons (ReadsBelow n) whole [] h (All-nil (ReadsBelow n)))
+module _ (A : ℕ → Ty → Type 0) where
+  field_reads : (whole : Expression) (k : ℕ) → ReadsOnly A whole → ReadsOnly A (field_in whole k)
+  field_reads whole k h = apply_reads A (GetField k) (whole ∷ []) (plain_reads A (GetField k) tt) (All-cons (ReadsOnly A) whole [] h (All-nil (ReadsOnly A)))
 
-  all_read : (whole : Expression) (fs : List (Field Ty)) (j : ℕ) → ReadsBelow n whole → All (ReadsBelow n) (fields_in whole j fs)
+  all_read : (whole : Expression) (fs : List (Field Ty)) (j : ℕ) → ReadsOnly A whole → All (ReadsOnly A) (fields_in whole j fs)
   unfolding fields_in
-  all_read whole [] j h = All-nil (ReadsBelow n)
-  all_read whole (d ∷ fs) j h = All-cons (ReadsBelow n) (field_in whole j) (fields_in whole (j + 1) fs) (field_reads whole j h) (all_read whole fs (j + 1) h)
+  all_read whole [] j h = All-nil (ReadsOnly A)
+  all_read whole (d ∷ fs) j h = All-cons (ReadsOnly A) (field_in whole j) (fields_in whole (j + 1) fs) (field_reads whole j h) (all_read whole fs (j + 1) h)
 
-  pub replaced_reads : (parts : List TargetPart) (whole e : Expression) (ty : Ty) (t : TypedExpression) → ReadsBelow n whole → ReadsBelow n t.expression → replaced_in whole ty parts t ≡ Some e → ReadsBelow n e
+  pub replaced_reads : (parts : List TargetPart) (whole e : Expression) (ty : Ty) (t : TypedExpression) → ReadsOnly A whole → ReadsOnly A t.expression → replaced_in whole ty parts t ≡ Some e → ReadsOnly A e
   unfolding replaced_in
-  replaced_reads [] whole e ty t h g r = subst (ReadsBelow n) (if_parts (equal_types ty t.ty) t.expression e r).1 g
+  replaced_reads [] whole e ty t h g r = subst (ReadsOnly A) (if_parts (equal_types ty t.ty) t.expression e r).1 g
   replaced_reads (FieldPart place f ∷ parts) whole e ty t h g r =
       let s = then_parts (λ k. option_and_then (λ d. option_map (with_field whole ty k) (replaced_in (field_in whole k) d.ty parts t)) (slice_get (fields_of ty) k)) (field_place ty f.name) e r in
       let k = s.0 in
@@ -173,7 +174,7 @@ module _ (n : ℕ) where
       let d = o.0 in
       let q = map_parts (with_field whole ty k) (replaced_in (field_in whole k) d.ty parts t) e o.2 in
       let part_reads = replaced_reads parts (field_in whole k) q.0 d.ty t (field_reads whole k h) g q.1 in
-      subst (ReadsBelow n) q.2
-      (reads_apply n (MkRec ty) (slice_set (fields_in whole 0 (fields_of ty)) k q.0) (plain_below n (MkRec ty) tt)
-      (All-set (ReadsBelow n) (fields_in whole 0 (fields_of ty)) k q.0 part_reads (all_read whole (fields_of ty) 0 h)))
+      subst (ReadsOnly A) q.2
+      (apply_reads A (MkRec ty) (slice_set (fields_in whole 0 (fields_of ty)) k q.0) (plain_reads A (MkRec ty) tt)
+      (All-set (ReadsOnly A) (fields_in whole 0 (fields_of ty)) k q.0 part_reads (all_read whole (fields_of ty) 0 h)))
   replaced_reads (ElementPart place i ∷ parts) whole e ty t h g r = absurd (none-some e r)

@@ -1,5 +1,5 @@
 -- The laws of code that stands for code of a design.
-use Rattle.std.proofs.Common.{◌≡◌, ℕ, ◌+◌, List, refl, sym, ap, ◌∙◌, subst, Option, Some, None, slice_get, arith, ◌++◌}
+use Rattle.std.proofs.Common.{◌≡◌, ℕ, ◌+◌, ◌<◌, List, refl, sym, ap, ◌∙◌, subst, Option, Some, None, slice_get, arith, ◌++◌}
 use Rattle.std.specs.Prelude.{Bool as Truth, true}
 use Rattle.std.proofs.lemmas.Option.{none-some, same_Some, slice_get_within, get_or_from_slice_get}
 use Rattle.std.proofs.lemmas.List.Elements.{All-contains}
@@ -9,7 +9,8 @@ use Rattle.uc_ops.specs.Typing.{Valid, AllValid, type_or}
 use Rattle.uc_flat.specs.Fine.{IsTest}
 use Rattle.uc_flat.specs.declared.expression.Expression.TheVariants.{Cell as ReadCell}
 use Rattle.uc_flat.proofs.Forms.{type_cell}
-use Rattle.uc_flat.proofs.Making.{Alone, fine_alone, AloneReads, reads_alone, typed_cell, reads_cell}
+use Rattle.uc_flat.proofs.Making.{Alone, fine_alone, AloneReads, reads_alone, typed_cell}
+use Rattle.uc_flat_meaning.proofs.OnlyReads.{cell_reads}
 use Rattle.uc_flat_expressions.specs.declared.typed.TypedExpression.{TypedExpression}
 use Rattle.uc_flat_expressions.specs.declared.typed.Meant.{Meant}
 use Rattle.uc_flat_expressions.specs.declared.typed.Meant.TheVariants.{Cell}
@@ -18,9 +19,10 @@ use Rattle.uc_flat_expressions.specs.Types.{is_boolean}
 use Rattle.uc_flat_code.specs.declared.writing.Writing.{Writing}
 use Rattle.uc_flat_code.specs.declared.writing.Written.{Written}
 use Rattle.uc_flat_code.specs.Code.{may_write, may_havoc, written_as, written, havocked}
-use Rattle.uc_flat_fits.specs.Fits.{ExpressionsFit, AreWritten, ExpressionsReadBelow, FitsLaw, ReadsLaw, SequentialLaw, StepLaw}
+use Rattle.uc_flat_fits.specs.Fits.{ExpressionsFit, AreWritten, ExpressionsReadBelow, ExpressionsReadTyped, FitsLaw, ReadsLaw, TypedLaw, SequentialLaw, StepLaw}
 use Rattle.uc_flat_fits.proofs.Conditions.{boolean_is}
 use Rattle.uc_flat_fits.proofs.Fielded.{IsPart, replaced_part, replaced_reads}
+use Rattle.uc_flat_fits.proofs.Typing.{AloneTyped, typed_alone}
 use Rattle.uc_flat_fits.proofs.Suiting.{Suited, if_some, code_gives}
 use Rattle.uc_flat.proofs.Extending.{slice_get-back}
 
@@ -74,7 +76,17 @@ reads_suited names w n reads = record {
   assumed = λ e t is b. reads e t is;
   decided = λ e t xs ys is b. reads e t is;
   anything = λ x primed k is. tt;
-  given = λ x primed k parts e t z is that made. replaced_reads n parts (ReadCell k.cell) z k.ty t (reads_cell n k.cell) (reads e t that) made;
+  given = λ x primed k parts e t z is that made. replaced_reads (λ j ty. j < n) parts (ReadCell k.cell) z k.ty t (cell_reads (λ j ty. j < n) k.cell) (reads e t that) made;
+}
+
+-- and at their types
+pub typed_suited : (names : List Meant) (w : Writing) (constants : List Ty) → ExpressionsReadTyped names constants → Suited names w (AloneTyped constants)
+typed_suited names w constants reads = record {
+  assumed = λ e t is b. reads e t is;
+  decided = λ e t xs ys is b. reads e t is;
+  anything = λ x primed k is. tt;
+  given = λ x primed k parts e t z is that made.
+      replaced_reads (λ j ty. slice_get constants j ≡ Some ty) parts (ReadCell k.cell) z k.ty t (cell_reads (λ j ty. slice_get constants j ≡ Some ty) k.cell) (reads e t that) made;
 }
 
 pub fits_hold : FitsLaw
@@ -82,6 +94,9 @@ fits_hold names w types code flat fit cells valid is = fine_alone types flat (co
 
 pub reads_hold : ReadsLaw
 reads_hold names w n code flat reads is = reads_alone n flat (code_gives names w (AloneReads n) (reads_suited names w n reads) code flat is).at
+
+pub typed_hold : TypedLaw
+typed_hold names w constants code flat reads is = typed_alone constants flat (code_gives names w (AloneTyped constants) (typed_suited names w constants reads) code flat is)
 
 pub sequential_holds : SequentialLaw
 sequential_holds names types cells x k new ty is = ap (slice_get types) (omega arith) ∙ cells x k new ty is

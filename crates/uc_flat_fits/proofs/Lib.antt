@@ -1,5 +1,6 @@
 pub mod Conditions
 pub mod Standing
+pub mod Typing
 pub mod Fielded
 pub mod Suiting
 pub mod Laws

@@ -10,19 +10,19 @@ use Rattle.uc_flat.specs.declared.statement.Statement.TheVariants.{Assign, Havoc
 use Rattle.uc_flat.specs.Fine.{IsInside, outermost, in_first, in_second}
 use Rattle.uc_flat.proofs.Inside.{contains_one, contains_later}
 
-out_statement : (y : Statement-F Statement) → out-Statement (roll-Statement y) ≡ y
+pub out_statement : (y : Statement-F Statement) → out-Statement (roll-Statement y) ≡ y
 out_statement y = search (rules, the_lemmas)
 
-out_assign : (k : ℕ) (e : Expression) → out-Statement (Assign k e) ≡ AssignForm k e
+pub out_assign : (k : ℕ) (e : Expression) → out-Statement (Assign k e) ≡ AssignForm k e
 out_assign k e = ap out-Statement (sym (rolls-Assign k e)) ∙ out_statement (AssignForm k e)
 
 out_havoc : (k : ℕ) (listed : Truth) → out-Statement (Havoc k listed) ≡ HavocForm k listed
 out_havoc k listed = ap out-Statement (sym (rolls-Havoc k listed)) ∙ out_statement (HavocForm k listed)
 
-out_assume : (e : Expression) → out-Statement (Assume e) ≡ AssumeForm e
+pub out_assume : (e : Expression) → out-Statement (Assume e) ≡ AssumeForm e
 out_assume e = ap out-Statement (sym (rolls-Assume e)) ∙ out_statement (AssumeForm e)
 
-out_if : (e : Expression) (xs ys : List Statement) → out-Statement (If e xs ys) ≡ IfForm e xs ys
+pub out_if : (e : Expression) (xs ys : List Statement) → out-Statement (If e xs ys) ≡ IfForm e xs ys
 out_if e xs ys = ap out-Statement (sym (rolls-If e xs ys)) ∙ out_statement (IfForm e xs ys)
 
 -- ---- what stands in code

@@ -77,14 +77,14 @@ left_joined r (q ∷ qs) w e =
     left_joined (joined_of r q) qs (width r.type + width q.type) refl
     ∙ ap (λ u. reads (Bv u) (chained_from concatenated (bv_concat r.value q.value) (values_in qs))) k'
 
-module _ (n : ℕ) (m : Model) (types : List Ty) (cells : List Value) where
+module _ (constants : List Ty) (m : Model) (types : List Ty) (cells : List Value) where
   abbrev Step : Chain → (Reading → Reading → Reading) → Type 0
-  Step kind g = (r q : Reading) (a b c : TypedExpression) → Says n m types cells r a → Says n m types cells q b → joined kind a b ≡ Some c → Says n m types cells (g r q) c
+  Step kind g = (r q : Reading) (a b c : TypedExpression) → Says constants m types cells r a → Says constants m types cells q b → joined kind a b ≡ Some c → Says constants m types cells (g r q) c
 
   chain_says : (kind : Chain) (g : Reading → Reading → Reading) → Step kind g → (r : Reading) (a : TypedExpression) (qs : List Reading) (bs : List TypedExpression) (t : TypedExpression)
-      → Says n m types cells r a → AllTell n m types cells qs bs → chain_from kind a bs ≡ Some t → Says n m types cells (left g r qs) t
+      → Says constants m types cells r a → AllTell constants m types cells qs bs → chain_from kind a bs ≡ Some t → Says constants m types cells (left g r qs) t
   unfolding chain_from
-  chain_says kind g step r a [] [] t h all e = subst (Says n m types cells r) (some_is a t e) h
+  chain_says kind g step r a [] [] t h all e = subst (Says constants m types cells r) (some_is a t e) h
   chain_says kind g step r a [] (b ∷ bs) t h all e = absurd all
   chain_says kind g step r a (q ∷ qs) [] t h all e = absurd all
   chain_says kind g step r a (q ∷ qs) (b ∷ bs) t h all e =
@@ -99,28 +99,28 @@ module _ (n : ℕ) (m : Model) (types : List Ty) (cells : List Value) where
       let x = map_some (λ ty. operation (chain_op kind) ty (a ∷ b ∷ [])) (joined_type kind a.ty b.ty) c e in
       let j = widths_are a.ty b.ty x.0 x.1 in
       let ty : a.ty ≡ x.0 = j.1 ∙ sym j.3 in
-      subst (Says n m types cells (kept g r q)) x.2
-      (says_as n m types cells (reads x.0 (g r.value q.value)) (kept g r q) (operation (chain_op kind) x.0 (a ∷ b ∷ [])) (ap (λ u. reads u (g r.value q.value)) (h.type ∙ ty))
-      (pair_says n m types cells (chain_op kind) x.0 g r q a b j.0 h k j.1 j.2 suits (result (a.ty ∷ b.ty ∷ []) ∙ ty) plain (same j.0)))
+      subst (Says constants m types cells (kept g r q)) x.2
+      (says_as constants m types cells (reads x.0 (g r.value q.value)) (kept g r q) (operation (chain_op kind) x.0 (a ∷ b ∷ [])) (ap (λ u. reads u (g r.value q.value)) (h.type ∙ ty))
+      (pair_says constants m types cells (chain_op kind) x.0 g r q a b j.0 h k j.1 j.2 suits (result (a.ty ∷ b.ty ∷ []) ∙ ty) plain (same j.0)))
 
-  kept_chain : (kind : Chain) (g : Value → Value → Value) → Step kind (kept g) → (rs : List Reading) (ts : List TypedExpression) (t : TypedExpression) → AllTell n m types cells rs ts → chain kind ts ≡ Some t
-      → Says n m types cells (reads (type_first rs) (chained g (values_in rs))) t
+  kept_chain : (kind : Chain) (g : Value → Value → Value) → Step kind (kept g) → (rs : List Reading) (ts : List TypedExpression) (t : TypedExpression) → AllTell constants m types cells rs ts → chain kind ts ≡ Some t
+      → Says constants m types cells (reads (type_first rs) (chained g (values_in rs))) t
   kept_chain kind g step rs [] t all e = cc
   kept_chain kind g step [] (a ∷ bs) t all e = absurd all
   kept_chain kind g step (r ∷ qs) (a ∷ bs) t all e =
       let x = if_then (starts kind a.ty) (chain_from kind a bs) t e in
-      says_as n m types cells (left (kept g) r qs) (reads r.type (chained g (values_in (r ∷ qs)))) t (sym (left_kept g r qs)) (chain_says kind (kept g) step r a qs bs t all.0 all.1 x.1)
+      says_as constants m types cells (left (kept g) r qs) (reads r.type (chained g (values_in (r ∷ qs)))) t (sym (left_kept g r qs)) (chain_says kind (kept g) step r a qs bs t all.0 all.1 x.1)
 
-  pub bit_or_says : (rs : List Reading) (ts : List TypedExpression) (t : TypedExpression) → AllTell n m types cells rs ts → chain OrBits ts ≡ Some t → Says n m types cells (reads (type_first rs) (chained bv_or (values_in rs))) t
+  pub bit_or_says : (rs : List Reading) (ts : List TypedExpression) (t : TypedExpression) → AllTell constants m types cells rs ts → chain OrBits ts ≡ Some t → Says constants m types cells (reads (type_first rs) (chained bv_or (values_in rs))) t
   bit_or_says rs ts t all e = kept_chain OrBits bv_or (kept_step OrBits bv_or (λ a b ty j. joined_are OrBits a b ty j) (λ us s. s) (λ us. refl) tt (λ w us x y. refl)) rs ts t all e
 
-  pub bit_xor_says : (rs : List Reading) (ts : List TypedExpression) (t : TypedExpression) → AllTell n m types cells rs ts → chain Xor ts ≡ Some t → Says n m types cells (reads (type_first rs) (chained bv_xor (values_in rs))) t
+  pub bit_xor_says : (rs : List Reading) (ts : List TypedExpression) (t : TypedExpression) → AllTell constants m types cells rs ts → chain Xor ts ≡ Some t → Says constants m types cells (reads (type_first rs) (chained bv_xor (values_in rs))) t
   bit_xor_says rs ts t all e = kept_chain Xor bv_xor (kept_step Xor bv_xor (λ a b ty j. joined_are Xor a b ty j) (λ us s. s) (λ us. refl) tt (λ w us x y. refl)) rs ts t all e
 
-  pub bit_and_says : (rs : List Reading) (ts : List TypedExpression) (t : TypedExpression) → AllTell n m types cells rs ts → chain AndBits ts ≡ Some t → Says n m types cells (reads (type_first rs) (chained bv_and (values_in rs))) t
+  pub bit_and_says : (rs : List Reading) (ts : List TypedExpression) (t : TypedExpression) → AllTell constants m types cells rs ts → chain AndBits ts ≡ Some t → Says constants m types cells (reads (type_first rs) (chained bv_and (values_in rs))) t
   bit_and_says rs ts t all e = kept_chain AndBits bv_and (kept_step AndBits bv_and (λ a b ty j. joined_are AndBits a b ty j) (λ us s. s) (λ us. refl) tt (λ w us x y. refl)) rs ts t all e
 
-  pub product_says : (rs : List Reading) (ts : List TypedExpression) (t : TypedExpression) → AllTell n m types cells rs ts → chain Multiply ts ≡ Some t → Says n m types cells (reads (type_first rs) (chained product (values_in rs))) t
+  pub product_says : (rs : List Reading) (ts : List TypedExpression) (t : TypedExpression) → AllTell constants m types cells rs ts → chain Multiply ts ≡ Some t → Says constants m types cells (reads (type_first rs) (chained product (values_in rs))) t
   product_says rs ts t all e = kept_chain Multiply product (kept_step Multiply product (λ a b ty j. joined_are Multiply a b ty j) (λ us s. s) (λ us. refl) tt (λ w us x y. refl)) rs ts t all e
 
   -- equivalences
@@ -132,20 +132,20 @@ module _ (n : ℕ) (m : Model) (types : List Ty) (cells : List Value) where
       let same_values : same a.ty r.value q.value ≡ same_truth (holds r.value) (holds q.value) =
       ap (λ u. same u r.value q.value) j.0
       ∙ same_booleans r.value q.value (subst (λ u. IsTrue (fits u r.value)) j.0 h.fit) (subst (λ u. IsTrue (fits u q.value)) j.1 k.fit) in
-      subst (Says n m types cells (same_of r q)) x.2
-      (says_as n m types cells (reads x.0 (truth (same a.ty r.value q.value))) (same_of r q) (operation Eq x.0 (a ∷ b ∷ []))
+      subst (Says constants m types cells (same_of r q)) x.2
+      (says_as constants m types cells (reads x.0 (truth (same a.ty r.value q.value))) (same_of r q) (operation Eq x.0 (a ∷ b ∷ []))
       (ap (λ u. reads u (truth (same_truth (holds r.value) (holds q.value)))) (sym j.2) ∙ ap (λ s. reads x.0 (truth s)) (sym same_values))
-      (operation_says n m types cells Eq x.0 (r ∷ q ∷ []) (a ∷ b ∷ []) (h, (k, tt)) (Bool, ap (λ u. u ∷ b.ty ∷ []) j.0 ∙ ap (λ u. Bool ∷ u ∷ []) j.1) (sym j.2) tt))
+      (operation_says constants m types cells Eq x.0 (r ∷ q ∷ []) (a ∷ b ∷ []) (h, (k, tt)) (Bool, ap (λ u. u ∷ b.ty ∷ []) j.0 ∙ ap (λ u. Bool ∷ u ∷ []) j.1) (sym j.2) tt))
 
-  pub iff_says : (rs : List Reading) (ts : List TypedExpression) (t : TypedExpression) → AllTell n m types cells rs ts → chain Equal ts ≡ Some t → Says n m types cells (reads_truth (equivalent (values_in rs))) t
+  pub iff_says : (rs : List Reading) (ts : List TypedExpression) (t : TypedExpression) → AllTell constants m types cells rs ts → chain Equal ts ≡ Some t → Says constants m types cells (reads_truth (equivalent (values_in rs))) t
   iff_says rs [] t all e = cc
   iff_says [] (a ∷ bs) t all e = absurd all
   iff_says (r ∷ qs) (a ∷ bs) t all e =
       let x = if_then (is_boolean a.ty) (chain_from Equal a bs) t e in
       let h = all.0 in
       let is = boolean_is a.ty x.0 in
-      let b = truth_told n m types cells r a h is in
-      says_as n m types cells (left same_of r qs) (reads_truth (equivalent (values_in (r ∷ qs)))) t (sym (left_same r qs (h.type ∙ is) (b.is ∙ ap (λ u. truth (holds u)) (sym b.is))))
+      let b = truth_told constants m types cells r a h is in
+      says_as constants m types cells (left same_of r qs) (reads_truth (equivalent (values_in (r ∷ qs)))) t (sym (left_same r qs (h.type ∙ is) (b.is ∙ ap (λ u. truth (holds u)) (sym b.is))))
       (chain_says Equal same_of equal_step r a qs bs t h all.1 x.1)
 
   -- bits behind each other
@@ -156,41 +156,41 @@ module _ (n : ℕ) (m : Model) (types : List Ty) (cells : List Value) where
       let first : width r.type ≡ j.0 = ap width (h.type ∙ j.2) ∙ width_bits j.0 in
       let second : width q.type ≡ j.1 = ap width (k.type ∙ j.3) ∙ width_bits j.1 in
       let both : Bv (width r.type + width q.type) ≡ x.0 = ap (λ v. Bv (v + width q.type)) first ∙ ap (λ w. Bv (j.0 + w)) second ∙ sym j.4 in
-      subst (Says n m types cells (joined_of r q)) x.2
-      (says_as n m types cells (reads x.0 (bv_concat r.value q.value)) (joined_of r q) (operation Concat x.0 (a ∷ b ∷ [])) (ap (λ u. reads u (bv_concat r.value q.value)) both)
-      (operation_says n m types cells Concat x.0 (r ∷ q ∷ []) (a ∷ b ∷ []) (h, (k, tt))
+      subst (Says constants m types cells (joined_of r q)) x.2
+      (says_as constants m types cells (reads x.0 (bv_concat r.value q.value)) (joined_of r q) (operation Concat x.0 (a ∷ b ∷ [])) (ap (λ u. reads u (bv_concat r.value q.value)) both)
+      (operation_says constants m types cells Concat x.0 (r ∷ q ∷ []) (a ∷ b ∷ []) (h, (k, tt))
       (j.0, j.1, ap (λ u. u ∷ b.ty ∷ []) j.2 ∙ ap (λ u. Bv j.0 ∷ u ∷ []) j.3, j.5)
       (ap (λ u. Bv (width_of u + width_of b.ty)) j.2 ∙ ap (λ u. Bv (j.0 + width_of u)) j.3 ∙ sym j.4) tt))
 
-  pub concat_says : (rs : List Reading) (ts : List TypedExpression) (t : TypedExpression) → AllTell n m types cells rs ts → chain Joined ts ≡ Some t → Says n m types cells (reads (Bv (widths rs)) (chained concatenated (values_in rs))) t
+  pub concat_says : (rs : List Reading) (ts : List TypedExpression) (t : TypedExpression) → AllTell constants m types cells rs ts → chain Joined ts ≡ Some t → Says constants m types cells (reads (Bv (widths rs)) (chained concatenated (values_in rs))) t
   concat_says rs [] t all e = cc
   concat_says [] (a ∷ bs) t all e = absurd all
   concat_says (r ∷ qs) (a ∷ bs) t all e =
       let x = if_then (is_bits a.ty) (chain_from Joined a bs) t e in
       let h = all.0 in
       let b = bits_are a.ty x.0 in
-      says_as n m types cells (left joined_of r qs) (reads (Bv (widths (r ∷ qs))) (chained concatenated (values_in (r ∷ qs)))) t (sym (left_joined r qs b.0 (h.type ∙ b.1)))
+      says_as constants m types cells (left joined_of r qs) (reads (Bv (widths (r ∷ qs))) (chained concatenated (values_in (r ∷ qs)))) t (sym (left_joined r qs b.0 (h.type ∙ b.1)))
       (chain_says Joined joined_of joined_step r a qs bs t h all.1 x.1)
 
   -- sums
-  sign_step : (is_minus : Truth) (r q : Reading) (a b c : TypedExpression) → Says n m types cells r a → Says n m types cells q b → joined (if is_minus then Subtract else Add) a b ≡ Some c
-      → Says n m types cells (reads r.type (if is_minus then minus r.value q.value else plus r.value q.value)) c
+  sign_step : (is_minus : Truth) (r q : Reading) (a b c : TypedExpression) → Says constants m types cells r a → Says constants m types cells q b → joined (if is_minus then Subtract else Add) a b ≡ Some c
+      → Says constants m types cells (reads r.type (if is_minus then minus r.value q.value else plus r.value q.value)) c
   sign_step true r q a b c h k e = kept_step Subtract minus (λ a b ty j. joined_are Subtract a b ty j) (λ us s. s) (λ us. refl) tt (λ w us x y. refl) r q a b c h k e
   sign_step false r q a b c h k e = kept_step Add plus (λ a b ty j. joined_are Add a b ty j) (λ us s. s) (λ us. refl) tt (λ w us x y. refl) r q a b c h k e
 
-  sum_told : (r : Reading) (a : TypedExpression) (ss : List SumSign) (qs : List Reading) (bs : List TypedExpression) (t : TypedExpression) → Says n m types cells r a → AllTell n m types cells qs bs → sum_from a ss bs ≡ Some t
-      → Says n m types cells (reads r.type (summed_from r.value ss (values_in qs))) t
+  sum_told : (r : Reading) (a : TypedExpression) (ss : List SumSign) (qs : List Reading) (bs : List TypedExpression) (t : TypedExpression) → Says constants m types cells r a → AllTell constants m types cells qs bs → sum_from a ss bs ≡ Some t
+      → Says constants m types cells (reads r.type (summed_from r.value ss (values_in qs))) t
   unfolding sum_from summed_from
-  sum_told r a [] [] [] t h all e = subst (Says n m types cells r) (some_is a t e) h
-  sum_told r a (s ∷ ss) [] [] t h all e = subst (Says n m types cells r) (some_is a t e) h
-  sum_told r a [] (q ∷ qs) (b ∷ bs) t h all e = subst (Says n m types cells r) (some_is a t e) h
+  sum_told r a [] [] [] t h all e = subst (Says constants m types cells r) (some_is a t e) h
+  sum_told r a (s ∷ ss) [] [] t h all e = subst (Says constants m types cells r) (some_is a t e) h
+  sum_told r a [] (q ∷ qs) (b ∷ bs) t h all e = subst (Says constants m types cells r) (some_is a t e) h
   sum_told r a ss [] (b ∷ bs) t h all e = absurd all
   sum_told r a ss (q ∷ qs) [] t h all e = absurd all
   sum_told r a (s ∷ ss) (q ∷ qs) (b ∷ bs) t h all e =
       let x = then_some (λ c. sum_from c ss bs) (joined (sign_chain s) a b) t e in
       sum_told (reads r.type (if s.is_minus then minus r.value q.value else plus r.value q.value)) x.0 ss qs bs t (sign_step s.is_minus r q a b x.0 h all.0 x.1) all.1 x.2
 
-  pub sum_says : (signs : List SumSign) (rs : List Reading) (ts : List TypedExpression) (t : TypedExpression) → AllTell n m types cells rs ts → sum signs ts ≡ Some t → Says n m types cells (reads (type_first rs) (summed signs (values_in rs))) t
+  pub sum_says : (signs : List SumSign) (rs : List Reading) (ts : List TypedExpression) (t : TypedExpression) → AllTell constants m types cells rs ts → sum signs ts ≡ Some t → Says constants m types cells (reads (type_first rs) (summed signs (values_in rs))) t
   sum_says signs rs [] t all e = cc
   sum_says signs [] (a ∷ bs) t all e = absurd all
   sum_says signs (r ∷ qs) (a ∷ bs) t all e = let x = if_then (is_bits a.ty) (sum_from a signs bs) t e in sum_told r a signs qs bs t all.0 all.1 x.1

@@ -1,5 +1,5 @@
 -- What negations, junctions and implications say.
-use Rattle.std.proofs.Common.{◌≡◌, ◌≢◌, ℕ, Bool as Truth, true, not, ◌&&◌, ◌||◌, List, [], ◌∷◌, Some, refl, sym, ap, ◌∙◌, subst}
+use Rattle.std.proofs.Common.{◌≡◌, ◌≢◌, Bool as Truth, true, not, ◌&&◌, ◌||◌, List, [], ◌∷◌, Some, refl, sym, ap, ◌∙◌, subst}
 use Rattle.std.specs.Prelude.{All}
 use Rattle.std.specs.List.{list_all, list_any}
 use Rattle.std.proofs.lemmas.List.Elements.{All-nil, All-cons}
@@ -69,27 +69,27 @@ implied_types (t ∷ (u ∷ us)) h =
     let both = and_true h in
     ap (λ ty. ty ∷ types_in (implied_parts (u ∷ us))) (sym (boolean_is t.ty both.0)) ∙ ap (λ tys. t.ty ∷ tys) (implied_types (u ∷ us) both.1)
 
-module _ (n : ℕ) (m : Model) (types : List Ty) (cells : List Value) where
-  pub negation_says : (r : Reading) (a : TypedExpression) → Says n m types cells r a → a.ty ≡ Bool → Says n m types cells (reads_truth (not (holds r.value))) (negation a)
+module _ (constants : List Ty) (m : Model) (types : List Ty) (cells : List Value) where
+  pub negation_says : (r : Reading) (a : TypedExpression) → Says constants m types cells r a → a.ty ≡ Bool → Says constants m types cells (reads_truth (not (holds r.value))) (negation a)
   negation_says r a h e =
-      says_as n m types cells (reads_truth (not (truth_of r.value))) (reads_truth (not (holds r.value))) (negation a) (ap (λ b. reads_truth (not b)) (sym (holds_is r.value)))
-      (operation_says n m types cells Not Bool (r ∷ []) (a ∷ []) (h, tt) (ap (λ u. u ∷ []) e) refl tt)
+      says_as constants m types cells (reads_truth (not (truth_of r.value))) (reads_truth (not (holds r.value))) (negation a) (ap (λ b. reads_truth (not b)) (sym (holds_is r.value)))
+      (operation_says constants m types cells Not Bool (r ∷ []) (a ∷ []) (h, tt) (ap (λ u. u ∷ []) e) refl tt)
 
-  pub and_says : (rs : List Reading) (ts : List TypedExpression) (t : TypedExpression) → AllTell n m types cells rs ts → junction And ts ≡ Some t → Says n m types cells (reads_truth (all_hold (values_in rs))) t
+  pub and_says : (rs : List Reading) (ts : List TypedExpression) (t : TypedExpression) → AllTell constants m types cells rs ts → junction And ts ≡ Some t → Says constants m types cells (reads_truth (all_hold (values_in rs))) t
   and_says rs ts t a e =
       let x = if_some (are_truths ts) (operation And Bool ts) t e in
-      subst (Says n m types cells (reads_truth (all_hold (values_in rs)))) x.1
-      (says_as n m types cells (reads_truth (list_all truth_of (values_in rs))) (reads_truth (all_hold (values_in rs))) (operation And Bool ts) (ap reads_truth (sym (all_is (values_in rs))))
-      (operation_says n m types cells And Bool rs ts a (some_truths ts x.0) refl tt))
+      subst (Says constants m types cells (reads_truth (all_hold (values_in rs)))) x.1
+      (says_as constants m types cells (reads_truth (list_all truth_of (values_in rs))) (reads_truth (all_hold (values_in rs))) (operation And Bool ts) (ap reads_truth (sym (all_is (values_in rs))))
+      (operation_says constants m types cells And Bool rs ts a (some_truths ts x.0) refl tt))
 
-  pub or_says : (rs : List Reading) (ts : List TypedExpression) (t : TypedExpression) → AllTell n m types cells rs ts → junction Or ts ≡ Some t → Says n m types cells (reads_truth (any_holds (values_in rs))) t
+  pub or_says : (rs : List Reading) (ts : List TypedExpression) (t : TypedExpression) → AllTell constants m types cells rs ts → junction Or ts ≡ Some t → Says constants m types cells (reads_truth (any_holds (values_in rs))) t
   or_says rs ts t a e =
       let x = if_some (are_truths ts) (operation Or Bool ts) t e in
-      subst (Says n m types cells (reads_truth (any_holds (values_in rs)))) x.1
-      (says_as n m types cells (reads_truth (list_any truth_of (values_in rs))) (reads_truth (any_holds (values_in rs))) (operation Or Bool ts) (ap reads_truth (sym (any_is (values_in rs))))
-      (operation_says n m types cells Or Bool rs ts a (some_truths ts x.0) refl tt))
+      subst (Says constants m types cells (reads_truth (any_holds (values_in rs)))) x.1
+      (says_as constants m types cells (reads_truth (list_any truth_of (values_in rs))) (reads_truth (any_holds (values_in rs))) (operation Or Bool ts) (ap reads_truth (sym (any_is (values_in rs))))
+      (operation_says constants m types cells Or Bool rs ts a (some_truths ts x.0) refl tt))
 
-  implied_tell : (rs : List Reading) (ts : List TypedExpression) → AllTell n m types cells rs ts → all_boolean ts ≡ true → AllTell n m types cells (implied_readings rs) (implied_parts ts)
+  implied_tell : (rs : List Reading) (ts : List TypedExpression) → AllTell constants m types cells rs ts → all_boolean ts ≡ true → AllTell constants m types cells (implied_readings rs) (implied_parts ts)
   unfolding implied_parts
   implied_tell [] [] a h = tt
   implied_tell [] (t ∷ ts) a h = absurd a
@@ -101,17 +101,17 @@ module _ (n : ℕ) (m : Model) (types : List Ty) (cells : List Value) where
       let both = and_true h in
       (negation_says r t a.0 (boolean_is t.ty both.0), implied_tell (q ∷ qs) (u ∷ us) a.1 both.1)
 
-  implication_told : (rs : List Reading) (ts : List TypedExpression) → AllTell n m types cells rs ts → are_truths ts ≡ true → Says n m types cells (reads_truth (implied (values_in rs))) (operation Or Bool (implied_parts ts))
+  implication_told : (rs : List Reading) (ts : List TypedExpression) → AllTell constants m types cells rs ts → are_truths ts ≡ true → Says constants m types cells (reads_truth (implied (values_in rs))) (operation Or Bool (implied_parts ts))
   implication_told rs [] a h = cc
   implication_told [] (t ∷ ts) a h = absurd a
   implication_told (r ∷ rs) (t ∷ ts) a h =
       let b = all_truths (t ∷ ts) h in
-      says_as n m types cells (reads_truth (list_any truth_of (values_in (implied_readings (r ∷ rs))))) (reads_truth (implied (values_in (r ∷ rs)))) (operation Or Bool (implied_parts (t ∷ ts)))
+      says_as constants m types cells (reads_truth (list_any truth_of (values_in (implied_readings (r ∷ rs))))) (reads_truth (implied (values_in (r ∷ rs)))) (operation Or Bool (implied_parts (t ∷ ts)))
       (ap reads_truth (sym (implied_is r rs)))
-      (operation_says n m types cells Or Bool (implied_readings (r ∷ rs)) (implied_parts (t ∷ ts)) (implied_tell (r ∷ rs) (t ∷ ts) a b)
+      (operation_says constants m types cells Or Bool (implied_readings (r ∷ rs)) (implied_parts (t ∷ ts)) (implied_tell (r ∷ rs) (t ∷ ts) a b)
       (subst (Some_of Bool) (sym (implied_types (t ∷ ts) b)) (some_truths (t ∷ ts) h)) refl tt)
 
-  pub implication_says : (rs : List Reading) (ts : List TypedExpression) (t : TypedExpression) → AllTell n m types cells rs ts → implication ts ≡ Some t → Says n m types cells (reads_truth (implied (values_in rs))) t
+  pub implication_says : (rs : List Reading) (ts : List TypedExpression) (t : TypedExpression) → AllTell constants m types cells rs ts → implication ts ≡ Some t → Says constants m types cells (reads_truth (implied (values_in rs))) t
   implication_says rs ts t a e =
       let x = if_some (are_truths ts) (operation Or Bool (implied_parts ts)) t e in
-      subst (Says n m types cells (reads_truth (implied (values_in rs)))) x.1 (implication_told rs ts a x.0)
+      subst (Says constants m types cells (reads_truth (implied (values_in rs)))) x.1 (implication_told rs ts a x.0)

@@ -1,5 +1,6 @@
 pub mod Options
 pub mod TypeKinds
+pub mod OnlyReads
 pub mod Saying
 pub mod Words
 pub mod Junctions

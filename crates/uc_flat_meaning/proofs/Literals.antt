@@ -20,28 +20,28 @@ use Rattle.uc_flat_meaning.proofs.Options.{if_some}
 use Rattle.uc_flat_meaning.proofs.TypeKinds.{le_is, lt_is}
 use Rattle.uc_flat_meaning.proofs.Saying.{operation_says}
 
-module _ (n : ℕ) (m : Model) (types : List Ty) (cells : List Value) where
-  pub truth_says : (b : Truth) → Says n m types cells (reads_truth b) (truth_literal b)
-  truth_says b = operation_says n m types cells (Const Bool (truth b)) Bool [] [] tt (refl, valid-Bool, refl, Truth-fits b) refl tt
+module _ (constants : List Ty) (m : Model) (types : List Ty) (cells : List Value) where
+  pub truth_says : (b : Truth) → Says constants m types cells (reads_truth b) (truth_literal b)
+  truth_says b = operation_says constants m types cells (Const Bool (truth b)) Bool [] [] tt (refl, valid-Bool, refl, Truth-fits b) refl tt
 
   abbrev literal_number : ℕ → TypedExpression
   literal_number k = record { expression = Apply (Const Int (whole (pos k))) []; ty = Int; number = Some k }
 
-  number_told : (k : ℕ) → Says n m types cells (reads Int (whole (pos k))) (literal_number k)
+  number_told : (k : ℕ) → Says constants m types cells (reads Int (whole (pos k))) (literal_number k)
   number_told k =
-      let x = operation_says n m types cells (Const Int (whole (pos k))) Int [] [] tt (refl, valid-Int, refl, Int-fits (pos k)) refl tt in
-      record { typed = x.typed; below = x.below; own = x.own; valid = x.valid; type = x.type; value = x.value; fit = x.fit; literal = (refl, refl) }
+      let x = operation_says constants m types cells (Const Int (whole (pos k))) Int [] [] tt (refl, valid-Int, refl, Int-fits (pos k)) refl tt in
+      record { typed = x.typed; reads = x.reads; own = x.own; valid = x.valid; type = x.type; value = x.value; fit = x.fit; literal = (refl, refl) }
 
-  pub number_says : (k : ℕ) (t : TypedExpression) → number_literal k ≡ Some t → Says n m types cells (reads Int (whole (pos k))) t
+  pub number_says : (k : ℕ) (t : TypedExpression) → number_literal k ≡ Some t → Says constants m types cells (reads Int (whole (pos k))) t
   number_says k t e =
       let x = if_some (nat_le k 64) (literal_number k) t e in
-      subst (Says n m types cells (reads Int (whole (pos k)))) x.1 (number_told k)
+      subst (Says constants m types cells (reads Int (whole (pos k)))) x.1 (number_told k)
 
-  pub bits_says : (k width : ℕ) (t : TypedExpression) → bits_literal k width ≡ Some t → Says n m types cells (reads (Bv width) (word width k)) t
+  pub bits_says : (k width : ℕ) (t : TypedExpression) → bits_literal k width ≡ Some t → Says constants m types cells (reads (Bv width) (word width k)) t
   bits_says k width t e =
       let x = if_some (nat_le 1 width && (nat_le width 64 && nat_lt k (2 ^ width))) (constant (Const (Bv width) (word width k)) (Bv width)) t e in
       let a = and_true x.0 in
       let b = and_true a.1 in
       let fit = fits-IsBits width k (lt_is k (2 ^ width) b.1) in
-      subst (Says n m types cells (reads (Bv width) (word width k))) x.1
-      (operation_says n m types cells (Const (Bv width) (word width k)) (Bv width) [] [] tt (refl, Bv-valid width (le_is 1 width a.0) (le_is width 64 b.0), refl, fit) refl tt)
+      subst (Says constants m types cells (reads (Bv width) (word width k))) x.1
+      (operation_says constants m types cells (Const (Bv width) (word width k)) (Bv width) [] [] tt (refl, Bv-valid width (le_is 1 width a.0) (le_is width 64 b.0), refl, fit) refl tt)

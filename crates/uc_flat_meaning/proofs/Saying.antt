@@ -1,5 +1,5 @@
 -- What an operation says, since its parts say theirs.
-use Rattle.std.proofs.Common.{◌≡◌, ℕ, ◌<◌, List, [], ◌∷◌, map, refl, sym, ap, ◌∙◌, subst}
+use Rattle.std.proofs.Common.{◌≡◌, ℕ, List, [], ◌∷◌, map, Some, refl, sym, ap, ◌∙◌, subst, slice_get}
 use Rattle.std.specs.Prelude.{All, IsTrue}
 use Rattle.std.specs.List.{AllZip}
 use Rattle.std.proofs.lemmas.List.Elements.{All-nil, All-cons}
@@ -15,13 +15,14 @@ use Rattle.uc_ops.specs.Meaning.{apply}
 use Rattle.uc_ops.proofs.Fitting.{apply-fits}
 use Rattle.uc_ops.proofs.Typed.{type_of-valid}
 use Rattle.uc_flat.specs.Reading.{type_of, value_of}
-use Rattle.uc_flat.specs.Fine.{IsTyped, ReadsBelow}
+use Rattle.uc_flat.specs.Fine.{IsTyped}
 use Rattle.uc_flat.proofs.Forms.{type_apply, value_apply}
-use Rattle.uc_flat.proofs.Making.{typed_apply, reads_apply}
+use Rattle.uc_flat.proofs.Making.{typed_apply}
 use Rattle.uc_flat_expressions.specs.declared.typed.TypedExpression.{TypedExpression}
 use Rattle.uc_flat_expressions.specs.Building.{expressions_in, operation}
 use Rattle.uc_meaning.specs.Expressions.{Reading, reads}
-use Rattle.uc_flat_meaning.specs.Sayings.{Says}
+use Rattle.uc_flat_meaning.specs.Sayings.{ReadsTyped, Says}
+use Rattle.uc_flat_meaning.proofs.OnlyReads.{apply_reads}
 
 abbrev pub types_in : List TypedExpression → List Ty
 types_in ts = map (λ t. t.ty) ts
@@ -34,12 +35,16 @@ abbrev pub IsPlain : Op → Type 0
 IsPlain (Symbol k ty) = ⊥
 IsPlain other = Unit {0}
 
-plain_below : (n : ℕ) (op : Op) → IsPlain op → (k : ℕ) (ty : Ty) → op ≡ Symbol k ty → k < n
-plain_below n op h k ty e = absurd (subst IsPlain e h)
+-- the operation reads only constants of these types, if any
+abbrev pub OpReads : List Ty → Op → Type 0
+OpReads constants op = (number : ℕ) (ty : Ty) → op ≡ Symbol number ty → slice_get constants number ≡ Some ty
 
-module _ (n : ℕ) (m : Model) (types : List Ty) (cells : List Value) where
+plain_reads : (constants : List Ty) (op : Op) → IsPlain op → OpReads constants op
+plain_reads constants op h number ty e = absurd (subst IsPlain e h)
+
+module _ (constants : List Ty) (m : Model) (types : List Ty) (cells : List Value) where
   abbrev pub Tell : Reading → TypedExpression → Type 0
-  Tell r t = Says n m types cells r t
+  Tell r t = Says constants m types cells r t
 
   abbrev pub AllTell : List Reading → List TypedExpression → Type 0
   AllTell rs ts = AllZip Tell rs ts
@@ -65,11 +70,11 @@ module _ (n : ℕ) (m : Model) (types : List Ty) (cells : List Value) where
   all_typed (r ∷ rs) [] h = absurd h
   all_typed (r ∷ rs) (t ∷ ts) h = All-cons (IsTyped types) t.expression (expressions_in ts) h.0.typed (all_typed rs ts h.1)
 
-  all_below : (rs : List Reading) (ts : List TypedExpression) → AllTell rs ts → All (ReadsBelow n) (expressions_in ts)
-  all_below [] [] h = All-nil (ReadsBelow n)
-  all_below [] (t ∷ ts) h = absurd h
-  all_below (r ∷ rs) [] h = absurd h
-  all_below (r ∷ rs) (t ∷ ts) h = All-cons (ReadsBelow n) t.expression (expressions_in ts) h.0.below (all_below rs ts h.1)
+  all_read : (rs : List Reading) (ts : List TypedExpression) → AllTell rs ts → All (ReadsTyped constants) (expressions_in ts)
+  all_read [] [] h = All-nil (ReadsTyped constants)
+  all_read [] (t ∷ ts) h = absurd h
+  all_read (r ∷ rs) [] h = absurd h
+  all_read (r ∷ rs) (t ∷ ts) h = All-cons (ReadsTyped constants) t.expression (expressions_in ts) h.0.reads (all_read rs ts h.1)
 
   all_valid : (rs : List Reading) (ts : List TypedExpression) → AllTell rs ts → AllValid (types_in ts)
   all_valid [] [] h = All-nil Valid
@@ -84,14 +89,14 @@ module _ (n : ℕ) (m : Model) (types : List Ty) (cells : List Value) where
   all_fit (r ∷ rs) (t ∷ ts) h = (h.0.fit, all_fit rs ts h.1)
 
   -- an operation says its value on what its parts say
-  pub operation_says : (op : Op) (ty : Ty) (rs : List Reading) (ts : List TypedExpression) → AllTell rs ts → Suits op (types_in ts) → result_type op (types_in ts) ≡ ty → IsPlain op
+  pub reading_says : (op : Op) (ty : Ty) (rs : List Reading) (ts : List TypedExpression) → AllTell rs ts → Suits op (types_in ts) → result_type op (types_in ts) ≡ ty → OpReads constants op
       → Tell (reads ty (apply m op (types_in ts) (values_in rs))) (operation op ty ts)
-  operation_says op ty rs ts a s is plain =
+  reading_says op ty rs ts a s is own =
       let es = expressions_in ts in
       let same = types_are rs ts a in
       record {
         typed = typed_apply types op es (subst (Suits op) (sym same) s) (all_typed rs ts a);
-        below = reads_apply n op es (plain_below n op plain) (all_below rs ts a);
+        reads = apply_reads (λ number ty. slice_get constants number ≡ Some ty) op es own (all_read rs ts a);
         own = type_apply types op es ∙ ap (result_type op) same ∙ is;
         valid = subst Valid is (type_of-valid op (types_in ts) s (all_valid rs ts a));
         type = refl;
@@ -99,3 +104,8 @@ module _ (n : ℕ) (m : Model) (types : List Ty) (cells : List Value) where
         fit = subst (λ y. IsTrue (fits y (apply m op (types_in ts) (values_in rs)))) is (apply-fits m op (types_in ts) (values_in rs) s (all_valid rs ts a) (all_fit rs ts a));
         literal = tt;
       }
+
+  -- the same of one that is no constant
+  pub operation_says : (op : Op) (ty : Ty) (rs : List Reading) (ts : List TypedExpression) → AllTell rs ts → Suits op (types_in ts) → result_type op (types_in ts) ≡ ty → IsPlain op
+      → Tell (reads ty (apply m op (types_in ts) (values_in rs))) (operation op ty ts)
+  operation_says op ty rs ts a s is plain = reading_says op ty rs ts a s is (plain_reads constants op plain)

@@ -80,8 +80,8 @@ extension_found : (signed : Truth) (o : Option ℕ) (a t : TypedExpression) → 
 extension_found signed None a t h = cc
 extension_found signed (Some more) a t h = (more, refl, h)
 
-module _ (n : ℕ) (m : Model) (types : List Ty) (cells : List Value) where
-  pub field_says : (r : Reading) (a t : TypedExpression) (x : ℕ) → Says n m types cells r a → field_selected a x ≡ Some t → Says n m types cells (field_reading r x) t
+module _ (constants : List Ty) (m : Model) (types : List Ty) (cells : List Value) where
+  pub field_says : (r : Reading) (a t : TypedExpression) (x : ℕ) → Says constants m types cells r a → field_selected a x ≡ Some t → Says constants m types cells (field_reading r x) t
   field_says r a t x h e =
       let fs = op_fields_of a.ty in
       let p = then_some (λ k. field_at a k (slice_get fs k)) (position_from (λ (d : Field Ty). nat_eq d.name x) 0 fs) t e in
@@ -95,63 +95,63 @@ module _ (n : ℕ) (m : Model) (types : List Ty) (cells : List Value) where
       ap (λ gs. field_at_number gs (parts_of r.value) (field_number (fields_of r.type) x)) fields
       ∙ ap (field_at_number fs (parts_of r.value)) place
       ∙ ap (λ u. reads u (field_of r.value k)) (get_or_from_slice_get (map (λ (d : Field Ty). d.ty) fs) k f.ty Bool ty_at) in
-      subst (Says n m types cells (field_reading r x)) g.2
-      (says_as n m types cells (reads f.ty (field_of r.value k)) (field_reading r x) (operation (GetField k) f.ty (a ∷ [])) same
-      (operation_says n m types cells (GetField k) f.ty (r ∷ []) (a ∷ []) (h, tt)
+      subst (Says constants m types cells (field_reading r x)) g.2
+      (says_as constants m types cells (reads f.ty (field_of r.value k)) (field_reading r x) (operation (GetField k) f.ty (a ∷ [])) same
+      (operation_says constants m types cells (GetField k) f.ty (r ∷ []) (a ∷ []) (h, tt)
       (fs, ap (λ u. u ∷ []) (record_is a.ty k f g.1), slice_get_within fs k f g.1) (ap type_or ty_at) tt))
 
-  pub range_says : (r : Reading) (a t : TypedExpression) (high low : ℕ) → Says n m types cells r a → range_selected a high low ≡ Some t → Says n m types cells (reads (Bv (high - low + 1)) (extracted high low r.value)) t
+  pub range_says : (r : Reading) (a t : TypedExpression) (high low : ℕ) → Says constants m types cells r a → range_selected a high low ≡ Some t → Says constants m types cells (reads (Bv (high - low + 1)) (extracted high low r.value)) t
   range_says r a t high low h e =
       let x = if_some (is_range high low a.ty) (operation (Extract high low) (Bv (high - low + 1)) (a ∷ [])) t e in
       let g = range_is high low a.ty x.0 in
-      subst (Says n m types cells (reads (Bv (high - low + 1)) (extracted high low r.value))) x.1
-      (operation_says n m types cells (Extract high low) (Bv (high - low + 1)) (r ∷ []) (a ∷ []) (h, tt) (g.width, ap (λ u. u ∷ []) g.is, g.order, g.within) refl tt)
+      subst (Says constants m types cells (reads (Bv (high - low + 1)) (extracted high low r.value))) x.1
+      (operation_says constants m types cells (Extract high low) (Bv (high - low + 1)) (r ∷ []) (a ∷ []) (h, tt) (g.width, ap (λ u. u ∷ []) g.is, g.order, g.within) refl tt)
 
   -- more bits
-  zero_says : (more : ℕ) (r : Reading) (a t : TypedExpression) → Says n m types cells r a → extended false more a.ty a ≡ Some t → Says n m types cells (reads (Bv (width r.type + more)) (bits_given ZeroExtend (whole (pos more)) r.value)) t
+  zero_says : (more : ℕ) (r : Reading) (a t : TypedExpression) → Says constants m types cells r a → extended false more a.ty a ≡ Some t → Says constants m types cells (reads (Bv (width r.type + more)) (bits_given ZeroExtend (whole (pos more)) r.value)) t
   zero_says more r a t h e =
       let x = extended_found false more a.ty a t e in
       let w = x.0 in
       let g = bits_given ZeroExtend (whole (pos more)) in
-      subst (Says n m types cells (reads (Bv (width r.type + more)) (g r.value))) x.3
-      (says_as n m types cells (reads (Bv (w + more)) (g r.value)) (reads (Bv (width r.type + more)) (g r.value)) (operation (ZeroExt more) (Bv (w + more)) (a ∷ []))
+      subst (Says constants m types cells (reads (Bv (width r.type + more)) (g r.value))) x.3
+      (says_as constants m types cells (reads (Bv (w + more)) (g r.value)) (reads (Bv (width r.type + more)) (g r.value)) (operation (ZeroExt more) (Bv (w + more)) (a ∷ []))
       (ap (λ v. reads (Bv (v + more)) (g r.value)) (ap width (h.type ∙ x.1) ∙ width_bits w))
-      (one_says n m types cells (ZeroExt more) (Bv (w + more)) g r a w h x.1 (w, ap (λ u. u ∷ []) x.1, x.2) (ap (λ u. Bv (width_of u + more)) x.1) tt (λ us y. refl)))
+      (one_says constants m types cells (ZeroExt more) (Bv (w + more)) g r a w h x.1 (w, ap (λ u. u ∷ []) x.1, x.2) (ap (λ u. Bv (width_of u + more)) x.1) tt (λ us y. refl)))
 
-  sign_says : (more : ℕ) (r : Reading) (a t : TypedExpression) → Says n m types cells r a → extended true more a.ty a ≡ Some t → Says n m types cells (reads (Bv (width r.type + more)) (bits_given SignExtend (whole (pos more)) r.value)) t
+  sign_says : (more : ℕ) (r : Reading) (a t : TypedExpression) → Says constants m types cells r a → extended true more a.ty a ≡ Some t → Says constants m types cells (reads (Bv (width r.type + more)) (bits_given SignExtend (whole (pos more)) r.value)) t
   sign_says more r a t h e =
       let x = extended_found true more a.ty a t e in
       let w = x.0 in
       let g = bits_given SignExtend (whole (pos more)) in
-      subst (Says n m types cells (reads (Bv (width r.type + more)) (g r.value))) x.3
-      (says_as n m types cells (reads (Bv (w + more)) (g r.value)) (reads (Bv (width r.type + more)) (g r.value)) (operation (SignExt more) (Bv (w + more)) (a ∷ []))
+      subst (Says constants m types cells (reads (Bv (width r.type + more)) (g r.value))) x.3
+      (says_as constants m types cells (reads (Bv (w + more)) (g r.value)) (reads (Bv (width r.type + more)) (g r.value)) (operation (SignExt more) (Bv (w + more)) (a ∷ []))
       (ap (λ v. reads (Bv (v + more)) (g r.value)) (ap width (h.type ∙ x.1) ∙ width_bits w))
-      (one_says n m types cells (SignExt more) (Bv (w + more)) g r a w h x.1 (w, ap (λ u. u ∷ []) x.1, x.2) (ap (λ u. Bv (width_of u + more)) x.1) tt (λ us y. refl)))
+      (one_says constants m types cells (SignExt more) (Bv (w + more)) g r a w h x.1 (w, ap (λ u. u ∷ []) x.1, x.2) (ap (λ u. Bv (width_of u + more)) x.1) tt (λ us y. refl)))
 
   -- what a function on bits says of a number or an amount, and of bits
   abbrev Given : BitFunction → Reading → Reading → Reading
   Given function q r = reads (on_bits_type function q.value r.type) (bits_given function q.value r.value)
 
-  shift_says : (op : Op) (g : Value → Value → Value) (q r : Reading) (b a t : TypedExpression) → Says n m types cells q b → Says n m types cells r a
+  shift_says : (op : Op) (g : Value → Value → Value) (q r : Reading) (b a t : TypedExpression) → Says constants m types cells q b → Says constants m types cells r a
       → ((us : List Ty) → Pair_of_bits us → Suits op us) → ((us : List Ty) → result_type op us ≡ part_type us 0) → IsPlain op → ((w : ℕ) (us : List Ty) (x y : ℕ) → apply m op us (word w x ∷ word w y ∷ []) ≡ g (word w x) (word w y))
-      → shift op b a ≡ Some t → Says n m types cells (reads r.type (g r.value q.value)) t
+      → shift op b a ≡ Some t → Says constants m types cells (reads r.type (g r.value q.value)) t
   shift_says op g q r b a t k h suits result plain same e =
       let x = if_some (are_same_bits b.ty a.ty) (operation op a.ty (a ∷ b ∷ [])) t e in
       let w = same_bits_are b.ty a.ty x.0 in
-      subst (Says n m types cells (reads r.type (g r.value q.value))) x.1
-      (says_as n m types cells (reads a.ty (g r.value q.value)) (reads r.type (g r.value q.value)) (operation op a.ty (a ∷ b ∷ [])) (ap (λ u. reads u (g r.value q.value)) h.type)
-      (pair_says n m types cells op a.ty g r q a b w.width h k w.second w.first suits (result (a.ty ∷ b.ty ∷ [])) plain (same w.width)))
+      subst (Says constants m types cells (reads r.type (g r.value q.value))) x.1
+      (says_as constants m types cells (reads a.ty (g r.value q.value)) (reads r.type (g r.value q.value)) (operation op a.ty (a ∷ b ∷ [])) (ap (λ u. reads u (g r.value q.value)) h.type)
+      (pair_says constants m types cells op a.ty g r q a b w.width h k w.second w.first suits (result (a.ty ∷ b.ty ∷ [])) plain (same w.width)))
 
-  pub on_bits_says : (function : BitFunction) (q r : Reading) (b a t : TypedExpression) → Says n m types cells q b → Says n m types cells r a → on_bits function b a ≡ Some t → Says n m types cells (Given function q r) t
+  pub on_bits_says : (function : BitFunction) (q r : Reading) (b a t : TypedExpression) → Says constants m types cells q b → Says constants m types cells r a → on_bits function b a ≡ Some t → Says constants m types cells (Given function q r) t
   on_bits_says ZeroExtend q r b a t k h e =
       let x = extension_found false b.number a t e in
       let l = subst (λ o. IsNumber o q) x.1 k.literal in
-      says_as n m types cells (reads (Bv (width r.type + x.0)) (bits_given ZeroExtend (whole (pos x.0)) r.value)) (Given ZeroExtend q r) t
+      says_as constants m types cells (reads (Bv (width r.type + x.0)) (bits_given ZeroExtend (whole (pos x.0)) r.value)) (Given ZeroExtend q r) t
       (ap (λ v. reads (Bv (width r.type + extension_by v)) (bits_given ZeroExtend v r.value)) l.1) (zero_says x.0 r a t h x.2)
   on_bits_says SignExtend q r b a t k h e =
       let x = extension_found true b.number a t e in
       let l = subst (λ o. IsNumber o q) x.1 k.literal in
-      says_as n m types cells (reads (Bv (width r.type + x.0)) (bits_given SignExtend (whole (pos x.0)) r.value)) (Given SignExtend q r) t
+      says_as constants m types cells (reads (Bv (width r.type + x.0)) (bits_given SignExtend (whole (pos x.0)) r.value)) (Given SignExtend q r) t
       (ap (λ v. reads (Bv (width r.type + extension_by v)) (bits_given SignExtend v r.value)) l.1) (sign_says x.0 r a t h x.2)
   on_bits_says ShiftLeft q r b a t k h e = shift_says Shl (λ v u. bits_given ShiftLeft u v) q r b a t k h (λ us s. s) (λ us. refl) tt (λ w us x y. refl) e
   on_bits_says ShiftRight q r b a t k h e = shift_says Lshr (λ v u. bits_given ShiftRight u v) q r b a t k h (λ us s. s) (λ us. refl) tt (λ w us x y. refl) e

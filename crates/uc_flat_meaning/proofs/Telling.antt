@@ -58,12 +58,12 @@ abbrev arm : TypedExpression → TypedExpression → TypedArm
 arm c v = record { condition = c; value = v }
 
 -- what is to show of an expression
-abbrev Known : System → Scope → ℕ → Model → List Ty → List Value → List Meant → Expr → Type 0
-Known system s n m types cells names e = (t : TypedExpression) → flat_of names e ≡ Some t → Says n m types cells (reading system s e) t
+abbrev Known : System → Scope → List Ty → Model → List Ty → List Value → List Meant → Expr → Type 0
+Known system s constants m types cells names e = (t : TypedExpression) → flat_of names e ≡ Some t → Says constants m types cells (reading system s e) t
 
-module _ (system : System) (s : Scope) (n : ℕ) (m : Model) (types : List Ty) (cells : List Value) (names : List Meant) (meant : AreMeant system s n m types cells names) where
+module _ (system : System) (s : Scope) (constants : List Ty) (m : Model) (types : List Ty) (cells : List Value) (names : List Meant) (meant : AreMeant system s constants m types cells names) where
   abbrev Shown : Type 0
-  Shown = (e : Expr) × Known system s n m types cells names e
+  Shown = (e : Expr) × Known system s constants m types cells names e
 
   abbrev shown : List Shown → List Expr
   shown ps = map (λ p. p.0) ps
@@ -91,116 +91,116 @@ module _ (system : System) (s : Scope) (n : ℕ) (m : Model) (types : List Ty) (
   widths_read [] = refl
   widths_read (e ∷ es) = ap (λ k. width (part_of e s).type + k) (widths_read es)
 
-  all_told : (ps : List Shown) (ts : List TypedExpression) → all_of (map (flat_of names) (shown ps)) ≡ Some ts → AllTell n m types cells (readings (shown ps)) ts
-  all_told [] ts h = subst (λ us. AllTell n m types cells [] us) (some_is [] ts h) tt
+  all_told : (ps : List Shown) (ts : List TypedExpression) → all_of (map (flat_of names) (shown ps)) ≡ Some ts → AllTell constants m types cells (readings (shown ps)) ts
+  all_told [] ts h = subst (λ us. AllTell constants m types cells [] us) (some_is [] ts h) tt
   all_told (p ∷ ps) ts h =
       let x = then_some (λ u. option_map (λ us. u ∷ us) (all_of (map (flat_of names) (shown ps)))) (flat_of names p.0) ts h in
       let y = map_some (λ us. x.0 ∷ us) (all_of (map (flat_of names) (shown ps))) ts x.2 in
-      subst (λ us. AllTell n m types cells (readings (shown (p ∷ ps))) us) y.2 (p.1 x.0 x.1, all_told ps y.0 y.1)
+      subst (λ us. AllTell constants m types cells (readings (shown (p ∷ ps))) us) y.2 (p.1 x.0 x.1, all_told ps y.0 y.1)
 
   -- a form of parts in a list
   parts_known : (e : Expr) (build : List TypedExpression → MayBe) (r : Reading) (ps : List Shown) → flat_of names e ≡ option_and_then build (all_of (map (flat_of names) (shown ps)))
-      → ((ts : List TypedExpression) (t : TypedExpression) → AllTell n m types cells (readings (shown ps)) ts → build ts ≡ Some t → Says n m types cells r t)
-      → reading system s e ≡ r → Known system s n m types cells names e
+      → ((ts : List TypedExpression) (t : TypedExpression) → AllTell constants m types cells (readings (shown ps)) ts → build ts ≡ Some t → Says constants m types cells r t)
+      → reading system s e ≡ r → Known system s constants m types cells names e
   parts_known e build r ps flat says read t h =
       let x = then_some build (all_of (map (flat_of names) (shown ps))) t (sym flat ∙ h) in
-      says_as n m types cells r (reading system s e) t read (says x.0 t (all_told ps x.0 x.1) x.2)
+      says_as constants m types cells r (reading system s e) t read (says x.0 t (all_told ps x.0 x.1) x.2)
 
-  iff_known : (place : Place) (ps : List Shown) (marks : List Place) → Known system s n m types cells names (Iff place (shown ps) marks)
+  iff_known : (place : Place) (ps : List Shown) (marks : List Place) → Known system s constants m types cells names (Iff place (shown ps) marks)
   unfolding reading_by roll-Expr denote.Hole.Carrier.roll
   iff_known place ps marks =
       let es = shown ps in
-      parts_known (Iff place es marks) (chain Equal) (reads_truth (equivalent (values_in (readings es)))) ps (flat_iff names place es marks) (iff_says n m types cells (readings es))
+      parts_known (Iff place es marks) (chain Equal) (reads_truth (equivalent (values_in (readings es)))) ps (flat_iff names place es marks) (iff_says constants m types cells (readings es))
       (ap (λ f. f s) (fold-roll-Expr Part (reading_form system (elsewhere system)) (IffForm place es marks)) ∙ ap (λ vs. reads_truth (equivalent vs)) (values_read es))
 
-  implies_known : (place : Place) (ps : List Shown) (marks : List Place) → Known system s n m types cells names (Implies place (shown ps) marks)
+  implies_known : (place : Place) (ps : List Shown) (marks : List Place) → Known system s constants m types cells names (Implies place (shown ps) marks)
   unfolding reading_by roll-Expr denote.Hole.Carrier.roll
   implies_known place ps marks =
       let es = shown ps in
-      parts_known (Implies place es marks) implication (reads_truth (implied (values_in (readings es)))) ps (flat_implies names place es marks) (implication_says n m types cells (readings es))
+      parts_known (Implies place es marks) implication (reads_truth (implied (values_in (readings es)))) ps (flat_implies names place es marks) (implication_says constants m types cells (readings es))
       (ap (λ f. f s) (fold-roll-Expr Part (reading_form system (elsewhere system)) (ImpliesForm place es marks)) ∙ ap (λ vs. reads_truth (implied vs)) (values_read es))
 
-  or_known : (place : Place) (ps : List Shown) (marks : List Place) → Known system s n m types cells names (Or place (shown ps) marks)
+  or_known : (place : Place) (ps : List Shown) (marks : List Place) → Known system s constants m types cells names (Or place (shown ps) marks)
   unfolding reading_by roll-Expr denote.Hole.Carrier.roll
   or_known place ps marks =
       let es = shown ps in
-      parts_known (Or place es marks) (junction OrOp) (reads_truth (any_holds (values_in (readings es)))) ps (flat_or names place es marks) (or_says n m types cells (readings es))
+      parts_known (Or place es marks) (junction OrOp) (reads_truth (any_holds (values_in (readings es)))) ps (flat_or names place es marks) (or_says constants m types cells (readings es))
       (ap (λ f. f s) (fold-roll-Expr Part (reading_form system (elsewhere system)) (OrForm place es marks)) ∙ ap (λ vs. reads_truth (any_holds vs)) (values_read es))
 
-  and_known : (place : Place) (ps : List Shown) (marks : List Place) → Known system s n m types cells names (And place (shown ps) marks)
+  and_known : (place : Place) (ps : List Shown) (marks : List Place) → Known system s constants m types cells names (And place (shown ps) marks)
   unfolding reading_by roll-Expr denote.Hole.Carrier.roll
   and_known place ps marks =
       let es = shown ps in
-      parts_known (And place es marks) (junction AndOp) (reads_truth (all_hold (values_in (readings es)))) ps (flat_and names place es marks) (and_says n m types cells (readings es))
+      parts_known (And place es marks) (junction AndOp) (reads_truth (all_hold (values_in (readings es)))) ps (flat_and names place es marks) (and_says constants m types cells (readings es))
       (ap (λ f. f s) (fold-roll-Expr Part (reading_form system (elsewhere system)) (AndForm place es marks)) ∙ ap (λ vs. reads_truth (all_hold vs)) (values_read es))
 
-  bit_or_known : (place : Place) (ps : List Shown) (marks : List Place) → Known system s n m types cells names (BitOr place (shown ps) marks)
+  bit_or_known : (place : Place) (ps : List Shown) (marks : List Place) → Known system s constants m types cells names (BitOr place (shown ps) marks)
   unfolding reading_by roll-Expr denote.Hole.Carrier.roll
   bit_or_known place ps marks =
       let es = shown ps in
-      parts_known (BitOr place es marks) (chain OrBits) (reads (type_first (readings es)) (chained bv_or (values_in (readings es)))) ps (flat_bit_or names place es marks) (bit_or_says n m types cells (readings es))
+      parts_known (BitOr place es marks) (chain OrBits) (reads (type_first (readings es)) (chained bv_or (values_in (readings es)))) ps (flat_bit_or names place es marks) (bit_or_says constants m types cells (readings es))
       (ap (λ f. f s) (fold-roll-Expr Part (reading_form system (elsewhere system)) (BitOrForm place es marks))
       ∙ ap (λ u. reads u (chained bv_or (values (map part_of es) s))) (type_read es) ∙ ap (λ vs. reads (type_first (readings es)) (chained bv_or vs)) (values_read es))
 
-  bit_xor_known : (place : Place) (ps : List Shown) (marks : List Place) → Known system s n m types cells names (BitXor place (shown ps) marks)
+  bit_xor_known : (place : Place) (ps : List Shown) (marks : List Place) → Known system s constants m types cells names (BitXor place (shown ps) marks)
   unfolding reading_by roll-Expr denote.Hole.Carrier.roll
   bit_xor_known place ps marks =
       let es = shown ps in
-      parts_known (BitXor place es marks) (chain Xor) (reads (type_first (readings es)) (chained bv_xor (values_in (readings es)))) ps (flat_bit_xor names place es marks) (bit_xor_says n m types cells (readings es))
+      parts_known (BitXor place es marks) (chain Xor) (reads (type_first (readings es)) (chained bv_xor (values_in (readings es)))) ps (flat_bit_xor names place es marks) (bit_xor_says constants m types cells (readings es))
       (ap (λ f. f s) (fold-roll-Expr Part (reading_form system (elsewhere system)) (BitXorForm place es marks))
       ∙ ap (λ u. reads u (chained bv_xor (values (map part_of es) s))) (type_read es) ∙ ap (λ vs. reads (type_first (readings es)) (chained bv_xor vs)) (values_read es))
 
-  bit_and_known : (place : Place) (ps : List Shown) (marks : List Place) → Known system s n m types cells names (BitAnd place (shown ps) marks)
+  bit_and_known : (place : Place) (ps : List Shown) (marks : List Place) → Known system s constants m types cells names (BitAnd place (shown ps) marks)
   unfolding reading_by roll-Expr denote.Hole.Carrier.roll
   bit_and_known place ps marks =
       let es = shown ps in
-      parts_known (BitAnd place es marks) (chain AndBits) (reads (type_first (readings es)) (chained bv_and (values_in (readings es)))) ps (flat_bit_and names place es marks) (bit_and_says n m types cells (readings es))
+      parts_known (BitAnd place es marks) (chain AndBits) (reads (type_first (readings es)) (chained bv_and (values_in (readings es)))) ps (flat_bit_and names place es marks) (bit_and_says constants m types cells (readings es))
       (ap (λ f. f s) (fold-roll-Expr Part (reading_form system (elsewhere system)) (BitAndForm place es marks))
       ∙ ap (λ u. reads u (chained bv_and (values (map part_of es) s))) (type_read es) ∙ ap (λ vs. reads (type_first (readings es)) (chained bv_and vs)) (values_read es))
 
-  product_known : (place : Place) (ps : List Shown) (marks : List Place) → Known system s n m types cells names (Product place (shown ps) marks)
+  product_known : (place : Place) (ps : List Shown) (marks : List Place) → Known system s constants m types cells names (Product place (shown ps) marks)
   unfolding reading_by roll-Expr denote.Hole.Carrier.roll
   product_known place ps marks =
       let es = shown ps in
-      parts_known (Product place es marks) (chain Multiply) (reads (type_first (readings es)) (chained product (values_in (readings es)))) ps (flat_product names place es marks) (product_says n m types cells (readings es))
+      parts_known (Product place es marks) (chain Multiply) (reads (type_first (readings es)) (chained product (values_in (readings es)))) ps (flat_product names place es marks) (product_says constants m types cells (readings es))
       (ap (λ f. f s) (fold-roll-Expr Part (reading_form system (elsewhere system)) (ProductForm place es marks))
       ∙ ap (λ u. reads u (chained product (values (map part_of es) s))) (type_read es) ∙ ap (λ vs. reads (type_first (readings es)) (chained product vs)) (values_read es))
 
-  concat_known : (place : Place) (ps : List Shown) (marks : List Place) → Known system s n m types cells names (Concat place (shown ps) marks)
+  concat_known : (place : Place) (ps : List Shown) (marks : List Place) → Known system s constants m types cells names (Concat place (shown ps) marks)
   unfolding reading_by roll-Expr denote.Hole.Carrier.roll
   concat_known place ps marks =
       let es = shown ps in
-      parts_known (Concat place es marks) (chain Joined) (reads (Bv (widths (readings es))) (chained concatenated (values_in (readings es)))) ps (flat_concat names place es marks) (concat_says n m types cells (readings es))
+      parts_known (Concat place es marks) (chain Joined) (reads (Bv (widths (readings es))) (chained concatenated (values_in (readings es)))) ps (flat_concat names place es marks) (concat_says constants m types cells (readings es))
       (ap (λ f. f s) (fold-roll-Expr Part (reading_form system (elsewhere system)) (ConcatForm place es marks))
       ∙ ap (λ k. reads (Bv k) (chained concatenated (values (map part_of es) s))) (widths_read es) ∙ ap (λ vs. reads (Bv (widths (readings es))) (chained concatenated vs)) (values_read es))
 
-  sum_known : (place : Place) (ps : List Shown) (signs : List SumSign) → Known system s n m types cells names (Sum place (shown ps) signs)
+  sum_known : (place : Place) (ps : List Shown) (signs : List SumSign) → Known system s constants m types cells names (Sum place (shown ps) signs)
   unfolding reading_by roll-Expr denote.Hole.Carrier.roll
   sum_known place ps signs =
       let es = shown ps in
-      parts_known (Sum place es signs) (sum signs) (reads (type_first (readings es)) (summed signs (values_in (readings es)))) ps (flat_sum names place es signs) (sum_says n m types cells signs (readings es))
+      parts_known (Sum place es signs) (sum signs) (reads (type_first (readings es)) (summed signs (values_in (readings es)))) ps (flat_sum names place es signs) (sum_says constants m types cells signs (readings es))
       (ap (λ f. f s) (fold-roll-Expr Part (reading_form system (elsewhere system)) (SumForm place es signs))
       ∙ ap (λ u. reads u (summed signs (values (map part_of es) s))) (type_read es) ∙ ap (λ vs. reads (type_first (readings es)) (summed signs vs)) (values_read es))
 
-  unary_known : (place : Place) (operator : UnaryOperator) (p : Shown) → Known system s n m types cells names (Unary place operator p.0)
+  unary_known : (place : Place) (operator : UnaryOperator) (p : Shown) → Known system s constants m types cells names (Unary place operator p.0)
   unfolding reading_by roll-Expr denote.Hole.Carrier.roll
   unary_known place operator p t h =
       let x = then_some (unary_of operator) (flat_of names p.0) t (sym (flat_unary names place operator p.0) ∙ h) in
       let r = reading system s p.0 in
-      says_as n m types cells (reads r.type (unary operator r.value)) (reading system s (Unary place operator p.0)) t
+      says_as constants m types cells (reads r.type (unary operator r.value)) (reading system s (Unary place operator p.0)) t
       (ap (λ f. f s) (fold-roll-Expr Part (reading_form system (elsewhere system)) (UnaryForm place operator p.0)))
-      (unary_says n m types cells operator r x.0 t (p.1 x.0 x.1) x.2)
+      (unary_says constants m types cells operator r x.0 t (p.1 x.0 x.1) x.2)
 
-  compare_known : (place : Place) (how : Comparison) (mark : Place) (p q : Shown) → Known system s n m types cells names (Compare place how mark p.0 q.0)
+  compare_known : (place : Place) (how : Comparison) (mark : Place) (p q : Shown) → Known system s constants m types cells names (Compare place how mark p.0 q.0)
   unfolding reading_by roll-Expr denote.Hole.Carrier.roll
   compare_known place how mark p q t h =
       let x = then_some (λ a. option_and_then (λ b. comparison how a b) (flat_of names q.0)) (flat_of names p.0) t (sym (flat_compare names place how mark p.0 q.0) ∙ h) in
       let y = then_some (λ b. comparison how x.0 b) (flat_of names q.0) t x.2 in
       let r = reading system s p.0 in
       let o = reading system s q.0 in
-      says_as n m types cells (reads_truth (compared how r.type r.value o.value)) (reading system s (Compare place how mark p.0 q.0)) t
+      says_as constants m types cells (reads_truth (compared how r.type r.value o.value)) (reading system s (Compare place how mark p.0 q.0)) t
       (ap (λ f. f s) (fold-roll-Expr Part (reading_form system (elsewhere system)) (CompareForm place how mark p.0 q.0)))
-      (comparison_says n m types cells how r o x.0 y.0 t (p.1 x.0 x.1) (q.1 y.0 y.1) y.2)
+      (comparison_says constants m types cells how r o x.0 y.0 t (p.1 x.0 x.1) (q.1 y.0 y.1) y.2)
 
   -- conditionals
   abbrev branches : Place → List (Branch Shown) → Shown → List (Branch Expr)
@@ -209,12 +209,12 @@ module _ (system : System) (s : Scope) (n : ℕ) (m : Model) (types : List Ty) (
   abbrev branch_parts : Place → List (Branch Expr) → Expr → List (Branch Part)
   branch_parts place bs z = branches_of (map-Expr Expr Part part_of (IfForm place bs z))
 
-  arms_told : (place : Place) (bs : List (Branch Shown)) (z : Shown) (arms : List TypedArm) (rest t : TypedExpression) → all_of (map (arm_of (flat_of names)) (branches place bs z)) ≡ Some arms → Says n m types cells (reading system s z.0) rest
-      → joined_arms arms rest ≡ Some t → Says n m types cells (chosen (branch_parts place (branches place bs z) z.0) (part_of z.0) s) t
+  arms_told : (place : Place) (bs : List (Branch Shown)) (z : Shown) (arms : List TypedArm) (rest t : TypedExpression) → all_of (map (arm_of (flat_of names)) (branches place bs z)) ≡ Some arms → Says constants m types cells (reading system s z.0) rest
+      → joined_arms arms rest ≡ Some t → Says constants m types cells (chosen (branch_parts place (branches place bs z) z.0) (part_of z.0) s) t
   unfolding joined_arms
   arms_told place [] z arms rest t all h e =
       let k : Some rest ≡ Some t = ap (λ xs. joined_arms xs rest) (some_is [] arms all) ∙ e in
-      subst (Says n m types cells (reading system s z.0)) (some_is rest t k) h
+      subst (Says constants m types cells (reading system s z.0)) (some_is rest t k) h
   arms_told place (b ∷ bs) z arms rest t all h e =
       let others = all_of (map (arm_of (flat_of names)) (branches place bs z)) in
       let x = then_some (λ a. option_map (λ xs. a ∷ xs) others) (option_and_then (λ c. option_map (λ v. arm c v) (flat_of names b.value.0)) (flat_of names b.condition.0)) arms all in
@@ -222,17 +222,17 @@ module _ (system : System) (s : Scope) (n : ℕ) (m : Model) (types : List Ty) (
       let c = then_some (λ c. option_map (λ v. arm c v) (flat_of names b.value.0)) (flat_of names b.condition.0) x.0 x.1 in
       let v = map_some (λ v. arm c.0 v) (flat_of names b.value.0) x.0 c.2 in
       let w = then_some (choice x.0.condition x.0.value) (joined_arms y.0 rest) t (ap (λ xs. joined_arms xs rest) y.2 ∙ e) in
-      choice_says n m types cells (reading system s b.condition.0) (reading system s b.value.0) (chosen (branch_parts place (branches place bs z) z.0) (part_of z.0) s) c.0 v.0 w.0 t
+      choice_says constants m types cells (reading system s b.condition.0) (reading system s b.value.0) (chosen (branch_parts place (branches place bs z) z.0) (part_of z.0) s) c.0 v.0 w.0 t
       (b.condition.1 c.0 c.1) (b.value.1 v.0 v.1) (arms_told place bs z y.0 rest w.0 y.1 h w.1)
       (ap (λ (a : TypedArm). choice a.condition a.value w.0) v.2 ∙ w.2)
 
-  if_known : (place : Place) (bs : List (Branch Shown)) (z : Shown) → Known system s n m types cells names (If place (branches place bs z) z.0)
+  if_known : (place : Place) (bs : List (Branch Shown)) (z : Shown) → Known system s constants m types cells names (If place (branches place bs z) z.0)
   unfolding reading_by roll-Expr denote.Hole.Carrier.roll
   if_known place bs z t h =
       let es = branches place bs z in
       let x = then_some (λ rest. option_and_then (λ arms. joined_arms arms rest) (all_of (map (arm_of (flat_of names)) es))) (flat_of names z.0) t (sym (flat_if names place es z.0) ∙ h) in
       let y = then_some (λ arms. joined_arms arms x.0) (all_of (map (arm_of (flat_of names)) es)) t x.2 in
-      says_as n m types cells (chosen (branch_parts place es z.0) (part_of z.0) s) (reading system s (If place es z.0)) t
+      says_as constants m types cells (chosen (branch_parts place es z.0) (part_of z.0) s) (reading system s (If place es z.0)) t
       (ap (λ f. f s) (fold-roll-Expr Part (reading_form system (elsewhere system)) (IfForm place es z.0)))
       (arms_told place bs z y.0 x.0 t y.1 (z.1 x.0 x.1) y.2)
 
@@ -240,16 +240,16 @@ module _ (system : System) (s : Scope) (n : ℕ) (m : Model) (types : List Ty) (
   abbrev selected_parts : Place → Primary Expr → List (Selection Expr) → List (Selection Part)
   selected_parts place primary ss = selections_of (map-Expr Expr Part part_of (SelectedForm place primary ss))
 
-  select_told : (place : Place) (primary : Primary Expr) (ss : List (Selection Expr)) (r : Reading) (t u : TypedExpression) → Says n m types cells r t → select_all_of t ss ≡ Some u
-      → Says n m types cells (select_all s r (selected_parts place primary ss)) u
+  select_told : (place : Place) (primary : Primary Expr) (ss : List (Selection Expr)) (r : Reading) (t u : TypedExpression) → Says constants m types cells r t → select_all_of t ss ≡ Some u
+      → Says constants m types cells (select_all s r (selected_parts place primary ss)) u
   unfolding select_all select_all_of
-  select_told place primary [] r t u h e = subst (Says n m types cells r) (some_is t u e) h
+  select_told place primary [] r t u h e = subst (Says constants m types cells r) (some_is t u e) h
   select_told place primary (Field q i ∷ ss) r t u h e =
       let x = then_some (λ v. select_all_of v ss) (select_of {E = Expr} t (Field q i)) u e in
-      select_told place primary ss (field_reading r i.name) x.0 u (field_says n m types cells r t x.0 i.name h x.1) x.2
+      select_told place primary ss (field_reading r i.name) x.0 u (field_says constants m types cells r t x.0 i.name h x.1) x.2
   select_told place primary (Extract q a b ∷ ss) r t u h e =
       let x = then_some (λ v. select_all_of v ss) (select_of {E = Expr} t (Extract q a b)) u e in
-      select_told place primary ss (reads (Bv (a - b + 1)) (extracted a b r.value)) x.0 u (range_says n m types cells r t x.0 a b h x.1) x.2
+      select_told place primary ss (reads (Bv (a - b + 1)) (extracted a b r.value)) x.0 u (range_says constants m types cells r t x.0 a b h x.1) x.2
   select_told place primary (Copy q k ∷ ss) r t u h e = let none : None ≡ Some u = e in cc
   select_told place primary (Element q i ∷ ss) r t u h e = let none : None ≡ Some u = e in cc
   select_told place primary (Update q i v ∷ ss) r t u h e = let none : None ≡ Some u = e in cc
@@ -266,51 +266,51 @@ module _ (system : System) (s : Scope) (n : ℕ) (m : Model) (types : List Ty) (
   reached_here place primary x primed (Element q i ∷ ss) t u alone e = refl
   reached_here place primary x primed (Update q i v ∷ ss) t u alone e = refl
 
-  truth_known : (place : Place) (b : Truth) (ss : List (Selection Expr)) → Known system s n m types cells names (Selected place (TruthWord b) ss)
+  truth_known : (place : Place) (b : Truth) (ss : List (Selection Expr)) → Known system s constants m types cells names (Selected place (TruthWord b) ss)
   unfolding reading_by roll-Expr denote.Hole.Carrier.roll
   truth_known place b ss t h =
       let x = then_some (λ u. select_all_of u ss) (Some (truth_literal b)) t (sym (flat_selected names place (TruthWord b) ss) ∙ h) in
-      says_as n m types cells (select_all s (reads_truth b) (selected_parts place (TruthWord b) ss)) (reading system s (Selected place (TruthWord b) ss)) t
+      says_as constants m types cells (select_all s (reads_truth b) (selected_parts place (TruthWord b) ss)) (reading system s (Selected place (TruthWord b) ss)) t
       (ap (λ f. f s) (fold-roll-Expr Part (reading_form system (elsewhere system)) (SelectedForm place (TruthWord b) ss)))
-      (select_told place (TruthWord b) ss (reads_truth b) x.0 t (subst (Says n m types cells (reads_truth b)) (some_is (truth_literal b) x.0 x.1) (truth_says n m types cells b)) x.2)
+      (select_told place (TruthWord b) ss (reads_truth b) x.0 t (subst (Says constants m types cells (reads_truth b)) (some_is (truth_literal b) x.0 x.1) (truth_says constants m types cells b)) x.2)
 
-  number_known : (place : Place) (k : ℕ) (ss : List (Selection Expr)) → Known system s n m types cells names (Selected place (Number k) ss)
+  number_known : (place : Place) (k : ℕ) (ss : List (Selection Expr)) → Known system s constants m types cells names (Selected place (Number k) ss)
   unfolding reading_by roll-Expr denote.Hole.Carrier.roll
   number_known place k ss t h =
       let x = then_some (λ u. select_all_of u ss) (number_literal k) t (sym (flat_selected names place (Number k) ss) ∙ h) in
-      says_as n m types cells (select_all s (reads Int (whole (pos k))) (selected_parts place (Number k) ss)) (reading system s (Selected place (Number k) ss)) t
+      says_as constants m types cells (select_all s (reads Int (whole (pos k))) (selected_parts place (Number k) ss)) (reading system s (Selected place (Number k) ss)) t
       (ap (λ f. f s) (fold-roll-Expr Part (reading_form system (elsewhere system)) (SelectedForm place (Number k) ss)))
-      (select_told place (Number k) ss (reads Int (whole (pos k))) x.0 t (number_says n m types cells k x.0 x.1) x.2)
+      (select_told place (Number k) ss (reads Int (whole (pos k))) x.0 t (number_says constants m types cells k x.0 x.1) x.2)
 
-  bits_known : (place : Place) (k w : ℕ) (ss : List (Selection Expr)) → Known system s n m types cells names (Selected place (BitsLiteral k w) ss)
+  bits_known : (place : Place) (k w : ℕ) (ss : List (Selection Expr)) → Known system s constants m types cells names (Selected place (BitsLiteral k w) ss)
   unfolding reading_by roll-Expr denote.Hole.Carrier.roll
   bits_known place k w ss t h =
       let x = then_some (λ u. select_all_of u ss) (bits_literal k w) t (sym (flat_selected names place (BitsLiteral k w) ss) ∙ h) in
-      says_as n m types cells (select_all s (reads (Bv w) (word w k)) (selected_parts place (BitsLiteral k w) ss)) (reading system s (Selected place (BitsLiteral k w) ss)) t
+      says_as constants m types cells (select_all s (reads (Bv w) (word w k)) (selected_parts place (BitsLiteral k w) ss)) (reading system s (Selected place (BitsLiteral k w) ss)) t
       (ap (λ f. f s) (fold-roll-Expr Part (reading_form system (elsewhere system)) (SelectedForm place (BitsLiteral k w) ss)))
-      (select_told place (BitsLiteral k w) ss (reads (Bv w) (word w k)) x.0 t (bits_says n m types cells k w x.0 x.1) x.2)
+      (select_told place (BitsLiteral k w) ss (reads (Bv w) (word w k)) x.0 t (bits_says constants m types cells k w x.0 x.1) x.2)
 
-  name_known : (place : Place) (x : ℕ) (primed : Truth) (ss : List (Selection Expr)) → Known system s n m types cells names (Selected place (Name x primed) ss)
+  name_known : (place : Place) (x : ℕ) (primed : Truth) (ss : List (Selection Expr)) → Known system s constants m types cells names (Selected place (Name x primed) ss)
   unfolding reading_by roll-Expr denote.Hole.Carrier.roll
   name_known place x primed ss t h =
       let y = then_some (λ u. select_all_of u ss) (named names x primed) t (sym (flat_selected names place (Name x primed) ss) ∙ h) in
       let known = meant x primed y.0 y.1 in
       let r = name system (elsewhere system) s x primed in
-      says_as n m types cells (select_all s r (selected_parts place (Name x primed) ss)) (reading system s (Selected place (Name x primed) ss)) t
+      says_as constants m types cells (select_all s r (selected_parts place (Name x primed) ss)) (reading system s (Selected place (Name x primed) ss)) t
       (ap (λ f. f s) (fold-roll-Expr Part (reading_form system (elsewhere system)) (SelectedForm place (Name x primed) ss))
       ∙ ap (reached_reading system (elsewhere system) s) (reached_here place (Name x primed) x primed ss y.0 t known.alone y.2))
       (select_told place (Name x primed) ss r y.0 t known.says y.2)
 
-  two_told : (function : BitFunction) (rs : List Reading) (ts : List TypedExpression) (t : TypedExpression) → AllTell n m types cells rs ts → on_two function ts ≡ Some t → Says n m types cells (on_bits_reading function rs) t
+  two_told : (function : BitFunction) (rs : List Reading) (ts : List TypedExpression) (t : TypedExpression) → AllTell constants m types cells rs ts → on_two function ts ≡ Some t → Says constants m types cells (on_bits_reading function rs) t
   two_told function rs [] t h e = cc
   two_told function rs (b ∷ []) t h e = cc
   two_told function [] (b ∷ a ∷ []) t h e = absurd h
   two_told function (q ∷ []) (b ∷ a ∷ []) t h e = absurd h.1
-  two_told function (q ∷ r ∷ []) (b ∷ a ∷ []) t h e = on_bits_says n m types cells function q r b a t h.0 h.1.0 e
+  two_told function (q ∷ r ∷ []) (b ∷ a ∷ []) t h e = on_bits_says constants m types cells function q r b a t h.0 h.1.0 e
   two_told function (q ∷ r ∷ (o ∷ rs)) (b ∷ a ∷ []) t h e = absurd h.1.1
   two_told function rs (b ∷ a ∷ (c ∷ ts)) t h e = cc
 
-  on_bits_known : (place : Place) (function : BitFunction) (ps : List Shown) (ss : List (Selection Expr)) → Known system s n m types cells names (Selected place (OnBits function (shown ps)) ss)
+  on_bits_known : (place : Place) (function : BitFunction) (ps : List Shown) (ss : List (Selection Expr)) → Known system s constants m types cells names (Selected place (OnBits function (shown ps)) ss)
   unfolding reading_by roll-Expr denote.Hole.Carrier.roll
   on_bits_known place function ps ss t h =
       let es = shown ps in
@@ -319,28 +319,28 @@ module _ (system : System) (s : Scope) (n : ℕ) (m : Model) (types : List Ty) (
       let x = then_some (λ u. select_all_of u ss) (option_and_then (on_two function) parts) t (sym (flat_selected names place primary ss) ∙ h) in
       let y = then_some (on_two function) parts x.0 x.1 in
       let r = on_bits_reading function (readings es) in
-      says_as n m types cells (select_all s r (selected_parts place primary ss)) (reading system s (Selected place primary ss)) t
+      says_as constants m types cells (select_all s r (selected_parts place primary ss)) (reading system s (Selected place primary ss)) t
       (ap (λ f. f s) (fold-roll-Expr Part (reading_form system (elsewhere system)) (SelectedForm place primary ss))
       ∙ ap (λ rs. select_all s (on_bits_reading function rs) (selected_parts place primary ss)) (parts_read es))
       (select_told place primary ss r x.0 t (two_told function (readings es) y.0 x.0 (all_told ps y.0 y.1) y.2) x.2)
 
-  grouped_known : (place : Place) (p : Shown) (ss : List (Selection Expr)) → Known system s n m types cells names (Selected place (Grouped p.0) ss)
+  grouped_known : (place : Place) (p : Shown) (ss : List (Selection Expr)) → Known system s constants m types cells names (Selected place (Grouped p.0) ss)
   unfolding reading_by roll-Expr denote.Hole.Carrier.roll
   grouped_known place p ss t h =
       let primary : Primary Expr = Grouped p.0 in
       let x = then_some (λ u. select_all_of u ss) (flat_of names p.0) t (sym (flat_selected names place primary ss) ∙ h) in
-      says_as n m types cells (select_all s (reading system s p.0) (selected_parts place primary ss)) (reading system s (Selected place primary ss)) t
+      says_as constants m types cells (select_all s (reading system s p.0) (selected_parts place primary ss)) (reading system s (Selected place primary ss)) t
       (ap (λ f. f s) (fold-roll-Expr Part (reading_form system (elsewhere system)) (SelectedForm place primary ss)))
       (select_told place primary ss (reading system s p.0) x.0 t (p.1 x.0 x.1) x.2)
 
   -- an application and a value of before have none
-  applied_known : (place : Place) (x : ℕ) (es : List Expr) (ss : List (Selection Expr)) → Known system s n m types cells names (Selected place (Applied x es) ss)
+  applied_known : (place : Place) (x : ℕ) (es : List Expr) (ss : List (Selection Expr)) → Known system s constants m types cells names (Selected place (Applied x es) ss)
   applied_known place x es ss t h = let e : None ≡ Some t = sym (flat_selected names place (Applied x es) ss) ∙ h in cc
 
-  old_known : (place : Place) (i : Identifier) (ss : List (Selection Expr)) → Known system s n m types cells names (Selected place (Old i) ss)
+  old_known : (place : Place) (i : Identifier) (ss : List (Selection Expr)) → Known system s constants m types cells names (Selected place (Old i) ss)
   old_known place i ss t h = let e : None ≡ Some t = sym (flat_selected names place (Old i) ss) ∙ h in cc
 
-  layer : (y : Expr-F Shown) → Known system s n m types cells names (roll-Expr (map-Expr Shown Expr (λ p. p.0) y))
+  layer : (y : Expr-F Shown) → Known system s constants m types cells names (roll-Expr (map-Expr Shown Expr (λ p. p.0) y))
   unfolding roll-Expr denote.Hole.Carrier.roll
   layer (IfForm place bs z) = if_known place bs z
   layer (IffForm place ps marks) = iff_known place ps marks
@@ -364,8 +364,8 @@ module _ (system : System) (s : Scope) (n : ℕ) (m : Model) (types : List Ty) (
   layer (SelectedForm place (Applied x ps) ss) = applied_known place x _ _
   layer (SelectedForm place (Old i) ss) = old_known place i _
 
-  known : (e : Expr) → Known system s n m types cells names e
-  known = ind-Expr (Known system s n m types cells names) (λ x y is. subst (λ z. Known system s n m types cells names (roll-Expr z)) is (layer y))
+  known : (e : Expr) → Known system s constants m types cells names e
+  known = ind-Expr (Known system s constants m types cells names) (λ x y is. subst (λ z. Known system s constants m types cells names (roll-Expr z)) is (layer y))
 
 pub flat_says : FlatLaw
-flat_says system s n m types cells names e t meant h = known system s n m types cells names meant e t h
+flat_says system s constants m types cells names e t meant h = known system s constants m types cells names meant e t h

@@ -39,35 +39,35 @@ same_booleans v w f g =
     ∙ ap (λ (s : Sameness). s.same (truth x.truth) (truth y.truth)) sameness-Bool
     ∙ sym (ap (λ u. same_truth (holds u) (holds w)) x.is ∙ ap (λ u. same_truth x.truth (holds u)) y.is)
 
-module _ (n : ℕ) (m : Model) (types : List Ty) (cells : List Value) where
+module _ (constants : List Ty) (m : Model) (types : List Ty) (cells : List Value) where
   -- what is read of bits is a word
-  pub word_told : (r : Reading) (a : TypedExpression) (w : ℕ) → Says n m types cells r a → a.ty ≡ Bv w → IsBits w r.value
+  pub word_told : (r : Reading) (a : TypedExpression) (w : ℕ) → Says constants m types cells r a → a.ty ≡ Bv w → IsBits w r.value
   word_told r a w h e = IsBits-fits w r.value (subst (λ u. IsTrue (fits u r.value)) e h.fit)
 
-  pub truth_told : (r : Reading) (a : TypedExpression) → Says n m types cells r a → a.ty ≡ Bool → IsBoolean r.value
+  pub truth_told : (r : Reading) (a : TypedExpression) → Says constants m types cells r a → a.ty ≡ Bool → IsBoolean r.value
   truth_told r a h e = IsBoolean-fits r.value (subst (λ u. IsTrue (fits u r.value)) e h.fit)
 
-  pub one_says : (op : Op) (ty : Ty) (g : Value → Value) (r : Reading) (a : TypedExpression) (w : ℕ) → Says n m types cells r a → a.ty ≡ Bv w
+  pub one_says : (op : Op) (ty : Ty) (g : Value → Value) (r : Reading) (a : TypedExpression) (w : ℕ) → Says constants m types cells r a → a.ty ≡ Bv w
       → Suits op (a.ty ∷ []) → result_type op (a.ty ∷ []) ≡ ty → IsPlain op → ((us : List Ty) (x : ℕ) → apply m op us (word w x ∷ []) ≡ g (word w x))
-      → Says n m types cells (reads ty (g r.value)) (operation op ty (a ∷ []))
+      → Says constants m types cells (reads ty (g r.value)) (operation op ty (a ∷ []))
   one_says op ty g r a w h e suits is plain same =
       let x = word_told r a w h e in
       let us = a.ty ∷ [] in
-      says_as n m types cells (reads ty (apply m op us (r.value ∷ []))) (reads ty (g r.value)) (operation op ty (a ∷ []))
+      says_as constants m types cells (reads ty (apply m op us (r.value ∷ []))) (reads ty (g r.value)) (operation op ty (a ∷ []))
       (ap (reads ty) (ap g x.is ∙ sym (same us x.number) ∙ sym (ap (λ v. apply m op us (v ∷ [])) x.is)))
-      (operation_says n m types cells op ty (r ∷ []) (a ∷ []) (h, tt) suits is plain)
+      (operation_says constants m types cells op ty (r ∷ []) (a ∷ []) (h, tt) suits is plain)
 
-  pub pair_says : (op : Op) (ty : Ty) (g : Value → Value → Value) (r q : Reading) (a b : TypedExpression) (w : ℕ) → Says n m types cells r a → Says n m types cells q b → a.ty ≡ Bv w → b.ty ≡ Bv w
+  pub pair_says : (op : Op) (ty : Ty) (g : Value → Value → Value) (r q : Reading) (a b : TypedExpression) (w : ℕ) → Says constants m types cells r a → Says constants m types cells q b → a.ty ≡ Bv w → b.ty ≡ Bv w
       → ((us : List Ty) → Pair_of_bits us → Suits op us) → result_type op (a.ty ∷ b.ty ∷ []) ≡ ty → IsPlain op → ((us : List Ty) (x y : ℕ) → apply m op us (word w x ∷ word w y ∷ []) ≡ g (word w x) (word w y))
-      → Says n m types cells (reads ty (g r.value q.value)) (operation op ty (a ∷ b ∷ []))
+      → Says constants m types cells (reads ty (g r.value q.value)) (operation op ty (a ∷ b ∷ []))
   pair_says op ty g r q a b w h k e f suits is plain same =
       let x = word_told r a w h e in
       let y = word_told q b w k f in
       let us = a.ty ∷ b.ty ∷ [] in
-      says_as n m types cells (reads ty (apply m op us (r.value ∷ q.value ∷ []))) (reads ty (g r.value q.value)) (operation op ty (a ∷ b ∷ []))
+      says_as constants m types cells (reads ty (apply m op us (r.value ∷ q.value ∷ []))) (reads ty (g r.value q.value)) (operation op ty (a ∷ b ∷ []))
       (ap (reads ty) (
       ap (λ v. g v q.value) x.is
       ∙ ap (g (word w x.number)) y.is
       ∙ sym (same us x.number y.number)
       ∙ sym (ap (λ v. apply m op us (v ∷ q.value ∷ [])) x.is ∙ ap (λ v. apply m op us (word w x.number ∷ v ∷ [])) y.is)))
-      (operation_says n m types cells op ty (r ∷ q ∷ []) (a ∷ b ∷ []) (h, (k, tt)) (suits us (w, ap (λ u. u ∷ b.ty ∷ []) e ∙ ap (λ u. Bv w ∷ u ∷ []) f)) is plain)
+      (operation_says constants m types cells op ty (r ∷ q ∷ []) (a ∷ b ∷ []) (h, (k, tt)) (suits us (w, ap (λ u. u ∷ b.ty ∷ []) e ∙ ap (λ u. Bv w ∷ u ∷ []) f)) is plain)

@@ -1,8 +1,8 @@
 -- The cells of a design of one module, and their types.
-use Rattle.std.proofs.Common.{◌≡◌, ℕ, zero, suc, ◌+◌, ◌<◌, List, [], ◌∷◌, ◌++◌, map, length, refl, sym, ap, ◌∙◌, subst, true, false, Bool, Option, Some, None, arith, append-nil, cond}
+use Rattle.std.proofs.Common.{◌≡◌, ℕ, zero, suc, ◌+◌, ◌<◌, List, [], ◌∷◌, ◌++◌, map, length, refl, sym, ap, ◌∙◌, subst, true, false, Bool, Option, Some, None, arith, append-nil, cond, eq-eqb}
 use Rattle.std.specs.Prelude.{◌&&◌, ◌||◌, nat_eq, slice_get, is_some}
 use Rattle.std.proofs.lemmas.List.{map-append, length-map}
-use Rattle.std.specs.List.{flat_map, filter, position_from}
+use Rattle.std.specs.List.{flat_map, filter, list_any, position_from}
 use Rattle.uc_lexer.specs.declared.place.Place.{Place}
 use Rattle.uc_syntax.specs.declared.place.Identifier.{Identifier}
 use Rattle.uc_syntax.specs.declared.type_expression.TypeExpr.{TypeExpr}
@@ -12,19 +12,37 @@ use Rattle.uc_syntax.specs.declared.declaration.VariableKind.{VariableKind}
 use Rattle.uc_syntax.specs.declared.declaration.VariableKind.TheVariants.{Variable, Input, Output, Constant}
 use Rattle.uc_syntax.specs.declared.declaration.Module.{Module}
 use Rattle.uc_values.specs.declared.ty.Ty.{Ty}
-use Rattle.uc_meaning.specs.Lookup.{System, bound_to, first_some, or_else, some_if, names_one, variable_in, variable_of}
+use Rattle.uc_meaning.specs.Lookup.{System, main_module, instances_of, bound_to, first_some, or_else, some_if, names_one, variable_in, variable_of}
 use Rattle.uc_meaning.specs.Types.{type_of_written}
-use Rattle.uc_meaning.specs.Cells.{longest_chain, as_list, same_path, module_of_instance, main_instance, instances, instances_from, Cell, cells_in, cells_of, cell_of}
+use Rattle.uc_meaning.specs.Cells.{longest_chain, as_list, same_path, module_of_instance, InstanceAt, main_instance, instances, instances_from, modules_in_use, Cell, cells_in, cells_of, cell_of}
 use Rattle.uc_meaning.proofs.Lists.{position_found, position_past}
 use Rattle.uc_flat.proofs.Extending.{slice_get-front, slice_get-back}
 use Rattle.uc_flat_names.specs.Names.{StandsAlone, types_of}
 
-pub alone_instances : (system : System) (code : Module) → StandsAlone system code → instances system ≡ main_instance code ∷ []
+instances_are : (system : System) (code : Module) → main_module system ≡ Some code → instances_of code ≡ [] → instances system ≡ main_instance code ∷ []
 unfolding instances instances_from
-alone_instances system code a =
-    ap (λ m. flat_map (λ n. instances_from longest_chain system (main_instance n)) (as_list m)) a.main
+instances_are system code main none =
+    ap (λ m. flat_map (λ n. instances_from longest_chain system (main_instance n)) (as_list m)) main
     ∙ append-nil (instances_from longest_chain system (main_instance code))
-    ∙ ap (λ is. main_instance code ∷ flat_map (instances_from 31 system) (flat_map (λ i. map (λ m. record { path = i.name ∷ []; code = m; is_bound = λ x. is_some (bound_to i x) }) (module_of_instance system i)) is)) a.alone
+    ∙ ap (λ is. main_instance code ∷ flat_map (instances_from 31 system) (flat_map (λ i. map (λ m. record { path = i.name ∷ []; code = m; is_bound = λ x. is_some (bound_to i x) }) (module_of_instance system i)) is)) none
+
+pub alone_instances : (system : System) (code : Module) → StandsAlone system code → instances system ≡ main_instance code ∷ []
+alone_instances system code a = instances_are system code a.main a.alone
+
+-- the one module is in use
+only_used : (system : System) (code : Module) → system.modules ≡ code ∷ [] → main_module system ≡ Some code → instances_of code ≡ [] → modules_in_use system ≡ code ∷ []
+unfolding modules_in_use
+only_used system code only main none =
+    let same : nat_eq code.name code.name ≡ true = eq-eqb code.name code.name refl in
+    ap (λ is. filter (λ (m : Module). list_any (λ (i : InstanceAt). nat_eq i.code.name m.name) is) system.modules) (instances_are system code main none)
+    ∙ ap (filter (λ (m : Module). list_any (λ (i : InstanceAt). nat_eq i.code.name m.name) (main_instance code ∷ []))) only
+    ∙ ap (λ b. cond (b || false) (code ∷ []) []) same
+
+-- a design of one module, without instances
+pub stands_alone : (system : System) (code : Module) → system.modules ≡ code ∷ [] → system.main ≡ 0 → instances_of code ≡ [] → StandsAlone system code
+stands_alone system code only first none =
+    let main : main_module system ≡ Some code = ap (slice_get system.modules) first ∙ ap (λ (ms : List Module). slice_get ms 0) only in
+    record { main = main; used = only_used system code only main none; alone = none }
 
 pub alone_cells : (system : System) (code : Module) → StandsAlone system code → cells_of system ≡ flat_map (cells_in system (main_instance code)) code.decls
 unfolding cells_of
@@ -114,14 +132,14 @@ cells_are system code place Constant ids type h = absurd h
 no_cells : (system : System) (code : Module) (place : Place) (ids : List Identifier) (type : TypeExpr) → own_cells system code (Variables place Constant ids type) ≡ []
 no_cells system code place ids type = ap (map (made Constant (type_of_written system code type))) (none_kept ids)
 
-not_named : (b : Bool) (kind : VariableKind) (type : TypeExpr) → some_if {B = VariableKind × TypeExpr} b (kind, type) ≡ None → b ≡ false
+pub not_named : (b : Bool) (kind : VariableKind) (type : TypeExpr) → some_if {B = VariableKind × TypeExpr} b (kind, type) ≡ None → b ≡ false
 not_named true kind type h = absurd (cc)
 not_named false kind type h = refl
 
 some_pair : (d e : VariableKind × TypeExpr) → Some d ≡ Some e → d ≡ e
 some_pair d e h = cc
 
-is_named_by : (b : Bool) (own kind : VariableKind) (written type : TypeExpr) → some_if {B = VariableKind × TypeExpr} b (own, written) ≡ Some (kind, type) → (b ≡ true) × (own ≡ kind) × (written ≡ type)
+pub is_named_by : (b : Bool) (own kind : VariableKind) (written type : TypeExpr) → some_if {B = VariableKind × TypeExpr} b (own, written) ≡ Some (kind, type) → (b ≡ true) × (own ≡ kind) × (written ≡ type)
 is_named_by true own kind written type h =
     let e = some_pair (own, written) (kind, type) h in
     (refl, ap (λ (d : VariableKind × TypeExpr). d.0) e, ap (λ (d : VariableKind × TypeExpr). d.1) e)

@@ -1,2 +1,4 @@
 pub mod Cells
+pub mod Constants
+pub mod Sharing
 pub mod Meaning

@@ -8,9 +8,11 @@ use Rattle.uc_syntax.specs.declared.declaration.Module.{Module}
 use Rattle.uc_meaning.specs.Lookup.{System, variable_of}
 use Rattle.uc_meaning.specs.Types.{label_of, type_of_written}
 use Rattle.uc_flat_names.specs.Names.{StandsAlone, of_cell_number, of_kind, of_variable, by_label, meant_in, counted, names_over_cells}
-use Rattle.uc_flat_table.specs.Cells.{own_cells}
+use Rattle.uc_flat_expressions.specs.declared.typed.Meant.TheVariants.{Constant as ConstantOf}
+use Rattle.uc_flat_table.specs.Cells.{own_cells, own_constants}
 use Rattle.uc_flat_table.specs.Table.{of_kind_in, of_variable_in, by_label_in, meant_by}
 use Rattle.uc_flat_table.proofs.Declared.{place_is}
+use Rattle.uc_flat_table.proofs.DeclaredConstants.{number_is}
 
 pub counted_none : {A : Type 0} (f : ℕ → A) (from : ℕ) → map f (counted from 0) ≡ []
 unfolding counted
@@ -30,24 +32,24 @@ counted_more f n =
     ap (λ k. map f (counted 0 k)) next ∙ ap (map f) (counted_last 0 n ∙ ap (λ k. counted 0 n ++ k ∷ []) same) ∙ map-append f (counted 0 n) (n ∷ [])
 
 kind_is : (system : System) (code : Module) (x : ℕ) (type : TypeExpr) (kind : VariableKind) → StandsAlone system code
-    → of_kind_in (own_cells system code) x (type_of_written system code type) kind ≡ of_kind system code x type kind
-kind_is system code x type Constant a = refl
+    → of_kind_in (own_cells system code) (own_constants system code) x (type_of_written system code type) kind ≡ of_kind system code x type kind
+kind_is system code x type Constant a = ap (λ k. ConstantOf k (type_of_written system code type)) (number_is system code x a)
 kind_is system code x type Variable a = ap (λ o. of_cell_number o (type_of_written system code type)) (place_is system code x a)
 kind_is system code x type Input a = ap (λ o. of_cell_number o (type_of_written system code type)) (place_is system code x a)
 kind_is system code x type Output a = ap (λ o. of_cell_number o (type_of_written system code type)) (place_is system code x a)
 
-variable_is : (system : System) (code : Module) (x : ℕ) (o : Option (VariableKind × TypeExpr)) → StandsAlone system code → of_variable_in system code (own_cells system code) x o ≡ of_variable system code x o
+variable_is : (system : System) (code : Module) (x : ℕ) (o : Option (VariableKind × TypeExpr)) → StandsAlone system code → of_variable_in system code (own_cells system code) (own_constants system code) x o ≡ of_variable system code x o
 variable_is system code x None a = refl
 variable_is system code x (Some d) a = kind_is system code x d.1 d.0 a
 
-label_is : (system : System) (code : Module) (x : ℕ) (o : Option (ℕ × ℕ)) → StandsAlone system code → by_label_in system code (own_cells system code) x o ≡ by_label system code x o
+label_is : (system : System) (code : Module) (x : ℕ) (o : Option (ℕ × ℕ)) → StandsAlone system code → by_label_in system code (own_cells system code) (own_constants system code) x o ≡ by_label system code x o
 label_is system code x (Some l) a = refl
 label_is system code x None a = variable_is system code x (variable_of code x) a
 
-meant_is : (system : System) (code : Module) → StandsAlone system code → (xs : List ℕ) → map (meant_by system code (own_cells system code)) xs ≡ map (meant_in system code) xs
+meant_is : (system : System) (code : Module) → StandsAlone system code → (xs : List ℕ) → map (meant_by system code (own_cells system code) (own_constants system code)) xs ≡ map (meant_in system code) xs
 meant_is system code a [] = refl
 meant_is system code a (x ∷ xs) =
-    ap (λ t. t ∷ map (meant_by system code (own_cells system code)) xs) (label_is system code x (label_of system code x) a) ∙ ap (λ ts. meant_in system code x ∷ ts) (meant_is system code a xs)
+    ap (λ t. t ∷ map (meant_by system code (own_cells system code) (own_constants system code)) xs) (label_is system code x (label_of system code x) a) ∙ ap (λ ts. meant_in system code x ∷ ts) (meant_is system code a xs)
 
-pub names_are : (system : System) (code : Module) (count : ℕ) → StandsAlone system code → count ≡ length system.names → map (meant_by system code (own_cells system code)) (counted 0 count) ≡ names_over_cells system code
+pub names_are : (system : System) (code : Module) (count : ℕ) → StandsAlone system code → count ≡ length system.names → map (meant_by system code (own_cells system code) (own_constants system code)) (counted 0 count) ≡ names_over_cells system code
 names_are system code count a e = meant_is system code a (counted 0 count) ∙ ap (λ k. map (meant_in system code) (counted 0 k)) e

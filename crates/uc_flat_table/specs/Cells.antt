@@ -1,5 +1,5 @@
 -- The cells and the constants that a module alone declares.
-use Rattle.std.specs.Prelude.{Bool as Truth, true, false, if◌then◌else◌, List, [], ◌∷◌, map}
+use Rattle.std.specs.Prelude.{Bool as Truth, true, false, if◌then◌else◌, List, [], ◌∷◌}
 use Rattle.std.specs.List.{flat_map}
 use Rattle.uc_syntax.specs.declared.place.Identifier.{Identifier}
 use Rattle.uc_syntax.specs.declared.declaration.VariableKind.{VariableKind}
@@ -29,11 +29,11 @@ declared_cells system code other = []
 abbrev pub own_cells : System → Module → List OwnCell
 own_cells system code = flat_map (declared_cells system code) code.decls
 
-abbrev pub own_constant : Ty → Identifier → FlatConstant
-own_constant ty i = record { name = i.name; ty = ty }
+abbrev pub constant_of_name : Ty → Identifier → List FlatConstant
+constant_of_name ty i = record { name = i.name; ty = ty } ∷ []
 
 abbrev pub declared_constants : System → Module → Decl → List FlatConstant
-declared_constants system code (Variables place Constant names type) = map (own_constant (type_of_written system code type)) names
+declared_constants system code (Variables place kind names type) = if has_cells kind then [] else flat_map (constant_of_name (type_of_written system code type)) names
 declared_constants system code other = []
 
 -- in order

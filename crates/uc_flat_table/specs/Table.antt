@@ -1,9 +1,8 @@
 -- What names stand for, by the cells and the constants of their module.
-use Rattle.std.specs.Prelude.{ℕ, nat_eq, List, Option, Some, None, unwrap_or}
+use Rattle.std.specs.Prelude.{ℕ, nat_eq, if◌then◌else◌, List, Option, Some, None, unwrap_or}
 use Rattle.std.specs.List.{position_from}
 use Rattle.uc_syntax.specs.declared.type_expression.TypeExpr.{TypeExpr}
 use Rattle.uc_syntax.specs.declared.declaration.VariableKind.{VariableKind}
-use Rattle.uc_syntax.specs.declared.declaration.VariableKind.TheVariants.{Constant as constant_kind}
 use Rattle.uc_syntax.specs.declared.declaration.Module.{Module}
 use Rattle.uc_values.specs.declared.ty.Ty.{Ty}
 use Rattle.uc_meaning.specs.Lookup.{System, variable_of}
@@ -13,6 +12,7 @@ use Rattle.uc_flat_expressions.specs.declared.typed.Meant.{Meant}
 use Rattle.uc_flat_expressions.specs.declared.typed.Meant.TheVariants.{Unknown, Constant}
 use Rattle.uc_flat_names.specs.Names.{of_label, of_cell_number}
 use Rattle.uc_flat_table.specs.declared.cells.OwnCell.{OwnCell}
+use Rattle.uc_flat_table.specs.Cells.{has_cells}
 
 -- the number of the first of these constants that has a name
 abbrev pub number_of : List FlatConstant → ℕ → ℕ
@@ -20,8 +20,7 @@ number_of constants x = unwrap_or (position_from (λ c. nat_eq c.name x) 0 const
 
 -- a name of this kind and type, by the first of these cells or constants that has it
 abbrev pub of_kind_in : List OwnCell → List FlatConstant → ℕ → Ty → VariableKind → Meant
-of_kind_in cells constants x ty constant_kind = Constant (number_of constants x) ty
-of_kind_in cells constants x ty other = of_cell_number (position_from (λ c. nat_eq c.name x) 0 cells) ty
+of_kind_in cells constants x ty kind = if has_cells kind then of_cell_number (position_from (λ c. nat_eq c.name x) 0 cells) ty else Constant (number_of constants x) ty
 
 abbrev pub of_variable_in : System → Module → List OwnCell → List FlatConstant → ℕ → Option (VariableKind × TypeExpr) → Meant
 of_variable_in system code cells constants x None = Unknown

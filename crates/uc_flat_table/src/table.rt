@@ -1,17 +1,20 @@
 //! What each name stands for.
 
-ghost use Rattle.std.specs.Prelude.{◌≡◌, map, IfOk};
+ghost use Rattle.std.specs.Prelude.{◌≡◌, map, IfOk, unwrap_or};
 ghost use Rattle.uc_meaning.specs.Lookup.{variable_of};
 ghost use Rattle.uc_type_reader.specs.Reading.{label_meant};
+ghost use Rattle.uc_flat_expressions.specs.declared.typed.Meant.TheVariants.{Constant as ConstantOf};
 ghost use Rattle.uc_flat_names.specs.Names.{StandsAlone, of_label, of_cell_number, counted, names_over_cells};
-ghost use Rattle.uc_flat_table.specs.Table.{of_variable_in, meant_by};
+ghost use Rattle.uc_flat_table.specs.Table.{of_kind_in, of_variable_in, meant_by};
 
-use crate::cells::{OwnCell, has_cells, own_cells, place_of};
+use crate::cells::{self, OwnCell, has_cells, own_cells};
+use crate::constants::{self, own_constants};
 use std::alloc::{AllocError, Global};
+use uc_flat::Constant;
 use uc_flat_expressions::Meant;
 use uc_items::Items;
 use uc_lookup::variable_of;
-use uc_syntax::Module;
+use uc_syntax::{Module, VariableKind};
 use uc_type_reader::{Label, Tables, label_of, type_of_written};
 use uc_values::Ty;
 
@@ -26,8 +29,9 @@ pub fn names_table(
     ensures { IfOk result (λ names. names ≡ names_over_cells tables.now code.now) }
 {
     let cells = own_cells(alloc, tables, code)?;
+    let constants = own_constants(alloc, tables, code)?;
     let count = tables.system().names.len();
-    all_meant(alloc, tables, code, cells.as_slice(), count)
+    all_meant(alloc, tables, code, cells.as_slice(), constants.as_slice(), count)
 }
 
 /// What the first names stand for, so many of them.
@@ -37,14 +41,15 @@ fn all_meant(
     tables: &Tables,
     code: &Module,
     cells: &[OwnCell],
+    constants: &[Constant],
     count: usize,
 ) -> Result<Items<Meant>, AllocError>
-    ensures { IfOk result (λ all. all ≡ map (meant_by tables.now code.now cells.now) (counted 0 count)) }
+    ensures { IfOk result (λ all. all ≡ map (meant_by tables.now code.now cells.now constants.now) (counted 0 count)) }
 {
     let mut all = Items::new(alloc);
     for number in 0..count {
         let name = word(number)?;
-        let meant = meant(alloc, tables, code, cells, name)?;
+        let meant = meant(alloc, tables, code, cells, constants, name)?;
         all.push(meant)?;
     }
     Ok(all)
@@ -55,13 +60,14 @@ fn meant(
     tables: &Tables,
     code: &Module,
     cells: &[OwnCell],
+    constants: &[Constant],
     name: u32,
 ) -> Result<Meant, AllocError>
-    ensures { IfOk result (λ t. t ≡ meant_by tables.now code.now cells.now name) }
+    ensures { IfOk result (λ t. t ≡ meant_by tables.now code.now cells.now constants.now name) }
 {
     match label_of(alloc, tables, code, name)? {
         Some(label) => of_label(tables, label),
-        None => of_variable(alloc, tables, code, cells, name),
+        None => of_variable(alloc, tables, code, cells, constants, name),
     }
 }
 
@@ -76,26 +82,48 @@ fn of_label(tables: &Tables, label: Label) -> Result<Meant, AllocError>
     Ok(Meant::Label(label.enum_number, count, label.place))
 }
 
-/// A variable, input or output of main; constants are not built.
+/// A variable, input, output or constant of main.
 fn of_variable(
     alloc: Global,
     tables: &Tables,
     code: &Module,
     cells: &[OwnCell],
+    constants: &[Constant],
     name: u32,
 ) -> Result<Meant, AllocError>
-    ensures { IfOk result (λ t. t ≡ of_variable_in tables.now code.now cells.now name (variable_of code.now name)) }
+    ensures { IfOk result (λ t. t ≡ of_variable_in tables.now code.now cells.now constants.now name (variable_of code.now name)) }
 {
     match variable_of(code.decls.as_slice(), name) {
         None => Ok(Meant::Unknown),
         Some(variable) => {
-            if !has_cells(variable.kind) {
-                return Ok(Meant::Unknown);
-            }
             let ty = type_of_written(alloc, tables, code, variable.ty)?;
-            of_cell(place_of(cells, name), ty)
+            of_kind(cells, constants, name, ty, variable.kind)
         }
     }
+}
+
+/// A name of this kind and type.
+fn of_kind(
+    cells: &[OwnCell],
+    constants: &[Constant],
+    name: u32,
+    ty: Ty,
+    kind: VariableKind,
+) -> Result<Meant, AllocError>
+    ensures { IfOk result (λ t. t ≡ of_kind_in cells.now constants.now name ty kind) }
+{
+    if has_cells(kind) {
+        return of_cell(cells::place_of(cells, name), ty);
+    }
+    of_constant(constants::place_of(constants, name), ty)
+}
+
+/// A constant of a type. Each one that is declared has a place.
+fn of_constant(place: Option<usize>, ty: Ty) -> Result<Meant, AllocError>
+    ensures { IfOk result (λ t. t ≡ ConstantOf (unwrap_or place 0) ty) }
+{
+    let number = word(place.unwrap_or(0))?;
+    Ok(Meant::Constant(number, ty))
 }
 
 /// A cell of a type, which is read in the old state alone.
