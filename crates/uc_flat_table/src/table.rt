@@ -31,7 +31,14 @@ pub fn names_table(
     let cells = own_cells(alloc, tables, code)?;
     let constants = own_constants(alloc, tables, code)?;
     let count = tables.system().names.len();
-    all_meant(alloc, tables, code, cells.as_slice(), constants.as_slice(), count)
+    all_meant(
+        alloc,
+        tables,
+        code,
+        cells.as_slice(),
+        constants.as_slice(),
+        count,
+    )
 }
 
 /// What the first names stand for, so many of them.
@@ -97,7 +104,8 @@ fn of_variable(
         None => Ok(Meant::Unknown),
         Some(variable) => {
             let ty = type_of_written(alloc, tables, code, variable.ty)?;
-            of_kind(cells, constants, name, ty, variable.kind)
+            let meant = of_kind(cells, constants, name, ty, variable.kind)?;
+            Ok(meant)
         }
     }
 }
