@@ -209,15 +209,6 @@ added names cells constants code = added_init cells constants (all_conditions na
 typed_with : (system : System) (code : Module) (b : Truth) → b ≡ list_all is_cell_type (constant_types system) → b ≡ true → made_with system code ≡ made_over (names_over_cells system code) (cells_of system) (flat_constants system) code
 typed_with system code b is holds = ap (λ c. if c then made_over (names_over_cells system code) (cells_of system) (flat_constants system) code else None) (sym is ∙ holds)
 
-pub untyped : (system : System) (code : Module) (types : List Ty) (b : Truth) → types ≡ constant_types system → b ≡ list_all is_cell_type types → b ≡ false → made_with system code ≡ None
-untyped system code types b are is fails =
-    ap (λ c. if c then made_over (names_over_cells system code) (cells_of system) (flat_constants system) code else None) (ap (list_all is_cell_type) (sym are) ∙ sym is ∙ fails)
-
-pub none_added : (system : System) (code : Module) (types : List Ty) (b : Truth) → types ≡ constant_types system → b ≡ list_all is_cell_type types → b ≡ true
-    → made_over (names_over_cells system code) (cells_of system) [] code ≡ None → made_with system code ≡ None
-none_added system code types b are is holds none =
-    typed_with system code b (is ∙ ap (list_all is_cell_type) are) holds ∙ sym (added (names_over_cells system code) (cells_of system) (flat_constants system) code) ∙ ap (option_map (with_those (flat_constants system))) none
-
 pub some_added : (system : System) (code : Module) (types : List Ty) (b : Truth) (f g : Flat) → types ≡ constant_types system → b ≡ list_all is_cell_type types → b ≡ true
     → made_over (names_over_cells system code) (cells_of system) [] code ≡ Some f → g ≡ record f { constants = flat_constants system } → made_with system code ≡ Some g
 some_added system code types b f g are is holds some whole =

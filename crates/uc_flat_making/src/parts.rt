@@ -107,11 +107,7 @@ fn axiom_in(
 
 /// The formulas of the invariants, in order.
 #[tactic(auto, unfolding(uc_flat_design::specs::Design::formulas_from))]
-fn invariants(
-    alloc: Global,
-    names: &[Meant],
-    decls: &[Decl],
-) -> Result<Items<Formula>, FlatError>
+fn invariants(alloc: Global, names: &[Meant], decls: &[Decl]) -> Result<Items<Formula>, FlatError>
     ensures { IsAnswer (formulas_from (invariant_in names.now) 0 decls.now) result }
 {
     let mut all = Items::new(alloc);

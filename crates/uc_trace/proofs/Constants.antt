@@ -1,8 +1,9 @@
 -- What is left to write of the constants of an interpretation, from a place on.
-use Rattle.std.specs.Prelude.{ℕ, zero, suc, ◌+◌, ◌<◌, ◌≤◌, ◌≢◌, min, ◌≡◌, List, [], ◌∷◌, ◌++◌, map, length, codes, Option, Some, None, All}
+use Rattle.std.specs.Prelude.{ℕ, zero, suc, ◌+◌, ◌<◌, ◌≤◌, ◌≢◌, min, nat_eq, Bool, true, false, ◌≡◌, List, [], ◌∷◌, ◌++◌, map, length, codes, Option, Some, None, All}
 use Rattle.std.specs.Option.{option_map_or}
 use Rattle.std.proofs.Common.{get_or, drop, add-one, drop-cons, append_assoc, arith, refl, sym, ap, ◌∙◌}
 use Rattle.std.proofs.Math.Seq.{drop-nil}
+use Rattle.std.proofs.lemmas.Bool.Decides.{nat_tests}
 use Rattle.std.proofs.lemmas.List.{append-nil}
 use Rattle.std.proofs.lemmas.List.Elements.{All-head, All-tail}
 use Rattle.uc_values.specs.declared.value.Value.{Value}
@@ -37,12 +38,12 @@ no_values : (d : System) (m : List ℕ) (cs : List Constant) → lines_of d m cs
 no_values d m [] = refl
 no_values d m (c ∷ cs) = refl
 
+no_constants : (d : System) (m : List ℕ) (vs : List Value) → lines_of d m [] vs ≡ []
+no_constants d m [] = refl
+no_constants d m (v ∷ vs) = refl
+
 lines_end : (d : System) (m : List ℕ) (cs : List Constant) (vs : List Value) (k : ℕ) → min (length cs) (length vs) ≤ k → lines_of d m (drop k cs) (drop k vs) ≡ []
-lines_end d m [] vs k h = ap (λ bs. lines_of d m bs (drop k vs)) (drop-nil {A = Constant} k) ∙ nothing (drop k vs)
-  where
-    nothing : (ws : List Value) → lines_of d m [] ws ≡ []
-    nothing [] = refl
-    nothing (w ∷ ws) = refl
+lines_end d m [] vs k h = ap (λ bs. lines_of d m bs (drop k vs)) (drop-nil {A = Constant} k) ∙ no_constants d m (drop k vs)
 lines_end d m (c ∷ cs) [] k h = ap (λ ws. lines_of d m (drop k (c ∷ cs)) ws) (drop-nil {A = Value} k) ∙ no_values d m (drop k (c ∷ cs))
 lines_end d m (c ∷ cs) (v ∷ vs) zero h = absurd (omega arith)
 lines_end d m (c ∷ cs) (v ∷ vs) (suc k) h = lines_end d m cs vs k (omega arith)
@@ -61,9 +62,9 @@ lines_are d (c ∷ cs) (v ∷ vs) h =
 -- all constants are written
 pub constants_end : (d : System) (m : List ℕ) (cs : List Constant) (vs : List Value) (k : ℕ) (start now : List ℕ) → AreConstants d cs → m ≡ option_map_or (name_of d) (name_of_main d) [] →
     min (length cs) (length vs) ≤ k → now ++ lines_of d m (drop k cs) (drop k vs) ≡ start ++ lines_of d m cs vs → now ≡ start ++ constant_texts d (constants_of d) vs
-constants_end d m cs vs k start now are module past h =
+constants_end d m cs vs k start now are owner past h =
     sym (append-nil now) ∙ ap (λ x. now ++ x) (sym (lines_end d m cs vs k past)) ∙ h
-    ∙ ap (λ n. start ++ lines_of d n cs vs) module
+    ∙ ap (λ n. start ++ lines_of d n cs vs) owner
     ∙ ap (λ bs. start ++ lines_of d (option_map_or (name_of d) (name_of_main d) []) bs vs) are.all
     ∙ ap (λ x. start ++ x) (lines_are d (constants_of d) vs are.mains)
 
@@ -73,7 +74,7 @@ no_more : (d : System) (cs : List ConstantParts) (bs : List Constant) (vs : List
 no_more d [] bs vs is none = refl
 no_more d (c ∷ cs) bs vs is none = absurd (omega (arith, ap length is, none))
 
-pub none_to_say : (d : System) (i : Interp) (bs : List Constant) → AreConstants d bs → length bs ≡ 0 → interpretation_text d i ≡ []
+none_to_say : (d : System) (i : Interp) (bs : List Constant) → AreConstants d bs → length bs ≡ 0 → interpretation_text d i ≡ []
 unfolding interpretation_text
 none_to_say d i bs are none = no_more d (constants_of d) bs i.consts are.all none
 
@@ -81,6 +82,25 @@ some_more : (d : System) (cs : List ConstantParts) (bs : List Constant) (vs : Li
 some_more d [] bs vs is some = absurd (some (ap length is))
 some_more d (c ∷ cs) bs vs is some = refl
 
-pub some_to_say : (d : System) (i : Interp) (bs : List Constant) → AreConstants d bs → length bs ≢ 0 → interpretation_text d i ≡ codes "  interpretation\n" ++ constant_texts d (constants_of d) i.consts
+some_to_say : (d : System) (i : Interp) (bs : List Constant) → AreConstants d bs → length bs ≢ 0 → interpretation_text d i ≡ codes "  interpretation\n" ++ constant_texts d (constants_of d) i.consts
 unfolding interpretation_text
 some_to_say d i bs are some = some_more d (constants_of d) bs i.consts are.all some
+
+-- by the test whether there are none
+pub none_said : (d : System) (i : Interp) (bs : List Constant) (b : Bool) (now : List ℕ) → AreConstants d bs → b ≡ nat_eq (length bs) 0 → b ≡ true → now ≡ now ++ interpretation_text d i
+none_said d i bs b now are is holds = sym (ap (λ x. now ++ x) (none_to_say d i bs are (no_length (length bs) (sym is ∙ holds))) ∙ append-nil now)
+  where
+    no_length : (n : ℕ) → nat_eq n 0 ≡ true → n ≡ 0
+    no_length n e = grind (arith, nat_tests)
+
+pub some_said : (d : System) (i : Interp) (bs : List Constant) (vs : List Value) (b : Bool) (now one two : List ℕ) → AreConstants d bs → b ≡ nat_eq (length bs) 0 → b ≡ false → vs ≡ i.consts
+    → one ≡ now ++ codes "  interpretation\n" → two ≡ one ++ constant_texts d (constants_of d) vs → two ≡ now ++ interpretation_text d i
+some_said d i bs vs b now one two are is fails same first second =
+    second
+    ∙ ap (λ x. x ++ constant_texts d (constants_of d) vs) first
+    ∙ ap (λ ws. (now ++ codes "  interpretation\n") ++ constant_texts d (constants_of d) ws) same
+    ∙ append_assoc now (codes "  interpretation\n") (constant_texts d (constants_of d) i.consts)
+    ∙ ap (λ x. now ++ x) (sym (some_to_say d i bs are (some_length (length bs) (sym is ∙ fails))))
+  where
+    some_length : (n : ℕ) → nat_eq n 0 ≡ false → n ≢ 0
+    some_length n e = grind (arith, nat_tests)

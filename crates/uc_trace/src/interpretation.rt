@@ -58,15 +58,15 @@ fn put_constant(
     out: &mut Vec<u8>,
     d: &DesignView<'_>,
     tables: &CexTables<'_>,
-    module: &[u8],
+    owner: &[u8],
     constant: &Constant,
     value: &Value,
 ) -> Result<(), AllocError>
     requires { AreCexTables (described d.now) tables.now }
-    ensures { OnOk result (out.new.items ≡ out.old.items ++ constant_line (described d.now) module.now constant.now.name constant.now.ty value.now) }
+    ensures { OnOk result (out.new.items ≡ out.old.items ++ constant_line (described d.now) owner.now constant.now.name constant.now.ty value.now) }
 {
     put(out, b"    ")?;
-    put(out, module)?;
+    put(out, owner)?;
     put(out, b".")?;
     put(out, d.name(constant.name))?;
     put(out, b" = ")?;
