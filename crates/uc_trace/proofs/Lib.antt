@@ -4,3 +4,4 @@ pub mod Opaques
 pub mod Entered
 pub mod Held
 pub mod Listed
+pub mod Constants

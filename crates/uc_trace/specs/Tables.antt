@@ -1,10 +1,12 @@
 -- What the tables hold that counterexamples are written with.
-use Rattle.std.specs.Prelude.{◌≡◌, ℕ, ◌<◌, Bool, ◌&&◌, nat_eq, if◌then◌else◌, List, [], map, length, get_or, Option, Some, None}
+use Rattle.std.specs.Prelude.{◌≡◌, ℕ, ◌<◌, Bool, ◌&&◌, nat_eq, if◌then◌else◌, List, [], map, length, get_or, Option, Some, None, All}
+use Rattle.std.specs.Option.{option_map}
 use Rattle.std.specs.List.{position_from}
 use Rattle.uc_syntax.specs.WrittenTypes.{labels_of}
 use Rattle.uc_flat.specs.declared.flat.Cell.{Cell as FlatCell}
-use Rattle.uc_meaning.specs.Lookup.{System}
-use Rattle.uc_meaning.specs.Cells.{Cell, cells_of, same_path}
+use Rattle.uc_flat.specs.declared.flat.Constant.{Constant}
+use Rattle.uc_meaning.specs.Lookup.{System, main_module}
+use Rattle.uc_meaning.specs.Cells.{Cell, ConstantParts, cells_of, constants_of, same_path}
 use Rattle.uc_meaning.specs.Types.{opaque_types_of}
 use Rattle.uc_heads.specs.Described.{described}
 use Rattle.uc_heads.specs.Tables.{AreHeadTables}
@@ -15,9 +17,23 @@ use Rattle.uc_trace.specs.declared.tables.CexTables.{CexTables}
 abbrev pub listed : Cell → FlatCell
 listed c = record { path = c.path; name = c.name; ty = c.type }
 
--- the labels of every enum in the order of their numbers, and the cells of a state in theirs
+-- a constant without its module
+abbrev pub without_module : ConstantParts → Constant
+without_module c = record { name = c.symbol.name; ty = c.type }
+
+-- the name of main
+abbrev pub name_of_main : System → Option ℕ
+name_of_main d = option_map (λ m. m.name) (main_module d)
+
+-- the constants in their order, of which main declares all
+pub record AreConstants (d : System) (constants : List Constant) : Type 0 where
+  pub all : constants ≡ map without_module (constants_of d)
+  pub mains : All (λ c. name_of_main d ≡ Some c.symbol.module_name) (constants_of d)
+
+-- the labels of every enum in the order of their numbers, and the constants and the cells of a state in theirs
 pub record IsShown (d : ShownDesign) : Type 0 where
   pub labels : d.labels.now ≡ labels_of d.view.modules.now
+  pub constants : AreConstants (described d.view) d.constants.now
   pub cells : d.cells.now ≡ map listed (cells_of (described d.view))
 
 -- the cell of a name at a path, by its place
@@ -40,10 +56,11 @@ AreNone places = (x : ℕ) → x < length places → get_or places x None ≡ No
 abbrev pub IsEntered : ℕ → FlatCell → List (Option ℕ) → List (Option ℕ) → Type 0
 IsEntered place c before after = (length after ≡ length before) × ((x : ℕ) → x < length after → get_or after x None ≡ (if is_mains x c then Some place else get_or before x None))
 
--- the labels of every enum of a design and its types without a definition, both in the order of their numbers, its cells, and where those of main stand
+-- the labels of every enum of a design and its types without a definition, both in the order of their numbers, its constants and its cells, and where those of main stand
 pub record AreCexTables (d : System) (tables : CexTables) : Type 0 where
   pub heads : AreHeadTables d tables.heads
   pub labels : tables.labels.now ≡ labels_of d.modules
   pub opaque_types : tables.opaque_types.items ≡ opaque_types_of d
+  pub constants : AreConstants d tables.constants.now
   pub cells : tables.cells.now ≡ map listed (cells_of d)
   pub places : ArePlaces tables.cells.now tables.places.items

@@ -4,11 +4,12 @@ use Rattle.std.specs.List.{flat_map}
 use Rattle.uc_values.specs.declared.ty.Ty.{Ty}
 use Rattle.uc_values.specs.declared.value.Value.{Value}
 use Rattle.uc_values.specs.Values.{fits}
+use Rattle.uc_meaning.specs.declared.scope.Interp.{Interp}
 use Rattle.uc_meaning.specs.declared.scope.State.{State}
 use Rattle.uc_meaning.specs.declared.line.Line.{Line}
 use Rattle.uc_meaning.specs.declared.line.Trace.{Trace}
 use Rattle.uc_meaning.specs.Lookup.{System}
-use Rattle.uc_meaning.specs.Cells.{cells_of, cell_of}
+use Rattle.uc_meaning.specs.Cells.{ConstantParts, cells_of, cell_of, constants_of}
 use Rattle.uc_heads.specs.Described.{name_of}
 use Rattle.uc_heads.specs.Text.{path_text, head_text}
 use Rattle.uc_trace.specs.declared.cell.CellRef.{CellRef}
@@ -23,6 +24,27 @@ abbrev pub shown_text : System → Option Ty → Option Value → List ℕ
 shown_text d None v = []
 shown_text d (Some ty) None = []
 shown_text d (Some ty) (Some v) = fitting_text d ty v
+
+-- the value of a constant in a line of its own: the bytes of its module's name with a dot, its name, and the value
+unfoldable pub constant_line : System → List ℕ → ℕ → Ty → Value → List ℕ
+constant_line d module_name x ty v = codes "    " ++ module_name ++ codes "." ++ name_of d x ++ codes " = " ++ fitting_text d ty v ++ codes "\n"
+
+abbrev pub constant_text : System → ConstantParts → Value → List ℕ
+constant_text d c v = constant_line d (name_of d c.symbol.module_name) c.symbol.name c.type v
+
+-- constants, each with its value
+abbrev pub constant_texts : System → List ConstantParts → List Value → List ℕ
+constant_texts d (c ∷ cs) (v ∷ vs) = constant_text d c v ++ constant_texts d cs vs
+constant_texts d cs vs = []
+
+-- a line before constants, and nothing where there are none
+abbrev pub constants_text : System → List ConstantParts → List Value → List ℕ
+constants_text d [] vs = []
+constants_text d (c ∷ cs) vs = codes "  interpretation\n" ++ constant_texts d (c ∷ cs) vs
+
+-- what an interpretation says of the constants of the modules in use (a design that runs has no functions)
+unfoldable pub interpretation_text : System → Interp → List ℕ
+interpretation_text d i = constants_text d (constants_of d) i.consts
 
 -- the types of the cells of a state
 abbrev pub cell_types : System → List Ty
@@ -50,6 +72,6 @@ states_text d cells place (s ∷ ss) = state_text d cells place s.0 ++ states_te
 abbrev pub first_copy : Trace → List (State × List Value)
 first_copy trace = unwrap_or (slice_get trace.copies 0) []
 
--- A counterexample of a line: its head in a line of its own, and then each state of the one copy, numbered from 0.
+-- A counterexample of a line: its head in a line of its own, then the constants, and then each state of the one copy, numbered from 0.
 unfoldable pub cex_text : System → Line → Trace → List CellRef → List ℕ
-cex_text d line trace cells = codes "CEX for " ++ head_text d line ++ codes "\n" ++ states_text d cells 0 (first_copy trace)
+cex_text d line trace cells = codes "CEX for " ++ head_text d line ++ codes "\n" ++ interpretation_text d trace.interp ++ states_text d cells 0 (first_copy trace)

@@ -2,6 +2,7 @@
 #![tactic(auto)]
 
 mod cell;
+mod interpretation;
 mod parts;
 mod places;
 mod put;

@@ -12,7 +12,7 @@ ghost use Rattle.uc_trace.specs.Tables.{AreCexTables, IsShown};
 use crate::places::{place_among, places_in_main};
 use crate::shown::ShownDesign;
 use std::alloc::{AllocError, Global};
-use uc_flat::Cell;
+use uc_flat::{Cell, Constant};
 use uc_heads::{DesignView, HeadTables};
 use uc_items::{Items, at};
 use uc_syntax::Decl;
@@ -20,13 +20,14 @@ use uc_syntax::Decl;
 /// The names of a module and of a type without a definition that it declares.
 pub(crate) type OpaqueType = (u32, u32);
 
-/// What the heads of lines look up, the labels of each enum by its number, the types without a definition by theirs, the cells, and
-/// the place of the first cell of main for each name.
+/// What the heads of lines look up, the labels of each enum by its number, the types without a definition by theirs, the constants, the
+/// cells, and the place of the first cell of main for each name.
 #[derive(Drop)]
 pub struct CexTables<'a> {
     pub heads: HeadTables<'a>,
     pub(crate) labels: &'a [Items<u32>],
     pub(crate) opaque_types: Vec<OpaqueType>,
+    pub(crate) constants: &'a [Constant],
     pub(crate) cells: &'a [Cell],
     pub(crate) places: Vec<Option<usize>>,
 }
@@ -44,6 +45,7 @@ impl<'a> CexTables<'a> {
             heads,
             labels: d.labels,
             opaque_types,
+            constants: d.constants,
             cells: d.cells,
             places,
         })

@@ -4,21 +4,23 @@ ghost use Rattle.std.specs.Prelude.{◌≡◌, ◌++◌, OnOk, IfOk};
 ghost use Rattle.std.specs.Option.{option_copied, option_map};
 ghost use Rattle.std.specs.List.{flat_map};
 ghost use Rattle.uc_heads.specs.Described.{described};
-ghost use Rattle.uc_trace.specs.Text.{held_text, shown_text, fitting_text, cell_text, state_text, states_text, first_copy, cex_text};
+ghost use Rattle.uc_trace.specs.Text.{held_text, shown_text, cell_text, state_text, states_text, first_copy, cex_text};
 ghost use Rattle.uc_trace.specs.Tables.{AreCexTables, IsShown};
 
 use crate::cell::CellRef;
+use crate::interpretation::put_interpretation;
 use crate::shown::ShownDesign;
 use crate::tables::CexTables;
-use crate::values::put_value;
+use crate::values::put_fitting;
 use std::alloc::{AllocError, Global};
 use uc_flat::Cell;
 use uc_heads::{DesignView, put, put_head, put_number, put_path};
 use uc_items::at;
 use uc_meaning::{Choices, Line, State, Trace};
-use uc_values::{Ty, Value, fits};
+use uc_values::Value;
 
-/// The text of a counterexample of a line: `CEX for ` and the head of the line, and then the cells in each state of the first copy.
+/// The text of a counterexample of a line: `CEX for ` and the head of the line, the constants, and then the cells in each state of the
+/// first copy.
 pub fn cex_text(
     alloc: Global,
     d: &ShownDesign<'_>,
@@ -51,6 +53,7 @@ pub fn put_cex(
     put(out, b"CEX for ")?;
     put_head(out, d, &tables.heads, line)?;
     put(out, b"\n")?;
+    put_interpretation(out, d, tables, &trace.interp)?;
     put_states(out, d, tables, cells, first_copy(trace))?;
     Ok(())
 }
@@ -178,23 +181,5 @@ fn put_shown(
     match (cell, value) {
         (Some(cell), Some(value)) => put_fitting(out, d, tables, &cell.ty, value),
         _ => Ok(()),
-    }
-}
-
-/// Puts a value, nothing where it does not fit the type.
-fn put_fitting(
-    out: &mut Vec<u8>,
-    d: &DesignView<'_>,
-    tables: &CexTables<'_>,
-    ty: &Ty,
-    value: &Value,
-) -> Result<(), AllocError>
-    requires { AreCexTables (described d.now) tables.now }
-    ensures { OnOk result (out.new.items ≡ out.old.items ++ fitting_text (described d.now) ty.now value.now) }
-{
-    if fits(ty, value) {
-        put_value(out, d, tables, ty, value)
-    } else {
-        Ok(())
     }
 }

@@ -4,6 +4,7 @@ ghost use Rattle.std.specs.Prelude.{◌≡◌, ◌++◌, [], OnOk, codes};
 ghost use Rattle.std.specs.List.{join_by};
 ghost use Rattle.uc_heads.specs.Described.{described, name_of};
 ghost use Rattle.uc_trace.specs.Values.{truth_text, bits_text, member_text, field_texts, printers, value_text, separator, IsArray};
+ghost use Rattle.uc_trace.specs.Text.{fitting_text};
 ghost use Rattle.uc_trace.specs.Tables.{AreCexTables};
 
 use crate::parts::{
@@ -13,12 +14,30 @@ use crate::put::put_integer;
 use crate::tables::CexTables;
 use std::alloc::AllocError;
 use uc_heads::{DesignView, put, put_number};
-use uc_values::{Field, Ty, Value};
+use uc_values::{Field, Ty, Value, fits};
+
+/// Puts a value, nothing where it does not fit the type.
+pub(crate) fn put_fitting(
+    out: &mut Vec<u8>,
+    d: &DesignView<'_>,
+    tables: &CexTables<'_>,
+    ty: &Ty,
+    value: &Value,
+) -> Result<(), AllocError>
+    requires { AreCexTables (described d.now) tables.now }
+    ensures { OnOk result (out.new.items ≡ out.old.items ++ fitting_text (described d.now) ty.now value.now) }
+{
+    if fits(ty, value) {
+        put_value(out, d, tables, ty, value)
+    } else {
+        Ok(())
+    }
+}
 
 /// Puts a value as one of a type.
 #[cycle(put_value)]
 #[tactic(auto, using(crate::proofs::Forms::boolean_is, crate::proofs::Forms::integer_is, crate::proofs::Forms::bits_is, crate::proofs::Forms::enum_is, crate::proofs::Forms::open_is))]
-pub(crate) fn put_value(
+fn put_value(
     out: &mut Vec<u8>,
     d: &DesignView<'_>,
     tables: &CexTables<'_>,
