@@ -10,7 +10,8 @@ use Rattle.uc_syntax.specs.declared.declaration.WrittenRun.TheVariants.{Unroll}
 use Rattle.uc_syntax.specs.declared.declaration.Command.{Command}
 use Rattle.uc_syntax.specs.declared.declaration.Command.TheVariants.{Run, Check, PrintResults, PrintCounterexamples}
 use Rattle.uc_syntax.specs.declared.declaration.Decl.{Decl}
-use Rattle.uc_syntax.specs.declared.declaration.Decl.TheVariants.{TypeAlias, Variables, Init, Next, Invariant, Control}
+use Rattle.uc_syntax.specs.declared.declaration.Decl.TheVariants.{TypeAlias, Variables, Init, Next, Invariant, Axiom, Control}
+use Rattle.uc_syntax.specs.declared.declaration.VariableKind.TheVariants.{Constant}
 use Rattle.uc_syntax.specs.declared.declaration.Module.{Module}
 use Rattle.uc_rules.specs.Names.{names_one_of}
 use Rattle.uc_type_names.specs.NameSets.{with_all}
@@ -18,7 +19,9 @@ use Rattle.uc_meaning.specs.Fragment.{at_most_one, is_control, most_steps}
 
 -- ---- the control block
 
+-- a constant is no variable
 abbrev pub variables_by : Decl → List Identifier
+variables_by (Variables place Constant is type) = []
 variables_by (Variables place kind is type) = is
 variables_by other = []
 
@@ -66,13 +69,14 @@ spares_arrays_form other = true
 unfoldable pub spares_arrays : TypeExpr → Bool
 spares_arrays = fold-TypeExpr Bool spares_arrays_form
 
--- an alias of a type without arrays, a declaration of variables, inputs or outputs, a block, an invariant, or a control block that runs once
+-- an alias of a type without arrays, a declaration of variables, inputs, outputs or constants, a block, an invariant, an axiom, or a control block that runs once
 abbrev pub is_plain_decl : List ℕ → Decl → Bool
 is_plain_decl cells (TypeAlias place i type) = spares_arrays type
 is_plain_decl cells (Variables place kind is type) = true
 is_plain_decl cells (Init place block) = true
 is_plain_decl cells (Next place block) = true
 is_plain_decl cells (Invariant place i e) = true
+is_plain_decl cells (Axiom place name e) = true
 is_plain_decl cells (Control place commands) = runs_once cells commands
 is_plain_decl cells other = false
 

@@ -7,7 +7,7 @@ ghost use Rattle.uc_fragment.specs.Plain.{variables_by, with_variables, is_cell_
 
 use std::alloc::{AllocError, Global};
 use uc_items::Items;
-use uc_syntax::{Command, Decl, Identifier, WrittenRun};
+use uc_syntax::{Command, Decl, Identifier, VariableKind, WrittenRun};
 use uc_type_names::NameSet;
 
 /// How many steps a run may be unrolled.
@@ -24,17 +24,18 @@ fn add_all(names: &mut NameSet, identifiers: &[Identifier]) -> Result<(), AllocE
     Ok(())
 }
 
-/// What a declaration of variables, inputs, outputs or constants names.
+/// What a declaration of variables, inputs or outputs names.
 fn variables_by(decl: &Decl) -> &[Identifier]
     ensures { result.now ≡ variables_by decl.now }
 {
     match decl {
+        Decl::Variables(_, VariableKind::Constant, _, _) => &[],
         Decl::Variables(_, _, identifiers, _) => identifiers.as_slice(),
         _ => &[],
     }
 }
 
-/// The names of a module's variables, inputs, outputs and constants.
+/// The names of a module's variables, inputs and outputs.
 #[tactic(auto, unfolding(crate::specs::Plain::with_variables))]
 pub fn variables(alloc: Global, decls: &[Decl]) -> Result<NameSet, AllocError>
     ensures { IfOk result (λ names. names ≡ with_variables [] decls.now) }

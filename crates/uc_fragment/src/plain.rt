@@ -21,6 +21,7 @@ fn is_plain_decl(cells: &NameSet, decl: &Decl) -> bool
         Decl::Init(..) => true,
         Decl::Next(..) => true,
         Decl::Invariant(..) => true,
+        Decl::Axiom(..) => true,
         Decl::Control(_, commands) => runs_once(cells, commands.as_slice()),
         Decl::OpaqueType(..) => false,
         Decl::TypeImport(..) => false,
@@ -28,7 +29,6 @@ fn is_plain_decl(cells: &NameSet, decl: &Decl) -> bool
         Decl::Define(..) => false,
         Decl::Procedure(..) => false,
         Decl::Instance(..) => false,
-        Decl::Axiom(..) => false,
         Decl::Hyperinvariant(..) => false,
         Decl::Hyperaxiom(..) => false,
     }
