@@ -1,7 +1,7 @@
 -- A design and its design over cells have the same initial states and steps, and their formulas say the same.
-use Rattle.std.proofs.Common.{◌≡◌, ℕ, zero, suc, List, [], ◌∷◌, ◌++◌, map, length, take, drop, refl, sym, ap, ◌∙◌, subst, Option, Some, None, arith, append-nil}
+use Rattle.std.proofs.Common.{◌≡◌, ℕ, zero, suc, List, [], ◌∷◌, ◌++◌, map, length, take, drop, refl, sym, ap, ◌∙◌, subst, true, Option, Some, None, arith, append-nil}
 use Rattle.std.specs.Prelude.{slice_get}
-use Rattle.std.specs.List.{flat_map}
+use Rattle.std.specs.List.{flat_map, list_all}
 use Rattle.std.proofs.lemmas.List.{length-map}
 use Rattle.uc_syntax.specs.declared.declaration.Module.{Module}
 use Rattle.uc_values.specs.declared.ty.Ty.{Ty}
@@ -33,8 +33,8 @@ use Rattle.uc_flat_design.specs.Laws.{IsInitialThere, IsInitialHere, InitialLaw,
 use Rattle.uc_flat_design.proofs.Tables.{fit_cells, fit_types, all_plain, no_instances, init_table}
 use Rattle.uc_flat_design.proofs.NextTable.{next_table}
 use Rattle.uc_flat_order.specs.Arranged.{IsTakenFrom}
-use Rattle.uc_flat_code.specs.Code.{code_of}
-use Rattle.uc_flat_order.proofs.GuardedCode.{built_if_taken}
+use Rattle.uc_guarded.specs.Laws.{is_plain}
+use Rattle.uc_flat_order.proofs.PlainCode.{plain_if_taken}
 use Rattle.uc_flat_order.proofs.Pairs.{block_taken}
 
 some_same : {A : Type 0} (x y : A) → Some x ≡ Some y → x ≡ y
@@ -79,11 +79,10 @@ init_is system code f d i cells left =
     below_none : (system : System) (code : Module) (f : Flat) → IsFlatOf system code f → instances_below system (main_instance code) ≡ []
     below_none system code f d = ap (flat_map _) (alone_of system code f d).alone
 
--- the statements of the next block have code in the order of the text too
-pub next_built : (system : System) (code : Module) (f : Flat) → IsFlatOf system code f → (flat : List Statement) × (code_of (next_names system code) (primed_behind (length (cells_of system))) (next_of code) ≡ Some flat)
-next_built system code f d =
-    let w = primed_behind (length (cells_of system)) in
-    built_if_taken (next_names system code) w (next_arranged system code) (next_of code) d.next (block_taken (next_names system code) (length (cells_of system)) (next_of code)) d.next_is
+-- the next block has no assert, loop, call or step of an instance inside
+pub next_plain : (system : System) (code : Module) (f : Flat) → IsFlatOf system code f → list_all is_plain (next_of code) ≡ true
+next_plain system code f d =
+    plain_if_taken (next_names system code) (primed_behind (length (cells_of system))) (next_arranged system code) (next_of code) d.next (block_taken (next_names system code) (length (cells_of system)) (next_of code)) d.next_is
 
 -- an ending over cells from one of the design, and the other way round
 from_ending : (i : Interp) (types : List Ty) (others : List Value) (e : Ending) (o : Option Placed) (r : Running) → EndAlike i types others e o → e ≡ Goes r → (p : Placed) × (o ≡ Some p) × AreAt i types others r p

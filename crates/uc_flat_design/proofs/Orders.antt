@@ -1,4 +1,4 @@
--- What statements ask of two states does not depend on their order, and is what their guarded statements ask.
+-- What statements ask of two states does not depend on their order, and is what their slices ask.
 use Rattle.std.proofs.Common.{◌≡◌, ℕ, ◌+◌, List, [], ◌∷◌, ◌++◌, map, length, refl, sym, ap, ◌∙◌, subst, true, false, Bool, Option, Some, None, ⊎_elim}
 use Rattle.std.specs.Prelude.{◌&&◌, ◌||◌, nat_eq}
 use Rattle.std.specs.Option.{is_some}
@@ -22,16 +22,34 @@ use Rattle.uc_flat_code.specs.Code.{MayBe, statement_of, code_of}
 use Rattle.uc_first_free.specs.Arranged.{IsReordered}
 use Rattle.uc_first_free.proofs.Arranged.{and_true, all_reordered}
 use Rattle.uc_flat_order.proofs.Coded.{is_coded, coded}
-use Rattle.uc_guarded.specs.Guarded.{all_guarded}
-use Rattle.uc_guarded.specs.Laws.{IsIn, AllStay}
-use Rattle.uc_guarded.proofs.Asked.{code_asked}
+use Rattle.uc_guarded.specs.Slices.{all_slices}
+use Rattle.uc_guarded.specs.Laws.{is_plain, AreAlike, AskAlike}
+use Rattle.uc_guarded.proofs.Asked.{asked_alike as slices_alike}
 use Rattle.uc_flat_order.specs.Arranged.{IsTakenFrom}
+use Rattle.uc_flat_order.proofs.PlainCode.{plain_if_taken}
 use Rattle.uc_flat_design.specs.Next.{between, primed_behind, IsNextTable, IsAsked}
 use Rattle.uc_flat_design.proofs.Effects.{Effect, parts_in, all_agree, agree_append, writes_none, kept_true}
 use Rattle.uc_flat_design.proofs.Told.{both, asked, asks_both, statement_gives}
 
 broken_kept : (w : Watched) → Broken ≡ Kept w → ⊥
 broken_kept w h = cc
+
+-- ---- checks that see alike
+
+kept_same : (v w : Watched) → Kept v ≡ Kept w → v ≡ w
+kept_same v w h = cc
+
+carried : (p q : Check) (v : Watched) → AskAlike p q → p ≡ Kept v → (w : Watched) × (q ≡ Kept w) × AreAlike v w
+carried (Kept x) (Kept y) v h e = let P : Watched → Type 0 = λ z. AreAlike z y in (y, refl, subst P (kept_same x v e) h)
+carried (Kept x) Broken v h e = absurd h
+carried Broken (Kept y) v h e = absurd h
+carried Broken Broken v h e = absurd (broken_kept v e)
+
+turned_round : (p q : Check) → AskAlike p q → AskAlike q p
+turned_round (Kept x) (Kept y) h = record { scope = sym h.scope; left = sym h.left; sites = sym h.sites; written = λ k fields. sym (h.written k fields) }
+turned_round (Kept x) Broken h = absurd h
+turned_round Broken (Kept y) h = absurd h
+turned_round Broken Broken h = tt
 
 -- ---- cells that keep their values
 
@@ -203,58 +221,42 @@ module _ (system : System) (blocks : Blocks) (i : Interp) (m : Model) (types : L
       let c = coded names (primed_behind n) order flat is in
       asked_alike cells order code choices sites c (sym (all_reordered (is_coded names (primed_behind n)) order code same) ∙ c) (in_any_order types new effect_of order code same) a
 
-  -- ---- guarded statements
+  -- ---- slices
 
-  stays_asked : (e : Option (List Effect)) (w : Watched) → w.scope ≡ here → IsIn here (seen_by e w)
-  stays_asked None w h = tt
-  stays_asked (Some ms) w h = by_test (all_agree types new ms)
-    where
-      by_test : (b : Bool) → IsIn here (kept_if b (writes (parts_in ms) w))
-      by_test true = h
-      by_test false = tt
+  abbrev start_at : List Value → Watched
+  start_at choices = watched_first i (state_of old) (state_of new) choices
 
-  -- statements that have code leave the scope as it is
-  coded_stay : (code : List Stmt) → list_all (is_coded names (primed_behind n)) code ≡ true → AllStay here (map (check_statement system blocks) code)
-  coded_stay [] h = tt
-  coded_stay (s ∷ code) h =
-      let a = and_true (is_coded names (primed_behind n) s) (list_all (is_coded names (primed_behind n)) code) h in
-      (λ w f. subst (IsIn here) (sym (one_asks s (flat_of_one s) refl a.0 w f)) (stays_asked (effect_by s (flat_of_one s) refl) w f), coded_stay code a.1)
+  asked_as : (cells : List Cell) (xs ys : List Stmt) (choices : List Value) (sites : List Site) → AskAlike (check_by system blocks xs (start_at choices)) (check_by system blocks ys (start_at choices))
+      → IsAsked system blocks i cells xs old new choices sites → IsAsked system blocks i cells ys old new choices sites
+  asked_as cells xs ys choices sites same a =
+      let c = carried (check_by system blocks xs (start_at choices)) (check_by system blocks ys (start_at choices)) a.seen same a.holds in
+      record {
+        seen = c.0;
+        holds = c.1;
+        uses_all = sym c.2.left ∙ a.uses_all;
+        lists = sym c.2.sites ∙ a.lists;
+        keeps = keep_alike cells 0 a.seen.written c.0.written old new c.2.written a.keeps;
+      }
 
-  guarded_ask : (code : List Stmt) → list_all (is_coded names (primed_behind n)) (all_guarded code) ≡ true → (w : Watched) → w.scope ≡ here → check_by system blocks (all_guarded code) w ≡ check_by system blocks code w
-  guarded_ask code h w f = code_asked system blocks here code (coded_stay (all_guarded code) h) w f
+  slices_ask : (code : List Stmt) (choices : List Value) → list_all is_plain code ≡ true → AskAlike (check_by system blocks (all_slices code) (start_at choices)) (check_by system blocks code (start_at choices))
+  slices_ask code choices h = slices_alike system blocks (start_at choices).scope code h (start_at choices) refl
 
-  guarded_code : (order code : List Stmt) (flat : List Statement) → IsReordered order (all_guarded code) → code_of names (primed_behind n) order ≡ Some flat → list_all (is_coded names (primed_behind n)) (all_guarded code) ≡ true
-  guarded_code order code flat apart is = sym (all_reordered (is_coded names (primed_behind n)) order (all_guarded code) apart) ∙ coded names (primed_behind n) order flat is
+  to_slices : (cells : List Cell) (code : List Stmt) (choices : List Value) (sites : List Site) → list_all is_plain code ≡ true → IsAsked system blocks i cells code old new choices sites → IsAsked system blocks i cells (all_slices code) old new choices sites
+  to_slices cells code choices sites h a =
+      asked_as cells code (all_slices code) choices sites (turned_round (check_by system blocks (all_slices code) (start_at choices)) (check_by system blocks code (start_at choices)) (slices_ask code choices h)) a
 
-  to_guarded : (cells : List Cell) (code : List Stmt) (choices : List Value) (sites : List Site) → list_all (is_coded names (primed_behind n)) (all_guarded code) ≡ true
-      → IsAsked system blocks i cells code old new choices sites → IsAsked system blocks i cells (all_guarded code) old new choices sites
-  to_guarded cells code choices sites h a = record {
-    seen = a.seen;
-    holds = guarded_ask code h (watched_first i (state_of old) (state_of new) choices) refl ∙ a.holds;
-    uses_all = a.uses_all;
-    lists = a.lists;
-    keeps = a.keeps;
-  }
-
-  from_guarded : (cells : List Cell) (code : List Stmt) (choices : List Value) (sites : List Site) → list_all (is_coded names (primed_behind n)) (all_guarded code) ≡ true
-      → IsAsked system blocks i cells (all_guarded code) old new choices sites → IsAsked system blocks i cells code old new choices sites
-  from_guarded cells code choices sites h a = record {
-    seen = a.seen;
-    holds = sym (guarded_ask code h (watched_first i (state_of old) (state_of new) choices) refl) ∙ a.holds;
-    uses_all = a.uses_all;
-    lists = a.lists;
-    keeps = a.keeps;
-  }
+  from_slices : (cells : List Cell) (code : List Stmt) (choices : List Value) (sites : List Site) → list_all is_plain code ≡ true → IsAsked system blocks i cells (all_slices code) old new choices sites → IsAsked system blocks i cells code old new choices sites
+  from_slices cells code choices sites h a = asked_as cells (all_slices code) code choices sites (slices_ask code choices h) a
 
   -- from a block to what is taken from it, and back
   pub asked_in_order : (cells : List Cell) (order code : List Stmt) (flat : List Statement) (choices : List Value) (sites : List Site) → IsTakenFrom order code → code_of names (primed_behind n) order ≡ Some flat
       → IsAsked system blocks i cells code old new choices sites → IsAsked system blocks i cells order old new choices sites
   asked_in_order cells order code flat choices sites taken is a =
       ⊎_elim (λ whole. asked_in_turn cells order code flat choices sites whole is a)
-      (λ apart. asked_in_turn cells order (all_guarded code) flat choices sites apart is (to_guarded cells code choices sites (guarded_code order code flat apart is) a)) taken
+      (λ apart. asked_in_turn cells order (all_slices code) flat choices sites apart is (to_slices cells code choices sites (plain_if_taken names (primed_behind n) order code flat taken is) a)) taken
 
   pub asked_of_block : (cells : List Cell) (order code : List Stmt) (flat : List Statement) (choices : List Value) (sites : List Site) → IsTakenFrom order code → code_of names (primed_behind n) order ≡ Some flat
       → IsAsked system blocks i cells order old new choices sites → IsAsked system blocks i cells code old new choices sites
   asked_of_block cells order code flat choices sites taken is a =
       ⊎_elim (λ whole. asked_in_text cells order code flat choices sites whole is a)
-      (λ apart. from_guarded cells code choices sites (guarded_code order code flat apart is) (asked_in_text cells order (all_guarded code) flat choices sites apart is a)) taken
+      (λ apart. from_slices cells code choices sites (plain_if_taken names (primed_behind n) order code flat taken is) (asked_in_text cells order (all_slices code) flat choices sites apart is a)) taken

@@ -91,7 +91,7 @@ pub record IsNextCode (system : System) (m : Model) (names : List Meant) (i : In
   pub plain : All (λ ty. has_no_array ty ≡ true) (types_in cells)
   pub is : code_of names (primed_behind (length cells)) code ≡ Some flat
 
--- Where the next block holds between two states, with no choices and no sites, the code over cells of its statements, or of its guarded statements, in some order leads from the one to the other, if no way through them in this order writes a part of a cell after it was written there, or read in the new state.
+-- Where the next block holds between two states, with no choices and no sites, the code over cells of its statements, or of its slices, in some order leads from the one to the other, if no way through them in this order writes a part of a cell after it was written there, or read in the new state.
 pub record IsFound (m : Model) (cells : List Cell) (flat : List Statement) (old new choices : List Value) (sites : List Site) : Type 0 where
   pub no_choices : choices ≡ []
   pub no_sites : sites ≡ []

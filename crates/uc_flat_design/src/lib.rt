@@ -11,7 +11,7 @@ pub fn sequential_code()
     ensures { SequentialLaw }
 {}
 
-/// Each step of a `next` block is one of the code over the cells of both states of its statements, or of its guarded statements, in some
+/// Each step of a `next` block is one of the code over the cells of both states of its statements, or of its slices, in some
 /// order, run in this order, where no way through them writes a part of a cell after it was written there, or read in the new state.
 pub fn next_found()
     ensures { StepFoundLaw }

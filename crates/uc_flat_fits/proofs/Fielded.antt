@@ -1,16 +1,16 @@
 -- The expression by which a part behind fields is replaced fits the cells, and reads what its parts read.
 use Rattle.std.proofs.Common.{◌≡◌, ℕ, zero, suc, ◌+◌, ◌<◌, List, [], ◌∷◌, map, length, refl, sym, ap, ◌∙◌, subst, true, false, Option, Some, None, slice_get, arith, rules}
-use Rattle.std.specs.Prelude.{nat_eq, ◌&&◌, if◌then◌else◌, Bool as Truth, slice_set, All}
+use Rattle.std.specs.Prelude.{if◌then◌else◌, Bool as Truth, slice_set, All}
 use Rattle.std.specs.Option.{option_map, option_and_then}
-use Rattle.std.specs.List.{list_all, position_from}
-use Rattle.std.proofs.lemmas.List.{map-set, length-map}
+use Rattle.std.specs.List.{list_all}
+use Rattle.std.proofs.lemmas.List.{map-set}
 use Rattle.std.proofs.lemmas.List.Elements.{All-cons, All-nil, All-set}
 use Rattle.std.proofs.lemmas.Option.{none-some, same_Some, slice_get-map, slice_get_within}
 use Rattle.uc_syntax.specs.declared.statement.TargetPart.{TargetPart}
 use Rattle.uc_syntax.specs.declared.statement.TargetPart.TheVariants.{Field as FieldPart, Element as ElementPart}
 use Rattle.uc_values.specs.declared.ty.Field.{Field}
 use Rattle.uc_values.specs.declared.ty.Ty.{Ty}
-use Rattle.uc_values.specs.declared.ty.Ty.TheVariants.{Bool, Rec, rolls-Rec}
+use Rattle.uc_values.specs.declared.ty.Ty.TheVariants.{Rec, rolls-Rec}
 use Rattle.uc_values.specs.declared.ty.Ty.TheOpen.{Ty-F}
 use Rattle.uc_values.specs.declared.ty.Ty.TheOpen.Ty-F.{Bool as boolean_form, Int as integer_form, Bv as bits_form, Enum as enum_form, Un as open_form, Rec as record_form, Arr as array_form}
 use Rattle.uc_values.specs.declared.ty.Ty.TheViews.{roll-Ty, out-Ty, the_lemmas}
@@ -18,11 +18,10 @@ use Rattle.uc_values.specs.Types.{is_valid, field_types}
 use Rattle.uc_values.proofs.Shapes.{and_true, valid-Rec}
 use Rattle.uc_ops.specs.declared.op.Op.{Op}
 use Rattle.uc_ops.specs.declared.op.Op.TheVariants.{Symbol, MkRec, GetField}
-use Rattle.uc_ops.specs.Typing.{Suits, Valid, type_or, part_type, fields_form, fields_of, type_of as result_type}
+use Rattle.uc_ops.specs.Typing.{Valid, type_or, part_type, fields_form, fields_of}
 use Rattle.uc_ops.specs.Equality.{equal_types}
 use Rattle.uc_ops.specs.Decisions.{types-decided}
 use Rattle.uc_flat.specs.declared.expression.Expression.{Expression}
-use Rattle.uc_flat.specs.declared.expression.Expression.TheVariants.{Apply}
 use Rattle.uc_flat.specs.Reading.{type_of}
 use Rattle.uc_flat.specs.Fine.{IsTyped}
 use Rattle.uc_flat.proofs.Forms.{type_apply}

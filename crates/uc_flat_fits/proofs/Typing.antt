@@ -1,5 +1,5 @@
 -- Code reads constants at their types where each statement in it does.
-use Rattle.std.proofs.Common.{◌≡◌, ℕ, List, ap, ◌∙◌, sym, subst}
+use Rattle.std.proofs.Common.{List, ap, ◌∙◌, sym, subst}
 use Rattle.uc_values.specs.declared.ty.Ty.{Ty}
 use Rattle.uc_flat.specs.declared.statement.Statement.{Statement}
 use Rattle.uc_flat.specs.declared.statement.Statement.TheOpen.{Statement-F}

@@ -11,7 +11,7 @@ use Rattle.uc_flat_expressions.specs.Answers.{IsAnswer}
 use Rattle.uc_flat_code.specs.declared.writing.Writing.{Writing}
 use Rattle.uc_flat_code.specs.Code.{MayBe, in_order, statement_of, code_of}
 use Rattle.uc_flat_once.specs.Once.{code_once}
-use Rattle.uc_guarded.specs.Guarded.{all_guarded}
+use Rattle.uc_guarded.specs.Slices.{all_slices}
 use Rattle.uc_flat_order.specs.Arranged.{in_turn, code_arranged}
 use Rattle.uc_flat_order.specs.Uses.{code_at, IsOrder}
 use Rattle.uc_flat_order.proofs.Pairs.{block_whole, block_apart}
@@ -59,6 +59,6 @@ none_answer names w code h = ap (λ b. if b then code_of names w (in_turn names 
 pub whole_answer : (names : List Meant) (w : Writing) (code : List Stmt) (order : List ℕ) (r : Result (List Statement) FlatError) → IsOrder names w.shift code (Some order) → IsAnswer (in_order (map (code_at names w code) order)) r → IsAnswer (code_arranged names w code) r
 whole_answer names w code order r is h = subst (λ xs. IsAnswer (code_once names w xs) r) (sym (block_whole names w.shift code is.1)) (along_answer names w code order r is h)
 
--- its guarded statements
-pub apart_answer : (names : List Meant) (w : Writing) (code : List Stmt) (r : Result (List Statement) FlatError) → IsOrder names w.shift code None → IsAnswer (code_once names w (in_turn names w.shift (all_guarded code))) r → IsAnswer (code_arranged names w code) r
+-- its slices
+pub apart_answer : (names : List Meant) (w : Writing) (code : List Stmt) (r : Result (List Statement) FlatError) → IsOrder names w.shift code None → IsAnswer (code_once names w (in_turn names w.shift (all_slices code))) r → IsAnswer (code_arranged names w code) r
 apart_answer names w code r is h = subst (λ xs. IsAnswer (code_once names w xs) r) (sym (block_apart names w.shift code is)) h

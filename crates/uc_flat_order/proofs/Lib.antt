@@ -1,6 +1,6 @@
 pub mod Pairs
 pub mod Coded
-pub mod GuardedCode
+pub mod PlainCode
 pub mod Orders
 mod Used
 mod Along

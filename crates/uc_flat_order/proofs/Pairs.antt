@@ -12,7 +12,7 @@ use Rattle.uc_flat_once.specs.declared.once.Part.{Part}
 use Rattle.uc_flat_once.specs.Once.{touched, each_writes, writer, written_by}
 use Rattle.uc_flat_once.specs.Written.{written_parts}
 use Rattle.uc_flat_once.proofs.Shapes.{as_writer, Shape, spared_none, one_more_is, statement_shape}
-use Rattle.uc_guarded.specs.Guarded.{all_guarded}
+use Rattle.uc_guarded.specs.Slices.{all_slices}
 use Rattle.uc_flat_order.specs.Arranged.{may_go, in_turn, is_once, block_arranged, IsTakenFrom}
 use Rattle.uc_flat_order.specs.Laws.{OrderLaw}
 use Rattle.uc_flat_order.specs.Uses.{spared}
@@ -156,17 +156,17 @@ module _ (names : List Meant) (n : ℕ) where
   -- ---- the block as it is run
 
   pub block_whole : (code : List Stmt) → is_once names n (in_turn names n code) ≡ true → block_arranged names n code ≡ in_turn names n code
-  block_whole code h = ap (λ b. if b then in_turn names n code else in_turn names n (all_guarded code)) h
+  block_whole code h = ap (λ b. if b then in_turn names n code else in_turn names n (all_slices code)) h
 
-  pub block_apart : (code : List Stmt) → is_once names n (in_turn names n code) ≡ false → block_arranged names n code ≡ in_turn names n (all_guarded code)
-  block_apart code h = ap (λ b. if b then in_turn names n code else in_turn names n (all_guarded code)) h
+  pub block_apart : (code : List Stmt) → is_once names n (in_turn names n code) ≡ false → block_arranged names n code ≡ in_turn names n (all_slices code)
+  block_apart code h = ap (λ b. if b then in_turn names n code else in_turn names n (all_slices code)) h
 
   pub block_taken : (code : List Stmt) → IsTakenFrom (block_arranged names n code) code
   block_taken code = by_test (is_once names n (in_turn names n code))
     where
-      by_test : (b : Bool) → IsTakenFrom (if b then in_turn names n code else in_turn names n (all_guarded code)) code
+      by_test : (b : Bool) → IsTakenFrom (if b then in_turn names n code else in_turn names n (all_slices code)) code
       by_test true = inl (arranged_has code)
-      by_test false = inr (arranged_has (all_guarded code))
+      by_test false = inr (arranged_has (all_slices code))
 
   block_enough : (code other : List Stmt) → IsTakenFrom other code → is_once names n other ≡ true → is_once names n (block_arranged names n code) ≡ true
   block_enough code other r h = by_test (is_once names n (in_turn names n code)) refl
@@ -174,9 +174,9 @@ module _ (names : List Meant) (n : ℕ) where
       true_not_false : true ≡ false → ⊥
       true_not_false e = cc
 
-      by_test : (b : Bool) → is_once names n (in_turn names n code) ≡ b → is_once names n (if b then in_turn names n code else in_turn names n (all_guarded code)) ≡ true
+      by_test : (b : Bool) → is_once names n (in_turn names n code) ≡ b → is_once names n (if b then in_turn names n code else in_turn names n (all_slices code)) ≡ true
       by_test true e = e
-      by_test false e = ⊎_elim (λ whole. absurd (true_not_false (sym (enough_in_turn code other whole h) ∙ e))) (λ apart. enough_in_turn (all_guarded code) other apart h) r
+      by_test false e = ⊎_elim (λ whole. absurd (true_not_false (sym (enough_in_turn code other whole h) ∙ e))) (λ apart. enough_in_turn (all_slices code) other apart h) r
 
 pub order_holds : OrderLaw
 order_holds = record {

@@ -5,7 +5,7 @@ ghost use Rattle.std.specs.Option.{option_to_list};
 ghost use Rattle.uc_flat_expressions.specs.Answers.{IsAnswer};
 ghost use Rattle.uc_flat_code.specs.Code.{in_order};
 ghost use Rattle.uc_flat_once.specs.Once.{code_once};
-ghost use Rattle.uc_guarded.specs.Guarded.{all_guarded};
+ghost use Rattle.uc_guarded.specs.Slices.{all_slices};
 ghost use Rattle.uc_flat_order.specs.Arranged.{in_turn, code_arranged};
 ghost use Rattle.uc_flat_order.specs.Uses.{code_at};
 
@@ -14,13 +14,13 @@ use std::alloc::Global;
 use uc_flat::Statement;
 use uc_flat_code::{Writing, flat_code};
 use uc_flat_expressions::{FlatError, Meant};
-use uc_guarded::guarded_statements;
+use uc_guarded::all_slices;
 use uc_items::Items;
 use uc_syntax::Stmt;
 
 /// The code over cells of a next block, where names stand for what is listed by their numbers: that of its statements, each time the first
 /// that may be run before all that are left, or, where each order of them writes a part of a cell on some way after it was written there, or
-/// read in the new state, that of its guarded statements. Not built is what `flat_code` does not build, and where these have no such order.
+/// read in the new state, that of its slices. Not built is what `flat_code` does not build, and where these have no such order.
 pub fn code_arranged(
     alloc: Global,
     names: &[Meant],
@@ -35,16 +35,16 @@ pub fn code_arranged(
     }
 }
 
-/// The code of the guarded statements of a block.
+/// The code of the slices of a block.
 fn code_apart(
     alloc: Global,
     names: &[Meant],
     writing: Writing,
     code: &[Stmt],
 ) -> Result<Items<Statement>, FlatError>
-    ensures { IsAnswer (code_once names.now writing (in_turn names.now writing.shift (all_guarded code.now))) result }
+    ensures { IsAnswer (code_once names.now writing (in_turn names.now writing.shift (all_slices code.now))) result }
 {
-    let statements = guarded_statements(alloc, code)?;
+    let statements = all_slices(alloc, code)?;
     code_in_turn(alloc, names, writing, statements.as_slice())
 }
 

@@ -1,6 +1,6 @@
 -- The lines of a design are those of its formulas over cells.
-use Rattle.std.proofs.Common.{◌≡◌, ℕ, zero, suc, ◌+◌, List, [], ◌∷◌, ◌++◌, map, length, refl, sym, ap, ◌∙◌, subst, true, Option, Some, None, append-nil, cond}
-use Rattle.std.specs.Prelude.{if◌then◌else◌, nat_eq, All}
+use Rattle.std.proofs.Common.{◌≡◌, ℕ, zero, suc, ◌+◌, List, [], ◌∷◌, ◌++◌, map, refl, sym, ap, ◌∙◌, subst, true, Option, Some, None, append-nil, cond, Bool}
+use Rattle.std.specs.Prelude.{if◌then◌else◌, nat_eq, All, ◌&&◌}
 use Rattle.std.specs.Option.{option_map}
 use Rattle.std.specs.List.{flat_map, filter, filter_map, list_all, cons_option}
 use Rattle.std.proofs.lemmas.List.Elements.{All-head, All-tail}
@@ -18,96 +18,88 @@ use Rattle.uc_values.proofs.Shapes.{and_true}
 use Rattle.uc_meaning.specs.declared.scope.Site.{Site}
 use Rattle.uc_meaning.specs.declared.line.What.TheVariants.{Formula as OfFormula}
 use Rattle.uc_meaning.specs.Lookup.{System, init_of, next_of}
-use Rattle.uc_meaning.specs.Cells.{as_list, cells_of}
+use Rattle.uc_meaning.specs.Cells.{as_list}
+use Rattle.uc_meaning.specs.Code.{else_block}
 use Rattle.uc_meaning.specs.Lines.{Sites, Judged, all_sites, arm_sites, else_sites, sites_form, sites_by, sites_through, sites_in, in_order as sites_in_order, init_sites, step_sites, sites_after, numbered, invariant_judged, hyperinvariant_judged, judged_by, all_judged}
 use Rattle.uc_flat.specs.declared.flat.Flat.{Flat}
 use Rattle.uc_flat.specs.declared.flat.Formula.{Formula}
-use Rattle.uc_flat.specs.declared.statement.Statement.{Statement}
 use Rattle.uc_flat_expressions.specs.declared.typed.Meant.{Meant}
 use Rattle.uc_flat_expressions.specs.Types.{is_boolean}
-use Rattle.uc_flat_expressions.specs.Expressions.{flat_of, all_of}
+use Rattle.uc_flat_expressions.specs.Expressions.{flat_of}
 use Rattle.uc_flat_names.specs.Names.{names_over_cells, names_of_constants}
 use Rattle.uc_flat_names.proofs.Cells.{alone_instances}
-use Rattle.uc_flat_code.specs.declared.writing.Writing.{Writing}
-use Rattle.uc_flat_code.specs.declared.writing.FlatArm.{FlatArm}
-use Rattle.uc_flat_code.specs.Code.{MayBe, in_order, arm_with, arm_of, joined_arms, else_of, if_of, code_form, statement_of, code_of}
 use Rattle.uc_flat_design.specs.Sequential.{plainly}
 use Rattle.uc_flat_design.proofs.Options.{then_some, map_some, if_some, some_same}
 use Rattle.uc_flat_design.proofs.Sequential.{arms_in, else_in}
-use Rattle.uc_flat_design.specs.Next.{primed_behind}
-use Rattle.uc_flat_design.specs.Design.{next_names, is_built, condition_of, invariant_in, axiom_in, formulas_from, IsFlatOf}
+use Rattle.uc_flat_design.specs.Design.{is_built, condition_of, invariant_in, axiom_in, formulas_from, IsFlatOf}
 use Rattle.uc_flat_design.proofs.Formulas.{formula_of, axioms_read, invariants_read}
-use Rattle.uc_flat_design.proofs.Laws.{next_built, main_is, alone_of}
+use Rattle.uc_flat_design.proofs.Laws.{main_is, alone_of, next_plain}
 use Rattle.uc_flat_refutations.specs.Laws.{singles_of, LinesLaw}
+use Rattle.uc_guarded.specs.Laws.{all_true, plain_form, is_plain}
+use Rattle.uc_flat_order.proofs.PlainCode.{code_plain}
 
 -- ---- no sites
 
-module _ (system : System) (inside : List Stmt → Sites) (names : List Meant) (w : Writing) where
-  abbrev Quiet : Sites → MayBe → Type 0
-  Quiet s o = (flat : List Statement) → o ≡ Some flat → (path : List ℕ) → s path ≡ []
+module _ (system : System) (inside : List Stmt → Sites) where
+  abbrev Quiet : Sites → Bool → Type 0
+  Quiet s b = b ≡ true → (path : List ℕ) → s path ≡ []
 
-  abbrev AllQuiet : List Sites → List MayBe → Type 0
+  abbrev AllQuiet : List Sites → List Bool → Type 0
   AllQuiet [] [] = Unit {0}
-  AllQuiet (s ∷ ss) (o ∷ os) = Quiet s o × AllQuiet ss os
-  AllQuiet [] (o ∷ os) = ⊥
+  AllQuiet (s ∷ ss) (b ∷ bs) = Quiet s b × AllQuiet ss bs
+  AllQuiet [] (b ∷ bs) = ⊥
   AllQuiet (s ∷ ss) [] = ⊥
 
-  abbrev ArmsQuiet : List (Arm Sites) → List (Arm MayBe) → Type 0
+  abbrev ArmsQuiet : List (Arm Sites) → List (Arm Bool) → Type 0
   ArmsQuiet [] [] = Unit {0}
   ArmsQuiet (a ∷ arms) (b ∷ forms) = AllQuiet a.body b.body × ArmsQuiet arms forms
   ArmsQuiet [] (b ∷ forms) = ⊥
   ArmsQuiet (a ∷ arms) [] = ⊥
 
-  abbrev ElseQuiet : Option (List Sites) → Option (List MayBe) → Type 0
+  abbrev ElseQuiet : Option (List Sites) → Option (List Bool) → Type 0
   ElseQuiet None None = Unit {0}
-  ElseQuiet (Some ss) (Some os) = AllQuiet ss os
-  ElseQuiet None (Some os) = ⊥
+  ElseQuiet (Some ss) (Some bs) = AllQuiet ss bs
+  ElseQuiet None (Some bs) = ⊥
   ElseQuiet (Some ss) None = ⊥
 
   both_empty : (a b : List Site) → a ≡ [] → b ≡ [] → a ++ b ≡ []
   both_empty a b h g = ap (λ x. x ++ b) h ∙ g
 
-  all_quiet : (ss : List Sites) (os : List MayBe) → AllQuiet ss os → Quiet (all_sites ss) (in_order os)
-  all_quiet [] [] h flat e path = refl
-  all_quiet [] (o ∷ os) h flat e path = absurd h
-  all_quiet (s ∷ ss) [] h flat e path = absurd h
-  all_quiet (s ∷ ss) (o ∷ os) h flat e path =
-      let a = then_some (λ ys. option_map (λ zs. ys ++ zs) (in_order os)) o flat e in
-      let b = map_some (λ zs. a.0 ++ zs) (in_order os) flat a.2 in
-      both_empty (s path) (all_sites ss path) (h.0 a.0 a.1 path) (all_quiet ss os h.1 b.0 b.1 path)
+  all_quiet : (ss : List Sites) (bs : List Bool) → AllQuiet ss bs → Quiet (all_sites ss) (all_true bs)
+  all_quiet [] [] h e path = refl
+  all_quiet [] (b ∷ bs) h e path = absurd h
+  all_quiet (s ∷ ss) [] h e path = absurd h
+  all_quiet (s ∷ ss) (b ∷ bs) h e path =
+      let x = and_true e in
+      both_empty (s path) (all_sites ss path) (h.0 x.0 path) (all_quiet ss bs h.1 x.1 path)
 
-  arms_quiet : (arms : List (Arm Sites)) (forms : List (Arm MayBe)) (bodies : List FlatArm) → ArmsQuiet arms forms → all_of (map (arm_of names) forms) ≡ Some bodies → (path : List ℕ) → arm_sites arms path ≡ []
-  arms_quiet [] [] bodies h e path = refl
-  arms_quiet [] (b ∷ forms) bodies h e path = absurd h
-  arms_quiet (a ∷ arms) [] bodies h e path = absurd h
-  arms_quiet (a ∷ arms) (b ∷ forms) bodies h e path =
-      let p = then_some (λ x. option_map (λ xs. x ∷ xs) (all_of (map (arm_of names) forms))) (arm_of names b) bodies e in
-      let q = map_some (λ xs. p.0 ∷ xs) (all_of (map (arm_of names) forms)) bodies p.2 in
-      let t = then_some (arm_with (in_order b.body)) (flat_of names b.condition) p.0 p.1 in
-      let u = if_some (is_boolean t.0.ty) (option_map (λ xs. record { condition = t.0.expression; body = xs }) (in_order b.body)) p.0 t.2 in
-      let v = map_some (λ xs. record { condition = t.0.expression; body = xs }) (in_order b.body) p.0 u.1 in
-      both_empty (all_sites a.body path) (arm_sites arms path) (all_quiet a.body b.body h.0 v.0 v.1 path) (arms_quiet arms forms q.0 h.1 q.1 path)
+  arms_quiet : (arms : List (Arm Sites)) (forms : List (Arm Bool)) → ArmsQuiet arms forms → list_all (λ a. all_true a.body) forms ≡ true → (path : List ℕ) → arm_sites arms path ≡ []
+  arms_quiet [] [] h e path = refl
+  arms_quiet [] (b ∷ forms) h e path = absurd h
+  arms_quiet (a ∷ arms) [] h e path = absurd h
+  arms_quiet (a ∷ arms) (b ∷ forms) h e path =
+      let x = and_true e in
+      both_empty (all_sites a.body path) (arm_sites arms path) (all_quiet a.body b.body h.0 x.0 path) (arms_quiet arms forms h.1 x.1 path)
 
-  else_quiet : (otherwise : Option (List Sites)) (o : Option (List MayBe)) (rest : List Statement) → ElseQuiet otherwise o → else_of o ≡ Some rest → (path : List ℕ) → else_sites otherwise path ≡ []
-  else_quiet None None rest h e path = refl
-  else_quiet (Some ss) (Some os) rest h e path = all_quiet ss os h rest e path
-  else_quiet None (Some os) rest h e path = absurd h
-  else_quiet (Some ss) None rest h e path = absurd h
+  else_quiet : (otherwise : Option (List Sites)) (o : Option (List Bool)) → ElseQuiet otherwise o → all_true (else_block o) ≡ true → (path : List ℕ) → else_sites otherwise path ≡ []
+  else_quiet None None h e path = refl
+  else_quiet (Some ss) (Some bs) h e path = all_quiet ss bs h e path
+  else_quiet None (Some bs) h e path = absurd h
+  else_quiet (Some ss) None h e path = absurd h
 
-  if_quiet : (arms : List (Arm Sites)) (forms : List (Arm MayBe)) (otherwise : Option (List Sites)) (o : Option (List MayBe)) → ArmsQuiet arms forms → ElseQuiet otherwise o
-      → Quiet (λ path. arm_sites arms path ++ else_sites otherwise path) (if_of names forms o)
-  if_quiet arms forms otherwise o h g flat e path =
-      let s = then_some (λ bs. option_map (joined_arms bs) (else_of o)) (all_of (map (arm_of names) forms)) flat e in
-      let t = map_some (joined_arms s.0) (else_of o) flat s.2 in
-      both_empty (arm_sites arms path) (else_sites otherwise path) (arms_quiet arms forms s.0 h s.1 path) (else_quiet otherwise o t.0 g t.1 path)
+  if_quiet : (arms : List (Arm Sites)) (forms : List (Arm Bool)) (otherwise : Option (List Sites)) (o : Option (List Bool)) → ArmsQuiet arms forms → ElseQuiet otherwise o
+      → Quiet (λ path. arm_sites arms path ++ else_sites otherwise path) (list_all (λ a. all_true a.body) forms && all_true (else_block o))
+  if_quiet arms forms otherwise o h g e path =
+      let x = and_true e in
+      both_empty (arm_sites arms path) (else_sites otherwise path) (arms_quiet arms forms h x.0 path) (else_quiet otherwise o g x.1 path)
 
-  module _ {A D : Type 0} (d : D → A) (f : A → MayBe) (g : A → Sites) (alike : (e : D) → Quiet (g (d e)) (f (d e))) where
+  module _ {A D : Type 0} (d : D → A) (f : A → Bool) (g : A → Sites) (alike : (e : D) → Quiet (g (d e)) (f (d e))) where
     list_quiet : (es : List D) → AllQuiet (map g (map d es)) (map f (map d es))
     list_quiet [] = tt
     list_quiet (e ∷ es) = (alike e, list_quiet es)
 
-    abbrev left : Stmt-F D → Stmt-F MayBe
-    left y = map-Stmt A MayBe f (map-Stmt D A d y)
+    abbrev left : Stmt-F D → Stmt-F Bool
+    left y = map-Stmt A Bool f (map-Stmt D A d y)
 
     abbrev right : Stmt-F D → Stmt-F Sites
     right y = map-Stmt A Sites g (map-Stmt D A d y)
@@ -122,55 +114,54 @@ module _ (system : System) (inside : List Stmt → Sites) (names : List Meant) (
     case_layer place [] (Some es) = (tt, list_quiet es)
     case_layer place (a ∷ arms) o = ((list_quiet a.body, (case_layer place arms o).0), (case_layer place arms o).1)
 
-    layer : (y : Stmt-F D) → Quiet (sites_form system inside (right y)) (code_form names w (left y))
-    layer (Declare place ids type) flat e path = refl
-    layer (Skip place) flat e path = refl
-    layer (Block place block) flat e path = all_quiet _ _ (list_quiet block) flat e path
-    layer (Assert place label e) flat h path = absurd (cc)
-    layer (Assume place x) flat e path = refl
-    layer (Havoc place x primed) flat e path = refl
-    layer (Assign place targets sources) flat e path = refl
-    layer (If place arms o) flat e path = if_quiet _ _ _ _ (if_layer place arms o).0 (if_layer place arms o).1 flat e path
-    layer (Case place arms o) flat e path = if_quiet _ _ _ _ (case_layer place arms o).0 (case_layer place arms o).1 flat e path
-    layer (For place x type from to block) flat e path = absurd (cc)
-    layer (Call place targets callee arguments) flat e path = absurd (cc)
-    layer (Next place x) flat e path = absurd (cc)
+    layer : (y : Stmt-F D) → Quiet (sites_form system inside (right y)) (plain_form (left y))
+    layer (Declare place ids type) e path = refl
+    layer (Skip place) e path = refl
+    layer (Block place block) e path = all_quiet _ _ (list_quiet block) e path
+    layer (Assert place label x) e path = absurd (cc)
+    layer (Assume place x) e path = refl
+    layer (Havoc place x primed) e path = refl
+    layer (Assign place targets sources) e path = refl
+    layer (If place arms o) e path = if_quiet _ _ _ _ (if_layer place arms o).0 (if_layer place arms o).1 e path
+    layer (Case place arms o) e path = if_quiet _ _ _ _ (case_layer place arms o).0 (case_layer place arms o).1 e path
+    layer (For place x type from to block) e path = absurd (cc)
+    layer (Call place targets callee arguments) e path = absurd (cc)
+    layer (Next place x) e path = absurd (cc)
 
-  statement_quiet : (s : Stmt) → Quiet (fold-Stmt Sites (sites_form system inside) s) (statement_of names w s)
-  unfolding statement_of
+  statement_quiet : (s : Stmt) → Quiet (fold-Stmt Sites (sites_form system inside) s) (is_plain s)
+  unfolding is_plain
   statement_quiet =
-      ind-Stmt (λ s. Quiet (fold-Stmt Sites (sites_form system inside) s) (fold-Stmt MayBe (code_form names w) s))
+      ind-Stmt (λ s. Quiet (fold-Stmt Sites (sites_form system inside) s) (fold-Stmt Bool plain_form s))
       (λ x y is.
-      let F = fold-Stmt MayBe (code_form names w) in
+      let F = fold-Stmt Bool plain_form in
       let G = fold-Stmt Sites (sites_form system inside) in
       let way = layer (λ e. e.0) F G (λ e. e.1) y in
-      let way' = subst (λ z. Quiet (sites_form system inside (map-Stmt Stmt Sites G z)) (code_form names w (map-Stmt Stmt MayBe F z))) is way in
-      let left' = subst (Quiet (sites_form system inside (map-Stmt Stmt Sites G x))) (sym (fold-roll-Stmt MayBe (code_form names w) x)) way' in
+      let way' = subst (λ z. Quiet (sites_form system inside (map-Stmt Stmt Sites G z)) (plain_form (map-Stmt Stmt Bool F z))) is way in
+      let left' = subst (Quiet (sites_form system inside (map-Stmt Stmt Sites G x))) (sym (fold-roll-Stmt Bool plain_form x)) way' in
       subst (λ X. Quiet X (F (roll-Stmt x))) (sym (fold-roll-Stmt Sites (sites_form system inside) x)) left')
 
-  code_quiet : (code : List Stmt) (flat : List Statement) → code_of names w code ≡ Some flat → (path : List ℕ) → sites_by system inside code path ≡ []
+  code_quiet : (code : List Stmt) → list_all is_plain code ≡ true → (path : List ℕ) → sites_by system inside code path ≡ []
   unfolding sites_by
-  code_quiet [] flat e path = refl
-  code_quiet (s ∷ code) flat e path =
-      let a = then_some (λ ys. option_map (λ zs. ys ++ zs) (code_of names w code)) (statement_of names w s) flat e in
-      let b = map_some (λ zs. a.0 ++ zs) (code_of names w code) flat a.2 in
-      both_empty (fold-Stmt Sites (sites_form system inside) s path) (sites_by system inside code path) (statement_quiet s a.0 a.1 path) (code_quiet code b.0 b.1 path)
+  code_quiet [] e path = refl
+  code_quiet (s ∷ code) e path =
+      let x = and_true e in
+      both_empty (fold-Stmt Sites (sites_form system inside) s path) (sites_by system inside code path) (statement_quiet s x.0 path) (code_quiet code x.1 path)
 
-no_sites : (system : System) (names : List Meant) (w : Writing) (code : List Stmt) (flat : List Statement) → code_of names w code ≡ Some flat → sites_in system code [] ≡ []
+no_sites : (system : System) (code : List Stmt) → list_all is_plain code ≡ true → sites_in system code [] ≡ []
 unfolding sites_in sites_through
-no_sites system names w code flat e = code_quiet system (sites_through 65 system) names w code flat e []
+no_sites system code e = code_quiet system (sites_through 65 system) code e []
 
 init_none : (system : System) (code : Module) (f : Flat) → IsFlatOf system code f → init_sites system ≡ []
 unfolding init_sites sites_in_order
 init_none system code f d =
     ap (λ is. sites_in_order system (flat_map (λ i. sites_in system (init_of i.code) i.path) is)) (alone_instances system code (alone_of system code f d))
-    ∙ ap (λ ss. sites_in_order system (ss ++ [])) (no_sites system (names_over_cells system code) plainly (init_of code) d.init d.init_is)
+    ∙ ap (λ ss. sites_in_order system (ss ++ [])) (no_sites system (init_of code) (code_plain (names_over_cells system code) plainly (init_of code) d.init d.init_is))
 
 step_none : (system : System) (code : Module) (f : Flat) → IsFlatOf system code f → step_sites system ≡ []
 unfolding step_sites sites_in_order
 step_none system code f d =
     ap (λ c. sites_in_order system (sites_in system c [])) (ap (λ o. flat_map next_of (as_list o)) (main_is system code f d) ∙ append-nil (next_of code))
-    ∙ ap (sites_in_order system) (let b = next_built system code f d in no_sites system (next_names system code) (primed_behind (length (cells_of system))) (next_of code) b.0 b.1)
+    ∙ ap (sites_in_order system) (no_sites system (next_of code) (next_plain system code f d))
 
 none_after : (system : System) (code : Module) (f : Flat) (steps : ℕ) → IsFlatOf system code f → sites_after system steps ≡ []
 none_after system code f zero d = init_none system code f d

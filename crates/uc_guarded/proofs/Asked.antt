@@ -1,414 +1,369 @@
--- The guarded statements of code ask what the code asks.
-use Rattle.std.proofs.Common.{◌≡◌, ℕ, List, [], ◌∷◌, ◌++◌, map, refl, sym, ap, ◌∙◌, subst, true, false, Bool, Option, Some, None}
-use Rattle.std.specs.Prelude.{if◌then◌else◌}
-use Rattle.std.specs.List.{flat_map}
-use Rattle.std.proofs.lemmas.List.{map-append}
+-- The slices of code ask what the code asks.
+use Rattle.std.proofs.Common.{◌≡◌, ℕ, List, [], ◌∷◌, ◌++◌, map, refl, sym, ap, ◌∙◌, subst, true, false, Bool, Option, Some, None, append_assoc}
+use Rattle.std.specs.Prelude.{not, ◌&&◌, ◌||◌, nat_eq, if◌then◌else◌}
+use Rattle.std.specs.List.{flat_map, list_all, list_any}
+use Rattle.std.proofs.lemmas.Grind.{flat_map-append}
+use Rattle.std.proofs.lemmas.List.Folds.{list_all-append, list_any-append}
 use Rattle.uc_lexer.specs.declared.place.Place.{Place}
+use Rattle.uc_syntax.proofs.Added.{append_nil}
+use Rattle.uc_syntax.specs.declared.expression.Expr.{Expr}
 use Rattle.uc_syntax.specs.declared.statement.Arm.{Arm}
+use Rattle.uc_syntax.specs.declared.statement.Target.{Target}
 use Rattle.uc_syntax.specs.declared.statement.Stmt.{Stmt}
 use Rattle.uc_syntax.specs.declared.statement.Stmt.TheOpen.{Stmt-F}
 use Rattle.uc_syntax.specs.declared.statement.Stmt.TheOpen.Stmt-F.{Local as LocalForm, Skip as SkipForm, Block as BlockForm, Assume as AssumeForm, Havoc as HavocForm, Assign as AssignForm, If as IfForm, Case as CaseForm, Assert as AssertForm, For as ForForm, Call as CallForm, Next as NextForm}
-use Rattle.uc_syntax.specs.declared.statement.Stmt.TheViews.{roll-Stmt, If, Case}
+use Rattle.uc_syntax.specs.declared.statement.Stmt.TheViews.{roll-Stmt}
 use Rattle.uc_syntax.specs.declared.statement.Stmt.TheFolds.{fold-Stmt, map-Stmt, fold-roll-Stmt, ind-Stmt}
 use Rattle.uc_meaning.specs.declared.scope.Scope.{Scope}
 use Rattle.uc_meaning.specs.Lookup.{System}
-use Rattle.uc_meaning.specs.Expressions.{is_true}
+use Rattle.uc_meaning.specs.Expressions.{is_true, value}
 use Rattle.uc_meaning.specs.Code.{else_block, taken}
-use Rattle.uc_meaning.specs.Steps.{Watched, Check, Kept, Broken, Constraint, Blocks, then_check, check_each, check_form, check_statement, check_by}
-use Rattle.uc_guarded.specs.declared.branches.Branches.{Branches}
-use Rattle.uc_guarded.specs.Guarded.{Taken, whole_of, guarded_in, itself, emptied, emptied_else, with_alone, first_alone, else_alone, behind, each_alone, emptied_branches, or_else, branches, guarded_form, taken_form, guarded, all_guarded}
-use Rattle.uc_guarded.specs.Laws.{IsIn, Stays, AllStay, GuardedLaw}
-use Rattle.uc_guarded.proofs.Forms.{taken_apart, arms_in, else_in, list_whole, whole_is}
+use Rattle.uc_meaning.specs.Steps.{CellPart, Watched, Kept, Constraint, Blocks, then_check, check_each, kept_if, writes, is_prefix, is_written, name_parts, target_parts, is_assigned, check_targets, check_form, check_statement, check_by}
+use Rattle.uc_guarded.specs.Slices.{all_slices}
+use Rattle.uc_guarded.specs.Laws.{all_true, plain_form, is_plain, AskAlike, SlicesLaw}
+use Rattle.uc_guarded.proofs.Lists.{any_flat}
+use Rattle.uc_guarded.proofs.Leaves.{Leaf, Given, Chosen, Put, Nothing, Other, pairs, if_true, joined, arms_in, else_in, select, leaf_form, leaves, all_leaves, all_sliced, any_sliced}
 
--- ---- constraints in one scope
+and_true : (a b : Bool) → (a && b) ≡ true → (a ≡ true) × (b ≡ true)
+and_true true true h = (refl, refl)
+and_true true false h = absurd (cc)
+and_true false b h = absurd (cc)
 
-module _ (here : Scope) where
-  abbrev Alike : Constraint → Constraint → Type 0
-  Alike c d = (w : Watched) → w.scope ≡ here → c w ≡ d w
+-- ---- plain code has plain leaves
 
-  stays_alike : (c d : Constraint) → Alike c d → Stays here c → Stays here d
-  stays_alike c d e h w s = subst (IsIn here) (e w s) (h w s)
+abbrev plain_leaf : Leaf → Bool
+plain_leaf Other = false
+plain_leaf (Given e) = true
+plain_leaf (Chosen x) = true
+plain_leaf (Put t e) = true
+plain_leaf Nothing = true
 
-  stays_then : (q : Check) (d : Constraint) → IsIn here q → Stays here d → IsIn here (then_check q d)
-  stays_then (Kept w) d h k = k w h
-  stays_then Broken d h k = tt
+abbrev always : Expr → Bool
+always e = true
 
-  alike_then : (q : Check) (c d : Constraint) → IsIn here q → Alike c d → then_check q c ≡ then_check q d
-  alike_then (Kept w) c d h e = e w h
-  alike_then Broken c d h e = refl
+abbrev Plain : Bool → List Leaf → Type 0
+Plain b ls = b ≡ list_all plain_leaf ls
 
-  nothing_then : (q : Check) (d : Constraint) → IsIn here q → Alike d (λ w. Kept w) → then_check q d ≡ q
-  nothing_then (Kept w) d h e = e w h
-  nothing_then Broken d h e = refl
+abbrev AllPlain : List Bool → List (List Leaf) → Type 0
+AllPlain [] [] = Unit {0}
+AllPlain (b ∷ bs) (l ∷ ls) = Plain b l × AllPlain bs ls
+AllPlain bs ls = ⊥
 
-  then_then : (q : Check) (c d : Constraint) → then_check (then_check q c) d ≡ then_check q (λ w. then_check (c w) d)
-  then_then (Kept w) c d = refl
-  then_then Broken c d = refl
+abbrev ArmsPlain : List (Arm Bool) → List (Arm (List Leaf)) → Type 0
+ArmsPlain [] [] = Unit {0}
+ArmsPlain (a ∷ arms) (b ∷ others) = AllPlain a.body b.body × ArmsPlain arms others
+ArmsPlain arms others = ⊥
 
-  pub each_append : (cs ds : List Constraint) (w : Watched) → check_each (cs ++ ds) w ≡ then_check (check_each cs w) (check_each ds)
-  unfolding check_each
-  each_append [] ds w = refl
-  each_append (c ∷ cs) ds w = onward (c w) (each_append cs ds)
-    where
-      onward : (q : Check) → ((v : Watched) → check_each (cs ++ ds) v ≡ then_check (check_each cs v) (check_each ds)) → then_check q (check_each (cs ++ ds)) ≡ then_check (then_check q (check_each cs)) (check_each ds)
-      onward (Kept v) rest = rest v
-      onward Broken rest = refl
+abbrev ElsePlain : Option (List Bool) → Option (List (List Leaf)) → Type 0
+ElsePlain None None = Unit {0}
+ElsePlain (Some bs) (Some ls) = AllPlain bs ls
+ElsePlain z o = ⊥
 
-  each_stays : (cs : List Constraint) → AllStay here cs → Stays here (check_each cs)
-  unfolding check_each
-  each_stays [] h w s = s
-  each_stays (c ∷ cs) h w s = stays_then (c w) (check_each cs) (h.0 w s) (each_stays cs h.1)
+each_plain : (bs : List Bool) (ls : List (List Leaf)) → AllPlain bs ls → Plain (all_true bs) (joined ls)
+each_plain [] [] h = refl
+each_plain [] (l ∷ ls) h = absurd h
+each_plain (b ∷ bs) [] h = absurd h
+each_plain (b ∷ bs) (l ∷ ls) h = ap (λ x. x && all_true bs) h.0 ∙ ap (λ x. list_all plain_leaf l && x) (each_plain bs ls h.1) ∙ sym (list_all-append plain_leaf l (joined ls))
 
-  first_stay : (cs ds : List Constraint) → AllStay here (cs ++ ds) → AllStay here cs
-  first_stay [] ds h = tt
-  first_stay (c ∷ cs) ds h = (h.0, first_stay cs ds h.1)
+else_plain : (z : Option (List Bool)) (o : Option (List (List Leaf))) → ElsePlain z o → Plain (all_true (else_block z)) (joined (else_block o))
+else_plain None None h = refl
+else_plain (Some bs) (Some ls) h = each_plain bs ls h
+else_plain None (Some ls) h = absurd h
+else_plain (Some bs) None h = absurd h
 
-  second_stay : (cs ds : List Constraint) → AllStay here (cs ++ ds) → AllStay here ds
-  second_stay [] ds h = h
-  second_stay (c ∷ cs) ds h = second_stay cs ds h.1
+arms_plain : (arms : List (Arm Bool)) (others : List (Arm (List Leaf))) (rest : Bool) (after : List Leaf) → ArmsPlain arms others → Plain rest after → Plain (list_all (λ a. all_true a.body) arms && rest) (select always always others after)
+arms_plain [] [] rest after h g = g
+arms_plain [] (b ∷ others) rest after h g = absurd h
+arms_plain (a ∷ arms) [] rest after h g = absurd h
+arms_plain (a ∷ arms) (b ∷ others) rest after h g =
+    and_assoc (all_true a.body) (list_all (λ c. all_true c.body) arms) rest
+    ∙ ap (λ x. x && (list_all (λ c. all_true c.body) arms && rest)) (each_plain a.body b.body h.0)
+    ∙ ap (λ x. list_all plain_leaf (joined b.body) && x) (arms_plain arms others rest after h.1 g)
+    ∙ sym (list_all-append plain_leaf (joined b.body) (select always always others after))
+  where
+    and_assoc : (x y z : Bool) → ((x && y) && z) ≡ (x && (y && z))
+    and_assoc true y z = refl
+    and_assoc false y z = refl
 
-  -- constraints of a list that are alike
-  module _ {A : Type 0} (f g : A → Constraint) (same : (x : A) → Alike (f x) (g x)) where
-    pub listed_stay : (xs : List A) → AllStay here (map f xs) → AllStay here (map g xs)
-    listed_stay [] h = tt
-    listed_stay (x ∷ xs) h = (stays_alike (f x) (g x) (same x) h.0, listed_stay xs h.1)
+pairs_plain : (ts : List Target) (es : List Expr) → true ≡ list_all plain_leaf (pairs ts es)
+pairs_plain [] es = refl
+pairs_plain (t ∷ ts) [] = refl
+pairs_plain (t ∷ ts) (e ∷ es) = pairs_plain ts es
 
-    pub listed_alike : (xs : List A) → AllStay here (map f xs) → Alike (check_each (map f xs)) (check_each (map g xs))
-    unfolding check_each
-    listed_alike [] h w s = refl
-    listed_alike (x ∷ xs) h w s =
-        alike_then (f x w) (check_each (map f xs)) (check_each (map g xs)) (h.0 w s) (listed_alike xs h.1)
-        ∙ ap (λ q. then_check q (check_each (map g xs))) (same x w s)
+module _ {D : Type 0} (d : D → Stmt) (same : (e : D) → Plain (is_plain (d e)) (leaves always always (d e))) where
+  abbrev plain_left : Stmt-F D → Stmt-F Bool
+  plain_left y = map-Stmt Stmt Bool is_plain (map-Stmt D Stmt d y)
 
-  listed_nothing : {A : Type 0} (f : A → Constraint) → ((x : A) → Alike (f x) (λ w. Kept w)) → (xs : List A) → Alike (check_each (map f xs)) (λ w. Kept w)
-  unfolding check_each
-  listed_nothing f e [] w s = refl
-  listed_nothing f e (x ∷ xs) w s = ap (λ q. then_check q (check_each (map f xs))) (e x w s) ∙ listed_nothing f e xs w s
+  abbrev plain_right : Stmt-F D → Stmt-F (List Leaf)
+  plain_right y = map-Stmt Stmt (List Leaf) (leaves always always) (map-Stmt D Stmt d y)
 
-  nothing_more : (q : Check) → then_check q (check_each []) ≡ q
-  unfolding check_each
-  nothing_more (Kept v) = refl
-  nothing_more Broken = refl
+  list_plain : (es : List D) → AllPlain (map is_plain (map d es)) (map (leaves always always) (map d es))
+  list_plain [] = tt
+  list_plain (e ∷ es) = (same e, list_plain es)
 
-  alone_is : (c : Constraint) (w : Watched) → check_each (c ∷ []) w ≡ c w
-  unfolding check_each
-  alone_is c w = nothing_more (c w)
+  if_plain : (p : Place) (arms : List (Arm D)) (z : Option (List D)) → ArmsPlain (arms_in (plain_left (IfForm p arms z))) (arms_in (plain_right (IfForm p arms z))) × ElsePlain (else_in (plain_left (IfForm p arms z))) (else_in (plain_right (IfForm p arms z)))
+  if_plain p [] None = (tt, tt)
+  if_plain p [] (Some es) = (tt, list_plain es)
+  if_plain p (a ∷ arms) z = ((list_plain a.body, (if_plain p arms z).0), (if_plain p arms z).1)
 
-  none_kept : (w : Watched) → check_each [] w ≡ Kept w
-  unfolding check_each
-  none_kept w = refl
+  case_plain : (p : Place) (arms : List (Arm D)) (z : Option (List D)) → ArmsPlain (arms_in (plain_left (CaseForm p arms z))) (arms_in (plain_right (CaseForm p arms z))) × ElsePlain (else_in (plain_left (CaseForm p arms z))) (else_in (plain_right (CaseForm p arms z)))
+  case_plain p [] None = (tt, tt)
+  case_plain p [] (Some es) = (tt, list_plain es)
+  case_plain p (a ∷ arms) z = ((list_plain a.body, (case_plain p arms z).0), (case_plain p arms z).1)
 
-map_through : {A B C : Type 0} (g : B → C) (f : A → B) (xs : List A) → map g (map f xs) ≡ map (λ x. g (f x)) xs
-map_through g f [] = refl
-map_through g f (x ∷ xs) = ap (λ ys. g (f x) ∷ ys) (map_through g f xs)
+  plain_layer : (y : Stmt-F D) → Plain (plain_form (plain_left y)) (leaf_form always always (plain_right y))
+  plain_layer (LocalForm p names type) = refl
+  plain_layer (SkipForm p) = refl
+  plain_layer (BlockForm p block) = each_plain _ _ (list_plain block)
+  plain_layer (AssertForm p label e) = refl
+  plain_layer (AssumeForm p e) = refl
+  plain_layer (HavocForm p x primed) = refl
+  plain_layer (AssignForm p targets sources) = pairs_plain targets sources
+  plain_layer (IfForm p arms z) = let g = if_plain p arms z in arms_plain _ _ _ _ g.0 (else_plain _ _ g.1)
+  plain_layer (CaseForm p arms z) = let g = case_plain p arms z in arms_plain _ _ _ _ g.0 (else_plain _ _ g.1)
+  plain_layer (ForForm p x type from to block) = refl
+  plain_layer (CallForm p targets callee arguments) = refl
+  plain_layer (NextForm p i) = refl
+
+statement_plain : (s : Stmt) → Plain (is_plain s) (leaves always always s)
+unfolding is_plain leaves
+statement_plain =
+    ind-Stmt (λ s. Plain (fold-Stmt Bool plain_form s) (fold-Stmt (List Leaf) (leaf_form always always) s))
+    (λ x y is.
+    let F = fold-Stmt Bool plain_form in
+    let G = fold-Stmt (List Leaf) (leaf_form always always) in
+    let way = plain_layer (λ e. e.0) (λ e. e.1) y in
+    let way' = subst (λ z. Plain (plain_form (map-Stmt Stmt Bool F z)) (leaf_form always always (map-Stmt Stmt (List Leaf) G z))) is way in
+    let left' = subst (λ b. Plain b (leaf_form always always (map-Stmt Stmt (List Leaf) G x))) (sym (fold-roll-Stmt Bool plain_form x)) way' in
+    subst (λ X. Plain (F (roll-Stmt x)) X) (sym (fold-roll-Stmt (List Leaf) (leaf_form always always) x)) left')
+
+code_plain : (code : List Stmt) → list_all is_plain code ≡ list_all plain_leaf (all_leaves always always code)
+code_plain [] = refl
+code_plain (s ∷ code) =
+    ap (λ b. b && list_all is_plain code) (statement_plain s) ∙ ap (λ b. list_all plain_leaf (leaves always always s) && b) (code_plain code)
+    ∙ sym (list_all-append plain_leaf (leaves always always s) (all_leaves always always code))
+
+pub plain_sliced : (code : List Stmt) → list_all is_plain (all_slices code) ≡ list_all is_plain code
+plain_sliced code = code_plain (all_slices code) ∙ all_sliced always always plain_leaf code ∙ sym (code_plain code)
+
+-- ---- what plain code asks in a scope
 
 module _ (system : System) (blocks : Blocks) (here : Scope) where
-  abbrev checks : List Stmt → List Constraint
-  checks ss = map (check_statement system blocks) ss
+  abbrev enters : Expr → Bool
+  enters e = is_true system here e
 
-  -- a constraint is asked by the guarded statements, if each of them leaves the scope as it is
-  abbrev Asked : Taken → Constraint → Type 0
-  Asked t c = AllStay here (checks t.guarded) → Alike here (check_each (checks t.guarded)) c
+  abbrev passes : Expr → Bool
+  passes e = not (is_true system here e)
 
-  abbrev AllAsked : List Taken → List Constraint → Type 0
-  AllAsked [] [] = Unit {0}
-  AllAsked (t ∷ ts) (c ∷ cs) = Asked t c × AllAsked ts cs
-  AllAsked ts cs = ⊥
+  abbrev holds : Leaf → Bool
+  holds (Given e) = is_true system here e
+  holds (Put t e) = is_assigned system here t (value system here e)
+  holds (Chosen x) = true
+  holds Nothing = true
+  holds Other = true
 
-  abbrev ArmsAsked : List (Arm Taken) → List (Arm Constraint) → Type 0
-  ArmsAsked [] [] = Unit {0}
-  ArmsAsked (a ∷ arms) (c ∷ others) = (a.condition ≡ c.condition) × AllAsked a.body c.body × ArmsAsked arms others
-  ArmsAsked arms others = ⊥
+  abbrev parts : Leaf → List CellPart
+  parts (Given e) = []
+  parts (Put t e) = target_parts system here t
+  parts (Chosen x) = name_parts system here x
+  parts Nothing = []
+  parts Other = []
 
-  abbrev ElseAsked : Option (List Taken) → Option (List Constraint) → Type 0
-  ElseAsked None None = Unit {0}
-  ElseAsked (Some ts) (Some cs) = AllAsked ts cs
-  ElseAsked z o = ⊥
+  abbrev all_parts : List Leaf → List CellPart
+  all_parts ls = flat_map parts ls
 
-  each_asked : (ts : List Taken) (cs : List Constraint) → AllAsked ts cs → AllStay here (checks (flat_map guarded_in ts)) → Alike here (check_each (checks (flat_map guarded_in ts))) (check_each cs)
-  unfolding check_each
-  each_asked [] [] h k w s = refl
-  each_asked [] (c ∷ cs) h k w s = absurd h
-  each_asked (t ∷ ts) [] h k w s = absurd h
-  each_asked (t ∷ ts) (c ∷ cs) h k w s =
-      let first = checks t.guarded in
-      let rest = checks (flat_map guarded_in ts) in
-      let split : checks (t.guarded ++ flat_map guarded_in ts) ≡ first ++ rest = map-append (check_statement system blocks) t.guarded (flat_map guarded_in ts) in
-      let stay : AllStay here (first ++ rest) = subst (AllStay here) split k in
-      let own = first_stay here first rest stay in
-      ap (λ xs. check_each xs w) split ∙ each_append here first rest w
-      ∙ alike_then here (check_each first w) (check_each rest) (check_each cs) (each_stays here first own w s) (each_asked ts cs h.1 (second_stay here first rest stay))
-      ∙ ap (λ q. then_check q (check_each cs)) (h.0 own w s)
+  -- a constraint asks these leaves
+  abbrev asked : List Leaf → Constraint
+  asked ls w = kept_if (list_all holds ls) (writes (all_parts ls) w)
 
-  -- ---- conditionals
+  abbrev Told : Constraint → Bool → List Leaf → Type 0
+  Told c b ls = b ≡ true → (w : Watched) → w.scope ≡ here → c w ≡ asked ls w
 
-  abbrev arm_checked : Arm Stmt → Arm Constraint
-  arm_checked a = record { condition = a.condition; body = checks a.body }
+  abbrev AllTold : List Constraint → List Bool → List (List Leaf) → Type 0
+  AllTold [] [] [] = Unit {0}
+  AllTold (c ∷ cs) (b ∷ bs) (l ∷ ls) = Told c b l × AllTold cs bs ls
+  AllTold cs bs ls = ⊥
 
-  abbrev else_checked : Option (List Stmt) → Option (List Constraint)
-  else_checked None = None
-  else_checked (Some ss) = Some (checks ss)
+  abbrev ArmsTold : List (Arm Constraint) → List (Arm Bool) → List (Arm (List Leaf)) → Type 0
+  ArmsTold [] [] [] = Unit {0}
+  ArmsTold (a ∷ as') (b ∷ bs) (l ∷ ls) = (a.condition ≡ l.condition) × AllTold a.body b.body l.body × ArmsTold as' bs ls
+  ArmsTold as' bs ls = ⊥
 
-  -- what a conditional with these branches asks
-  abbrev asked_by : Branches → Constraint
-  asked_by b w = check_each (taken system w.scope (map arm_checked b.arms) (else_checked b.otherwise)) w
+  abbrev ElseTold : Option (List Constraint) → Option (List Bool) → Option (List (List Leaf)) → Type 0
+  ElseTold None None None = Unit {0}
+  ElseTold (Some cs) (Some bs) (Some ls) = AllTold cs bs ls
+  ElseTold z o p = ⊥
 
-  taken_empty : {A : Type 0} (s : Scope) (arms : List (Arm A)) (z : Option (List A)) → taken system s (map arm_checked (map emptied arms)) (else_checked (emptied_else z)) ≡ []
-  unfolding taken
-  taken_empty s [] None = refl
-  taken_empty s [] (Some block) = refl
-  taken_empty s (a ∷ arms) z = onward (is_true system s a.condition) (taken_empty s arms z)
+  nothing_written : (w : Watched) → writes [] w ≡ w
+  nothing_written w = ap (λ ps. record w { written = ps }) (append_nil w.written)
+
+  asked_none : (w : Watched) → Kept w ≡ asked [] w
+  asked_none w = ap Kept (sym (nothing_written w))
+
+  written_twice : (ps qs : List CellPart) (w : Watched) → writes qs (writes ps w) ≡ writes (ps ++ qs) w
+  written_twice ps qs w = ap (λ xs. record w { written = xs }) (append_assoc w.written ps qs)
+
+  asked_both : (xs ys : List Leaf) (d : Constraint) (w : Watched) → w.scope ≡ here → ((v : Watched) → v.scope ≡ here → d v ≡ asked ys v) → then_check (asked xs w) d ≡ asked (xs ++ ys) w
+  asked_both xs ys d w s h =
+      by_test (list_all holds xs) ∙ ap (λ b. kept_if b (writes (all_parts xs ++ all_parts ys) w)) (sym (list_all-append holds xs ys)) ∙ ap (λ ps. kept_if (list_all holds (xs ++ ys)) (writes ps w)) (sym (flat_map-append parts xs ys))
     where
-      onward : (b : Bool) → taken system s (map arm_checked (map emptied arms)) (else_checked (emptied_else z)) ≡ [] → (if b then [] else taken system s (map arm_checked (map emptied arms)) (else_checked (emptied_else z))) ≡ []
-      onward true rest = refl
-      onward false rest = rest
+      by_test : (b : Bool) → then_check (kept_if b (writes (all_parts xs) w)) d ≡ kept_if (b && list_all holds ys) (writes (all_parts xs ++ all_parts ys) w)
+      by_test true = h (writes (all_parts xs) w) s ∙ ap (kept_if (list_all holds ys)) (written_twice (all_parts xs) (all_parts ys) w)
+      by_test false = refl
 
-  emptied_asks : {A : Type 0} (arms : List (Arm A)) (z : Option (List A)) (w : Watched) → asked_by (emptied_branches arms z) w ≡ Kept w
+  each_told : (cs : List Constraint) (bs : List Bool) (ls : List (List Leaf)) → AllTold cs bs ls → Told (check_each cs) (all_true bs) (joined ls)
   unfolding check_each
-  emptied_asks arms z w = ap (λ cs. check_each cs w) (taken_empty w.scope arms z)
+  each_told [] [] [] h p w s = asked_none w
+  each_told [] [] (l ∷ ls) h p w s = absurd h
+  each_told [] (b ∷ bs) ls h p w s = absurd h
+  each_told (c ∷ cs) [] ls h p w s = absurd h
+  each_told (c ∷ cs) (b ∷ bs) [] h p w s = absurd h
+  each_told (c ∷ cs) (b ∷ bs) (l ∷ ls) h p w s =
+      let q = and_true b (all_true bs) p in
+      ap (λ x. then_check x (check_each cs)) (h.0 q.0 w s) ∙ asked_both l (joined ls) (check_each cs) w s (λ v t. each_told cs bs ls h.1 q.1 v t)
 
-  module _ {A : Type 0} (a : Arm A) (arms : List (Arm A)) (z : Option (List A)) where
-    abbrev test : Watched → Bool
-    test w = is_true system w.scope a.condition
+  else_told : (z : Option (List Constraint)) (o : Option (List Bool)) (p : Option (List (List Leaf))) → ElseTold z o p → Told (check_each (else_block z)) (all_true (else_block o)) (joined (else_block p))
+  else_told None None None h = each_told [] [] [] tt
+  else_told (Some cs) (Some bs) (Some ls) h = each_told cs bs ls h
+  else_told None None (Some ls) h = absurd h
+  else_told None (Some bs) p h = absurd h
+  else_told (Some cs) None p h = absurd h
+  else_told (Some cs) (Some bs) None h = absurd h
 
-    first_taken : (s : Stmt) (w : Watched) → test w ≡ true → asked_by (first_alone a arms z s) w ≡ check_statement system blocks s w
-    unfolding taken
-    first_taken s w e =
-        ap (λ b. check_each (if b then checks (s ∷ []) else taken system w.scope (map arm_checked (map emptied arms)) (else_checked (emptied_else z))) w) e
-        ∙ alone_is here (check_statement system blocks s) w
-
-    first_left : (s : Stmt) (w : Watched) → test w ≡ false → asked_by (first_alone a arms z s) w ≡ Kept w
-    unfolding taken check_each
-    first_left s w e =
-        ap (λ b. check_each (if b then checks (s ∷ []) else taken system w.scope (map arm_checked (map emptied arms)) (else_checked (emptied_else z))) w) e
-        ∙ ap (λ cs. check_each cs w) (taken_empty w.scope arms z)
-
-    behind_taken : (b : Branches) (w : Watched) → test w ≡ true → asked_by (behind a b) w ≡ Kept w
-    unfolding taken check_each
-    behind_taken b w e = ap (λ x. check_each (if x then [] else taken system w.scope (map arm_checked b.arms) (else_checked b.otherwise)) w) e
-
-    behind_left : (b : Branches) (w : Watched) → test w ≡ false → asked_by (behind a b) w ≡ asked_by b w
-    unfolding taken
-    behind_left b w e = ap (λ x. check_each (if x then [] else taken system w.scope (map arm_checked b.arms) (else_checked b.otherwise)) w) e
-
-  else_asks : (s : Stmt) (w : Watched) → asked_by (else_alone s) w ≡ check_statement system blocks s w
+  arms_told : (cs : List (Arm Constraint)) (bs : List (Arm Bool)) (ls : List (Arm (List Leaf))) (z : Option (List Constraint)) (rest : Bool) (after : List Leaf) → ArmsTold cs bs ls → Told (check_each (else_block z)) rest after
+      → Told (check_each (taken system here cs z)) (list_all (λ a. all_true a.body) bs && rest) (select enters passes ls after)
   unfolding taken
-  else_asks s w = alone_is here (check_statement system blocks s) w
-
-  else_each : (z : Option (List Taken)) (o : Option (List Constraint)) → ElseAsked z o → AllStay here (checks (flat_map guarded_in (else_block z))) → Alike here (check_each (checks (flat_map guarded_in (else_block z)))) (check_each (else_block o))
-  else_each None None h k = each_asked [] [] tt k
-  else_each (Some ts) (Some cs) h k = each_asked ts cs h k
-  else_each None (Some cs) h k = absurd h
-  else_each (Some ts) None h k = absurd h
-
-  abbrev all_asked : List Branches → List Constraint
-  all_asked bs = map asked_by bs
-
-  -- one arm, and what is behind it
-  module _ (a : Arm Taken) (arms : List (Arm Taken)) (z : Option (List Taken)) where
-    abbrev own : Stmt → Constraint
-    own x = asked_by (first_alone a arms z x)
-
-    abbrev later : Branches → Constraint
-    later b = asked_by (behind a b)
-
-    parted : (ss : List Stmt) (bs : List Branches) → all_asked (map (first_alone a arms z) ss ++ map (behind a) bs) ≡ map own ss ++ map later bs
-    parted ss bs =
-        map-append asked_by (map (first_alone a arms z) ss) (map (behind a) bs)
-        ∙ ap (λ xs. xs ++ map asked_by (map (behind a) bs)) (map_through asked_by (first_alone a arms z) ss)
-        ∙ ap (λ ys. map own ss ++ ys) (map_through asked_by (behind a) bs)
-
-    -- in this scope
-    test_is : (b : Bool) → is_true system here a.condition ≡ b → (v : Watched) → v.scope ≡ here → is_true system v.scope a.condition ≡ b
-    test_is b e v q = ap (λ x. is_true system x a.condition) q ∙ e
-
-    own_taken : is_true system here a.condition ≡ true → (x : Stmt) → Alike here (own x) (check_statement system blocks x)
-    own_taken e x v q = first_taken a arms z x v (test_is true e v q)
-
-    own_nothing : is_true system here a.condition ≡ false → (x : Stmt) → Alike here (own x) (λ v. Kept v)
-    own_nothing e x v q = first_left a arms z x v (test_is false e v q)
-
-    later_nothing : is_true system here a.condition ≡ true → (b : Branches) → Alike here (later b) (λ v. Kept v)
-    later_nothing e b v q = behind_taken a arms z b v (test_is true e v q)
-
-    later_left : is_true system here a.condition ≡ false → (b : Branches) → Alike here (later b) (asked_by b)
-    later_left e b v q = behind_left a arms z b v (test_is false e v q)
-
-    one_arm : (ss : List Stmt) (bs : List Branches) (c rest : Constraint) (b : Bool) → is_true system here a.condition ≡ b → AllStay here (map own ss ++ map later bs) → (AllStay here (checks ss) → Alike here (check_each (checks ss)) c)
-        → (AllStay here (all_asked bs) → Alike here (check_each (all_asked bs)) rest) → (w : Watched) → w.scope ≡ here → check_each (map own ss ++ map later bs) w ≡ (if b then c else rest) w
-    one_arm ss bs c rest true e k f g w s =
-        let first = first_stay here (map own ss) (map later bs) k in
-        each_append here (map own ss) (map later bs) w
-        ∙ nothing_then here (check_each (map own ss) w) (check_each (map later bs)) (each_stays here (map own ss) first w s) (listed_nothing here later (later_nothing e) bs)
-        ∙ listed_alike here own (check_statement system blocks) (own_taken e) ss first w s
-        ∙ f (listed_stay here own (check_statement system blocks) (own_taken e) ss first) w s
-    one_arm ss bs c rest false e k f g w s =
-        let last = second_stay here (map own ss) (map later bs) k in
-        each_append here (map own ss) (map later bs) w
-        ∙ ap (λ q. then_check q (check_each (map later bs))) (listed_nothing here own (own_nothing e) ss w s)
-        ∙ listed_alike here later asked_by (later_left e) bs last w s
-        ∙ g (listed_stay here later asked_by (later_left e) bs last) w s
-
-  picked : (b : Bool) (xs ys : List Constraint) (w : Watched) → (if b then check_each xs else check_each ys) w ≡ check_each (if b then xs else ys) w
-  picked true xs ys w = refl
-  picked false xs ys w = refl
-
-  arms_asked : (arms : List (Arm Taken)) (others : List (Arm Constraint)) (z : Option (List Taken)) (o : Option (List Constraint)) → ArmsAsked arms others → ElseAsked z o → AllStay here (all_asked (each_alone guarded_in arms z))
-      → Alike here (check_each (all_asked (each_alone guarded_in arms z))) (check_each (taken system here others o))
-  unfolding each_alone taken
-  arms_asked [] [] z o h g k w s =
-      let ss = flat_map guarded_in (else_block z) in
-      let is : all_asked (map else_alone ss) ≡ map (λ x. asked_by (else_alone x)) ss = map_through asked_by else_alone ss in
-      let stay : AllStay here (map (λ x. asked_by (else_alone x)) ss) = subst (AllStay here) is k in
-      ap (λ cs. check_each cs w) is
-      ∙ listed_alike here (λ x. asked_by (else_alone x)) (check_statement system blocks) (λ x v q. else_asks x v) ss stay w s
-      ∙ else_each z o g (listed_stay here (λ x. asked_by (else_alone x)) (check_statement system blocks) (λ x v q. else_asks x v) ss stay) w s
-  arms_asked [] (c ∷ others) z o h g k w s = absurd h
-  arms_asked (a ∷ arms) [] z o h g k w s = absurd h
-  arms_asked (a ∷ arms) (c ∷ others) z o h g k w s =
-      let ss = flat_map guarded_in a.body in
-      let bs = each_alone guarded_in arms z in
-      let stay = subst (AllStay here) (parted a arms z ss bs) k in
-      ap (λ xs. check_each xs w) (parted a arms z ss bs)
-      ∙ one_arm a arms z ss bs (check_each c.body) (check_each (taken system here others o)) (is_true system here a.condition) refl stay (each_asked a.body c.body h.1) (arms_asked arms others z o h.2 g) w s
-      ∙ picked (is_true system here a.condition) c.body (taken system here others o) w
-      ∙ ap (λ e. check_each (if is_true system here e then c.body else taken system here others o) w) h.0
-
-  -- with the empty branches where there are none
-  branches_asked : (arms : List (Arm Taken)) (others : List (Arm Constraint)) (z : Option (List Taken)) (o : Option (List Constraint)) → ArmsAsked arms others → ElseAsked z o → AllStay here (all_asked (branches guarded_in arms z))
-      → Alike here (check_each (all_asked (branches guarded_in arms z))) (λ w. check_each (taken system w.scope others o) w)
-  branches_asked arms others z o h g k w s = by_case (each_alone guarded_in arms z) (λ q. arms_asked arms others z o h g q w s) k ∙ ap (λ x. check_each (taken system x others o) w) (sym s)
+  arms_told [] [] [] z rest after h g p w s = g p w s
+  arms_told [] [] (l ∷ ls) z rest after h g p w s = absurd h
+  arms_told [] (b ∷ bs) ls z rest after h g p w s = absurd h
+  arms_told (c ∷ cs) [] ls z rest after h g p w s = absurd h
+  arms_told (c ∷ cs) (b ∷ bs) [] z rest after h g p w s = absurd h
+  arms_told (c ∷ cs) (b ∷ bs) (l ∷ ls) z rest after h g p w s =
+      let q = and_true (all_true b.body && list_all (λ a. all_true a.body) bs) rest p in
+      let r = and_true (all_true b.body) (list_all (λ a. all_true a.body) bs) q.0 in
+      ap (λ e. check_each (if is_true system here e then c.body else taken system here cs z) w) h.0
+      ∙ by_test (is_true system here l.condition) (each_told c.body b.body l.body h.1 r.0 w s)
+      (arms_told cs bs ls z rest after h.2 g (ap (λ x. x && rest) r.1 ∙ q.1) w s)
     where
-      by_case : (bs : List Branches) → (AllStay here (all_asked bs) → check_each (all_asked bs) w ≡ check_each (taken system here others o) w) → AllStay here (all_asked (or_else (emptied_branches arms z) bs))
-          → check_each (all_asked (or_else (emptied_branches arms z) bs)) w ≡ check_each (taken system here others o) w
-      by_case [] f q = alone_is here (asked_by (emptied_branches arms z)) w ∙ emptied_asks arms z w ∙ sym (none_kept here w) ∙ f tt
-      by_case (b ∷ bs) f q = f q
+      by_test : (t : Bool) → check_each c.body w ≡ asked (joined l.body) w → check_each (taken system here cs z) w ≡ asked (select enters passes ls after) w
+          → check_each (if t then c.body else taken system here cs z) w ≡ asked (if_true t (joined l.body) ++ if_true (not t) (select enters passes ls after)) w
+      by_test true first rest = first ∙ ap (λ xs. asked xs w) (sym (append_nil (joined l.body)))
+      by_test false first rest = rest
 
-  -- ---- statements
+  targets_told : (ts : List Target) (es : List Expr) (w : Watched) → w.scope ≡ here → check_targets system ts (map (value system here) es) w ≡ asked (pairs ts es) w
+  unfolding check_targets
+  targets_told [] es w s = asked_none w
+  targets_told (t ∷ ts) [] w s = asked_none w
+  targets_told (t ∷ ts) (e ∷ es) w s =
+      ap (λ x. then_check (kept_if (is_assigned system x t (value system here e)) (writes (target_parts system x t) w)) (check_targets system ts (map (value system here) es))) s
+      ∙ ap (λ b. then_check (kept_if b (writes (target_parts system here t) w)) (check_targets system ts (map (value system here) es))) (sym (and_right (is_assigned system here t (value system here e))))
+      ∙ ap (λ ps. then_check (kept_if (list_all holds (Put t e ∷ [])) (writes ps w)) (check_targets system ts (map (value system here) es))) (sym (append_nil (target_parts system here t)))
+      ∙ asked_both (Put t e ∷ []) (pairs ts es) (check_targets system ts (map (value system here) es)) w s (λ v q. targets_told ts es v q)
+    where
+      and_right : (b : Bool) → (b && true) ≡ b
+      and_right true = refl
+      and_right false = refl
 
-  arms_if : (p : Place) (arms : List (Arm Stmt)) (z : Option (List Stmt)) → arms_in (map-Stmt Stmt Constraint (check_statement system blocks) (IfForm p arms z)) ≡ map arm_checked arms
-  arms_if p [] z = refl
-  arms_if p (a ∷ arms) z = ap (λ xs. arm_checked a ∷ xs) (arms_if p arms z)
+  given_told : (e : Expr) (w : Watched) → w.scope ≡ here → kept_if (is_true system w.scope e) w ≡ asked (Given e ∷ []) w
+  given_told e w s =
+      ap (λ x. kept_if (is_true system x e) w) s ∙ ap (λ b. kept_if b w) (sym (and_right (is_true system here e))) ∙ ap (kept_if (is_true system here e && true)) (sym (nothing_written w))
+    where
+      and_right : (b : Bool) → (b && true) ≡ b
+      and_right true = refl
+      and_right false = refl
 
-  arms_case : (p : Place) (arms : List (Arm Stmt)) (z : Option (List Stmt)) → arms_in (map-Stmt Stmt Constraint (check_statement system blocks) (CaseForm p arms z)) ≡ map arm_checked arms
-  arms_case p [] z = refl
-  arms_case p (a ∷ arms) z = ap (λ xs. arm_checked a ∷ xs) (arms_case p arms z)
+  chosen_told : (x : ℕ) (w : Watched) → w.scope ≡ here → Kept (writes (name_parts system w.scope x) w) ≡ asked (Chosen x ∷ []) w
+  chosen_told x w s = ap (λ y. Kept (writes (name_parts system y x) w)) s ∙ ap (λ ps. Kept (writes ps w)) (sym (append_nil (name_parts system here x)))
 
-  else_if : (p : Place) (arms : List (Arm Stmt)) (z : Option (List Stmt)) → else_in (map-Stmt Stmt Constraint (check_statement system blocks) (IfForm p arms z)) ≡ else_checked z
-  else_if p arms None = refl
-  else_if p arms (Some block) = refl
+  module _ {D : Type 0} (d : D → Stmt) (same : (e : D) → Told (check_statement system blocks (d e)) (is_plain (d e)) (leaves enters passes (d e))) where
+    abbrev asks : Stmt-F D → Stmt-F Constraint
+    asks y = map-Stmt Stmt Constraint (check_statement system blocks) (map-Stmt D Stmt d y)
 
-  else_case : (p : Place) (arms : List (Arm Stmt)) (z : Option (List Stmt)) → else_in (map-Stmt Stmt Constraint (check_statement system blocks) (CaseForm p arms z)) ≡ else_checked z
-  else_case p arms None = refl
-  else_case p arms (Some block) = refl
+    abbrev plainly : Stmt-F D → Stmt-F Bool
+    plainly y = map-Stmt Stmt Bool is_plain (map-Stmt D Stmt d y)
 
-  if_asks : (p : Place) (b : Branches) (w : Watched) → check_statement system blocks (If p b.arms b.otherwise) w ≡ asked_by b w
-  unfolding check_statement roll-Stmt denote.Hole.Carrier.roll
-  if_asks p b w =
-      ap (λ (c : Constraint). c w) (fold-roll-Stmt Constraint (check_form system blocks) (IfForm p b.arms b.otherwise))
-      ∙ ap (λ xs. check_each (taken system w.scope xs (else_in (map-Stmt Stmt Constraint (check_statement system blocks) (IfForm p b.arms b.otherwise)))) w) (arms_if p b.arms b.otherwise)
-      ∙ ap (λ o. check_each (taken system w.scope (map arm_checked b.arms) o) w) (else_if p b.arms b.otherwise)
+    abbrev told_by : Stmt-F D → Stmt-F (List Leaf)
+    told_by y = map-Stmt Stmt (List Leaf) (leaves enters passes) (map-Stmt D Stmt d y)
 
-  case_asks : (p : Place) (b : Branches) (w : Watched) → check_statement system blocks (Case p b.arms b.otherwise) w ≡ asked_by b w
-  unfolding check_statement roll-Stmt denote.Hole.Carrier.roll
-  case_asks p b w =
-      ap (λ (c : Constraint). c w) (fold-roll-Stmt Constraint (check_form system blocks) (CaseForm p b.arms b.otherwise))
-      ∙ ap (λ xs. check_each (taken system w.scope xs (else_in (map-Stmt Stmt Constraint (check_statement system blocks) (CaseForm p b.arms b.otherwise)))) w) (arms_case p b.arms b.otherwise)
-      ∙ ap (λ o. check_each (taken system w.scope (map arm_checked b.arms) o) w) (else_case p b.arms b.otherwise)
+    list_told : (es : List D) → AllTold (map (check_statement system blocks) (map d es)) (map is_plain (map d es)) (map (leaves enters passes) (map d es))
+    list_told [] = tt
+    list_told (e ∷ es) = (same e, list_told es)
 
-  -- conditionals made of branches
-  made_asked : (make : Branches → Stmt) → ((b : Branches) (w : Watched) → check_statement system blocks (make b) w ≡ asked_by b w) → (bs : List Branches) (c : Constraint) → (AllStay here (all_asked bs) → Alike here (check_each (all_asked bs)) c)
-      → AllStay here (checks (map make bs)) → Alike here (check_each (checks (map make bs))) c
-  made_asked make asks bs c h k w s =
-      let is : checks (map make bs) ≡ map (λ b. check_statement system blocks (make b)) bs = map_through (check_statement system blocks) make bs in
-      let stay = subst (AllStay here) is k in
-      ap (λ cs. check_each cs w) is
-      ∙ listed_alike here (λ b. check_statement system blocks (make b)) asked_by (λ b v q. asks b v) bs stay w s
-      ∙ h (listed_stay here (λ b. check_statement system blocks (make b)) asked_by (λ b v q. asks b v) bs stay) w s
-
-  -- a statement that has itself
-  alone_asked : (t : Stmt) (c : Constraint) → check_statement system blocks t ≡ c → AllStay here (checks (t ∷ [])) → Alike here (check_each (checks (t ∷ []))) c
-  alone_asked t c e k w s = alone_is here (check_statement system blocks t) w ∙ ap (λ (d : Constraint). d w) e
-
-  module _ {D : Type 0} (d : D → Stmt) (same : (e : D) → Asked (taken_apart (d e)) (check_statement system blocks (d e))) where
-    abbrev left : Stmt-F D → Stmt-F Taken
-    left y = map-Stmt Stmt Taken taken_apart (map-Stmt D Stmt d y)
-
-    abbrev right : Stmt-F D → Stmt-F Constraint
-    right y = map-Stmt Stmt Constraint (check_statement system blocks) (map-Stmt D Stmt d y)
-
-    list_asked : (es : List D) → AllAsked (map taken_apart (map d es)) (map (check_statement system blocks) (map d es))
-    list_asked [] = tt
-    list_asked (e ∷ es) = (same e, list_asked es)
-
-    if_layer : (p : Place) (arms : List (Arm D)) (z : Option (List D)) → ArmsAsked (arms_in (left (IfForm p arms z))) (arms_in (right (IfForm p arms z))) × ElseAsked (else_in (left (IfForm p arms z))) (else_in (right (IfForm p arms z)))
+    if_layer : (p : Place) (arms : List (Arm D)) (z : Option (List D)) → ArmsTold (arms_in (asks (IfForm p arms z))) (arms_in (plainly (IfForm p arms z))) (arms_in (told_by (IfForm p arms z)))
+        × ElseTold (else_in (asks (IfForm p arms z))) (else_in (plainly (IfForm p arms z))) (else_in (told_by (IfForm p arms z)))
     if_layer p [] None = (tt, tt)
-    if_layer p [] (Some es) = (tt, list_asked es)
-    if_layer p (a ∷ arms) z = ((refl, list_asked a.body, (if_layer p arms z).0), (if_layer p arms z).1)
+    if_layer p [] (Some es) = (tt, list_told es)
+    if_layer p (a ∷ arms) z = ((refl, list_told a.body, (if_layer p arms z).0), (if_layer p arms z).1)
 
-    case_layer : (p : Place) (arms : List (Arm D)) (z : Option (List D)) → ArmsAsked (arms_in (left (CaseForm p arms z))) (arms_in (right (CaseForm p arms z))) × ElseAsked (else_in (left (CaseForm p arms z))) (else_in (right (CaseForm p arms z)))
+    case_layer : (p : Place) (arms : List (Arm D)) (z : Option (List D)) → ArmsTold (arms_in (asks (CaseForm p arms z))) (arms_in (plainly (CaseForm p arms z))) (arms_in (told_by (CaseForm p arms z)))
+        × ElseTold (else_in (asks (CaseForm p arms z))) (else_in (plainly (CaseForm p arms z))) (else_in (told_by (CaseForm p arms z)))
     case_layer p [] None = (tt, tt)
-    case_layer p [] (Some es) = (tt, list_asked es)
-    case_layer p (a ∷ arms) z = ((refl, list_asked a.body, (case_layer p arms z).0), (case_layer p arms z).1)
+    case_layer p [] (Some es) = (tt, list_told es)
+    case_layer p (a ∷ arms) z = ((refl, list_told a.body, (case_layer p arms z).0), (case_layer p arms z).1)
 
-    -- the statement again
-    abbrev back : Stmt-F D → Stmt
-    back y = roll-Stmt (map-Stmt D Stmt d y)
+    choice_told : (cs : List (Arm Constraint)) (bs : List (Arm Bool)) (ls : List (Arm (List Leaf))) (z : Option (List Constraint)) (o : Option (List Bool)) (q : Option (List (List Leaf))) → ArmsTold cs bs ls → ElseTold z o q
+        → Told (λ w. check_each (taken system w.scope cs z) w) (list_all (λ a. all_true a.body) bs && all_true (else_block o)) (select enters passes ls (joined (else_block q)))
+    choice_told cs bs ls z o q h g p w s = ap (λ x. check_each (taken system x cs z) w) s ∙ arms_told cs bs ls z (all_true (else_block o)) (joined (else_block q)) h (else_told z o q g) p w s
 
-    checked : (y : Stmt-F D) → check_statement system blocks (back y) ≡ check_form system blocks (right y)
-    unfolding check_statement
-    checked y = fold-roll-Stmt Constraint (check_form system blocks) (map-Stmt D Stmt d y)
+    layer : (y : Stmt-F D) → Told (check_form system blocks (asks y)) (plain_form (plainly y)) (leaf_form enters passes (told_by y))
+    layer (LocalForm p names type) h w s = ap Kept (sym (nothing_written w))
+    layer (SkipForm p) h w s = ap Kept (sym (nothing_written w))
+    layer (BlockForm p block) h w s = each_told _ _ _ (list_told block) h w s
+    layer (AssertForm p label e) h w s = absurd (cc)
+    layer (AssumeForm p e) h w s = given_told e w s
+    layer (HavocForm p x primed) h w s = chosen_told x.name w s
+    layer (AssignForm p targets sources) h w s = ap (λ x. check_targets system targets (map (value system x) sources) w) s ∙ targets_told targets sources w s
+    layer (IfForm p arms z) h w s = let g = if_layer p arms z in choice_told _ _ _ _ _ _ g.0 g.1 h w s
+    layer (CaseForm p arms z) h w s = let g = case_layer p arms z in choice_told _ _ _ _ _ _ g.0 g.1 h w s
+    layer (ForForm p x type from to block) h w s = absurd (cc)
+    layer (CallForm p targets callee arguments) h w s = absurd (cc)
+    layer (NextForm p i) h w s = absurd (cc)
 
-    layer : (y : Stmt-F D) → Asked (taken_form (left y)) (check_form system blocks (right y))
-    layer (LocalForm p names type) k w s = alone_asked (back (LocalForm p names type)) (check_form system blocks (right (LocalForm p names type))) (checked (LocalForm p names type)) k w s
-    layer (SkipForm p) k w s = alone_asked (back (SkipForm p)) (check_form system blocks (right (SkipForm p))) (checked (SkipForm p)) k w s
-    layer (BlockForm p block) k w s = each_asked _ _ (list_asked block) k w s
-    layer (AssertForm p label e) k w s = alone_asked (back (AssertForm p label e)) (check_form system blocks (right (AssertForm p label e))) (checked (AssertForm p label e)) k w s
-    layer (AssumeForm p e) k w s = alone_asked (back (AssumeForm p e)) (check_form system blocks (right (AssumeForm p e))) (checked (AssumeForm p e)) k w s
-    layer (HavocForm p x primed) k w s = alone_asked (back (HavocForm p x primed)) (check_form system blocks (right (HavocForm p x primed))) (checked (HavocForm p x primed)) k w s
-    layer (AssignForm p targets sources) k w s = alone_asked (back (AssignForm p targets sources)) (check_form system blocks (right (AssignForm p targets sources))) (checked (AssignForm p targets sources)) k w s
-    layer (IfForm p arms z) k w s =
-        let g = if_layer p arms z in
-        made_asked (λ b. If p b.arms b.otherwise) (if_asks p) (branches guarded_in (arms_in (left (IfForm p arms z))) (else_in (left (IfForm p arms z)))) (λ v. check_each (taken system v.scope (arms_in (right (IfForm p arms z))) (else_in (right (IfForm p arms z)))) v)
-        (branches_asked _ _ _ _ g.0 g.1) k w s
-    layer (CaseForm p arms z) k w s =
-        let g = case_layer p arms z in
-        made_asked (λ b. Case p b.arms b.otherwise) (case_asks p) (branches guarded_in (arms_in (left (CaseForm p arms z))) (else_in (left (CaseForm p arms z)))) (λ v. check_each (taken system v.scope (arms_in (right (CaseForm p arms z))) (else_in (right (CaseForm p arms z)))) v)
-        (branches_asked _ _ _ _ g.0 g.1) k w s
-    layer (ForForm p x type from to block) k w s =
-        let whole : map whole_of (map taken_apart (map d block)) ≡ map d block = list_whole d (λ e. whole_is (d e)) block in
-        let stay = subst (λ ss. AllStay here (checks (roll-Stmt (ForForm p x type from to ss) ∷ []))) whole k in
-        ap (λ ss. check_each (checks (roll-Stmt (ForForm p x type from to ss) ∷ [])) w) whole
-        ∙ alone_asked (back (ForForm p x type from to block)) (check_form system blocks (right (ForForm p x type from to block))) (checked (ForForm p x type from to block)) stay w s
-    layer (CallForm p targets callee arguments) k w s = alone_asked (back (CallForm p targets callee arguments)) (check_form system blocks (right (CallForm p targets callee arguments))) (checked (CallForm p targets callee arguments)) k w s
-    layer (NextForm p i) k w s = alone_asked (back (NextForm p i)) (check_form system blocks (right (NextForm p i))) (checked (NextForm p i)) k w s
-
-  statement_asked : (s : Stmt) → Asked (taken_apart s) (check_statement system blocks s)
-  unfolding check_statement
-  statement_asked =
-      ind-Stmt (λ s. Asked (taken_apart s) (fold-Stmt Constraint (check_form system blocks) s))
+  statement_told : (s : Stmt) → Told (check_statement system blocks s) (is_plain s) (leaves enters passes s)
+  unfolding check_statement is_plain leaves
+  statement_told =
+      ind-Stmt (λ s. Told (fold-Stmt Constraint (check_form system blocks) s) (fold-Stmt Bool plain_form s) (fold-Stmt (List Leaf) (leaf_form enters passes) s))
       (λ x y is.
-      let F = taken_apart in
-      let G = fold-Stmt Constraint (check_form system blocks) in
+      let F = fold-Stmt Constraint (check_form system blocks) in
+      let P = fold-Stmt Bool plain_form in
+      let G = fold-Stmt (List Leaf) (leaf_form enters passes) in
       let way = layer (λ e. e.0) (λ e. e.1) y in
-      let way' = subst (λ z. Asked (taken_form (map-Stmt Stmt Taken F z)) (check_form system blocks (map-Stmt Stmt Constraint G z))) is way in
-      let left' = subst (λ t. Asked t (check_form system blocks (map-Stmt Stmt Constraint G x))) (sym (fold-roll-Stmt Taken taken_form x)) way' in
-      subst (λ X. Asked (F (roll-Stmt x)) X) (sym (fold-roll-Stmt Constraint (check_form system blocks) x)) left')
+      let way' = subst (λ z. Told (check_form system blocks (map-Stmt Stmt Constraint F z)) (plain_form (map-Stmt Stmt Bool P z)) (leaf_form enters passes (map-Stmt Stmt (List Leaf) G z))) is way in
+      let one = subst (λ c. Told c (plain_form (map-Stmt Stmt Bool P x)) (leaf_form enters passes (map-Stmt Stmt (List Leaf) G x))) (sym (fold-roll-Stmt Constraint (check_form system blocks) x)) way' in
+      let two = subst (λ b. Told (F (roll-Stmt x)) b (leaf_form enters passes (map-Stmt Stmt (List Leaf) G x))) (sym (fold-roll-Stmt Bool plain_form x)) one in
+      subst (λ X. Told (F (roll-Stmt x)) (P (roll-Stmt x)) X) (sym (fold-roll-Stmt (List Leaf) (leaf_form enters passes) x)) two)
 
-  listed : (code : List Stmt) → AllAsked (map taken_apart code) (map (check_statement system blocks) code)
-  listed [] = tt
-  listed (s ∷ code) = (statement_asked s, listed code)
+  code_told : (code : List Stmt) → list_all is_plain code ≡ true → (w : Watched) → w.scope ≡ here → check_by system blocks code w ≡ asked (all_leaves enters passes code) w
+  unfolding check_by check_each
+  code_told [] h w s = asked_none w
+  code_told (x ∷ code) h w s =
+      let q = and_true (is_plain x) (list_all is_plain code) h in
+      ap (λ y. then_check y (check_each (map (check_statement system blocks) code))) (statement_told x q.0 w s)
+      ∙ asked_both (leaves enters passes x) (all_leaves enters passes code) (check_each (map (check_statement system blocks) code)) w s (λ v t. code_told code q.1 v t)
 
-  same_guarded : (code : List Stmt) → flat_map guarded_in (map taken_apart code) ≡ all_guarded code
-  unfolding guarded
-  same_guarded [] = refl
-  same_guarded (s ∷ code) = ap (λ xs. guarded s ++ xs) (same_guarded code)
+  abbrev touches : ℕ → List ℕ → CellPart → Bool
+  touches k fields p = nat_eq p.cell k && (is_prefix p.fields fields || is_prefix fields p.fields)
 
-  pub code_asked : (code : List Stmt) → AllStay here (checks (all_guarded code)) → Alike here (check_by system blocks (all_guarded code)) (check_by system blocks code)
-  unfolding check_by
-  code_asked code =
-      subst (λ ss. AllStay here (checks ss) → Alike here (check_each (checks ss)) (check_each (checks code))) (same_guarded code)
-      (each_asked (map taken_apart code) (map (check_statement system blocks) code) (listed code))
+  alike : (b c : Bool) (ps qs : List CellPart) (w : Watched) → b ≡ c → ((k : ℕ) (fields : List ℕ) → list_any (touches k fields) ps ≡ list_any (touches k fields) qs) → AskAlike (kept_if b (writes ps w)) (kept_if c (writes qs w))
+  unfolding is_written
+  alike true true ps qs w e h = record {
+    scope = refl;
+    left = refl;
+    sites = refl;
+    written = λ k fields. list_any-append (touches k fields) w.written ps ∙ ap (λ b. list_any (touches k fields) w.written || b) (h k fields) ∙ sym (list_any-append (touches k fields) w.written qs);
+  }
+  alike false false ps qs w e h = tt
+  alike true false ps qs w e h = absurd (cc)
+  alike false true ps qs w e h = absurd (cc)
 
-pub guarded_law : GuardedLaw
-guarded_law system blocks here code h w s = code_asked system blocks here code h w s
+  pub asked_alike : (code : List Stmt) → list_all is_plain code ≡ true → (w : Watched) → w.scope ≡ here → AskAlike (check_by system blocks (all_slices code) w) (check_by system blocks code w)
+  asked_alike code h w s =
+      let xs = all_leaves enters passes (all_slices code) in
+      let ys = all_leaves enters passes code in
+      let same = alike (list_all holds xs) (list_all holds ys) (all_parts xs) (all_parts ys) w (all_sliced enters passes holds code)
+      (λ k fields. any_flat (touches k fields) parts xs ∙ any_sliced enters passes (λ l. list_any (touches k fields) (parts l)) code ∙ sym (any_flat (touches k fields) parts ys)) in
+      let first = subst (λ c. AskAlike c (asked ys w)) (sym (code_told (all_slices code) (plain_sliced code ∙ h) w s)) same in
+      subst (λ c. AskAlike (check_by system blocks (all_slices code) w) c) (sym (code_told code h w s)) first
+
+pub slices_law : SlicesLaw
+slices_law = record { plain = plain_sliced; ask = λ system blocks code h w. asked_alike system blocks w.scope code h w refl }

@@ -1,3 +1,5 @@
-pub mod Walked
-pub mod Forms
+pub mod Lists
+pub mod Leaves
 pub mod Asked
+pub mod Forms
+pub mod Kept

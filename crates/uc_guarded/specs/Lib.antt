@@ -1,2 +1,2 @@
-pub mod Guarded
+pub mod Slices
 pub mod Laws

@@ -1,8 +1,8 @@
-//! The law of guarded statements.
+//! The law of slices.
 
-ghost use Rattle.uc_guarded.specs.Laws.{GuardedLaw};
+ghost use Rattle.uc_guarded.specs.Laws.{SlicesLaw};
 
-/// The guarded statements of code ask what the code asks, where each of them leaves the scope as it is.
-pub fn guarded_ask()
-    ensures { GuardedLaw }
+/// The slices of code ask what the code asks.
+pub fn slices_ask()
+    ensures { SlicesLaw }
 {}

@@ -1,7 +1,0 @@
-use Rattle.std.proofs.Common.{◌≡◌, ◌++◌, map}
-use Rattle.uc_guarded.specs.Guarded.{first_alone, behind_all}
-use Rattle.uc_guarded.proofs.branches.each_in_arm.Given as goal
-
-abbrev pub invariant-loop-statement : goal.invariant-loop-statement
-invariant-loop-statement l =
-    l.all ++ map (λ s. behind_all l.front (first_alone l.arm l.rest l.otherwise s)) l.statement-iterator.rest.items ≡ map (λ s. behind_all l.front (first_alone l.arm l.rest l.otherwise s)) l.fn.statements
