@@ -1,4 +1,4 @@
 pub mod Lined
 pub mod Honest
 pub mod Reported
-pub mod Shown
+pub mod Constants
