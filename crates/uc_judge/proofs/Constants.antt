@@ -1,5 +1,5 @@
 -- The constants of a design over cells are those that counterexamples show.
-use Rattle.std.proofs.Common.{◌≡◌, List, [], ◌∷◌, map, refl, sym, ap, ◌∙◌, subst, append-nil, Some}
+use Rattle.std.proofs.Common.{◌≡◌, ℕ, List, [], ◌∷◌, map, refl, sym, ap, ◌∙◌, subst, append-nil, Some}
 use Rattle.std.specs.Prelude.{All}
 use Rattle.std.specs.Option.{option_map}
 use Rattle.std.specs.List.{flat_map}
@@ -12,12 +12,16 @@ use Rattle.uc_syntax.specs.declared.declaration.Module.{Module}
 use Rattle.uc_values.specs.declared.ty.Ty.{Ty}
 use Rattle.uc_meaning.specs.Lookup.{System}
 use Rattle.uc_meaning.specs.Types.{type_of_written}
-use Rattle.uc_meaning.specs.Cells.{ConstantParts, constants_in, constants_of}
+use Rattle.uc_syntax.specs.WrittenTypes.{labels_of}
+use Rattle.uc_meaning.specs.Cells.{ConstantParts, cells_of, constants_in, constants_of}
 use Rattle.uc_flat.specs.declared.flat.Flat.{Flat}
+use Rattle.uc_flat.specs.declared.flat.Cell.{Cell as FlatCell}
+use Rattle.uc_flat.specs.declared.flat.Constant.{Constant as FlatConstant}
 use Rattle.uc_flat_names.specs.Names.{StandsAlone}
 use Rattle.uc_flat_design.specs.Design.{IsFlatOf}
 use Rattle.uc_flat_design.proofs.Laws.{alone_of}
-use Rattle.uc_trace.specs.Tables.{AreConstants, name_of_main}
+use Rattle.uc_runnable.specs.Runnable.{RunsOver}
+use Rattle.uc_trace.specs.Tables.{AreConstants, listed, name_of_main}
 
 module _ (system : System) (code : Module) where
   -- a constant of the module
@@ -55,3 +59,12 @@ constants_shown system code f d = record {
   all = ap (λ (g : Flat). g.constants) d.is;
   mains = mains system code (alone_of system code f d);
 }
+
+-- a design as its report shows it, where it is that of a design that runs
+pub design_shown : (d : System) (f : Flat) (view : System) (labels : List (List ℕ)) (constants : List FlatConstant) (cells : List FlatCell) → RunsOver d f → view ≡ d → labels ≡ labels_of d.modules → constants ≡ f.constants → cells ≡ f.cells
+    → (labels ≡ labels_of view.modules) × AreConstants view constants × (cells ≡ map listed (cells_of view))
+design_shown d f view labels constants cells r same has_labels has_constants has_cells = (
+  has_labels ∙ ap (λ (s : System). labels_of s.modules) (sym same),
+  subst (λ s. AreConstants s constants) (sym same) (subst (AreConstants d) (sym has_constants) (constants_shown d r.code f r.is_flat)),
+  has_cells ∙ ap (λ (g : Flat). g.cells) r.is_flat.is ∙ ap (λ s. map listed (cells_of s)) (sym same),
+)
