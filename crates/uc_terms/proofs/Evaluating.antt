@@ -1,5 +1,5 @@
 -- The evaluation of terms, node by node.
-use Rattle.std.proofs.Common.{◌≡◌, ℕ, ◌+◌, ◌<◌, ◌≤◌, List, [], ◌∷◌, ◌++◌, Bool, true, false, length, All, Contains, refl, sym, ap, ◌∙◌, subst, arith, suc, inl, inr, ◌⊎◌, get_or, length-append}
+use Rattle.std.proofs.Common.{◌≡◌, ℕ, ◌+◌, ◌<◌, ◌≤◌, List, [], ◌∷◌, ◌++◌, Bool, length, All, Contains, refl, sym, ap, ◌∙◌, subst, arith, suc, inl, inr, get_or, length-append}
 use Rattle.std.proofs.lemmas.Bool.Decides.{leb_tells}
 use Rattle.std.proofs.lemmas.List.{get_or_default}
 use Rattle.std.proofs.lemmas.List.Elements.{All-contains}
@@ -14,8 +14,8 @@ use Rattle.uc_ops.specs.Meaning.{part}
 use Rattle.uc_ops.specs.Met.{IsNarrowResult}
 use Rattle.uc_terms.specs.Tables.{parts_at}
 use Rattle.uc_terms.specs.Values.{value}
-use Rattle.uc_terms.specs.Subterms.{IsSubterm, itself, deeper, IsBelow, Marked, AreSubterms}
-use Rattle.uc_terms.specs.Met.{met_at, Meets, MeetsOnlyNarrow, MeetsInOne}
+use Rattle.uc_terms.specs.Subterms.{IsSubterm, itself, deeper, Marked, AreSubterms}
+use Rattle.uc_terms.specs.Met.{met_at, MeetsInOne}
 use Rattle.uc_terms.specs.Evaluated.{AreEvaluated}
 use Rattle.uc_terms.proofs.Walk.{marked_within}
 

@@ -1,5 +1,5 @@
 -- What is known where the parts of a term have their values.
-use Rattle.std.proofs.Common.{◌≡◌, ℕ, ◌<◌, List, map, length, slice_get, Some, All, sym, ap, ◌∙◌, subst, arith}
+use Rattle.std.proofs.Common.{◌≡◌, ℕ, ◌<◌, List, map, slice_get, Some, All, sym, ap, ◌∙◌, subst, arith}
 use Rattle.uc_values.specs.declared.value.Value.{Value}
 use Rattle.uc_ops.specs.declared.model.Model.{Model}
 use Rattle.uc_ops.specs.declared.node.Node.{Node}

@@ -1,10 +1,9 @@
 -- What a table is after an operation on parts was asked for, where equal nodes are shared.
 use Rattle.std.specs.Prelude.{◌≡◌, ℕ, ◌+◌, ◌<◌, ◌≤◌, Bool, true, false, cond, ◌||◌, List, [], ◌∷◌, ◌++◌, length, slice_get, Some, All}
 use Rattle.std.specs.List.{list_any, IsDistinct, AllByRecursion}
-use Rattle.std.proofs.Common.{refl, sym, ap, ◌∙◌, arith, subst, length-append, ◌⊎◌, inl, inr, zero, suc, append-nil}
+use Rattle.std.proofs.Common.{refl, sym, ap, ◌∙◌, arith, subst, length-append, inl, inr, zero, suc, append-nil}
 use Rattle.std.proofs.lemmas.Bool.{false≢true}
 use Rattle.std.proofs.Math.Bool.{or-true}
-use Rattle.uc_values.specs.declared.ty.Ty.{Ty}
 use Rattle.uc_ops.specs.declared.model.Model.{Model}
 use Rattle.uc_ops.specs.declared.op.Op.{Op}
 use Rattle.uc_ops.specs.declared.node.Node.{Node}
@@ -14,10 +13,10 @@ use Rattle.uc_ops.specs.Typing.{Suits, type_of, type_at, types_at}
 use Rattle.uc_ops.specs.Meaning.{apply}
 use Rattle.uc_ops.proofs.Lists.{same_map, slice_get-within}
 use Rattle.uc_ops.proofs.Rebuilt.{same_nodes, nodes_equal}
-use Rattle.uc_terms.specs.Tables.{WellTyped, NoTwoEqual, node_of, Holds, Makes, Adds}
+use Rattle.uc_terms.specs.Tables.{WellTyped, NoTwoEqual, node_of, Makes, Adds}
 use Rattle.uc_terms.specs.Values.{value, values_at}
 use Rattle.uc_terms.proofs.Grown.{slice_get-last, slice_get-push, types-keep, type-keeps, type-node, added-fine}
-use Rattle.uc_terms.proofs.Values.{value-node, value-keeps, within_all}
+use Rattle.uc_terms.proofs.Values.{value-node, value-keeps}
 
 any-place : {A : Type 0} (f : A → Bool) (xs : List A) (k : ℕ) (x : A) → slice_get xs k ≡ Some x → f x ≡ true → list_any f xs ≡ true
 any-place f [] k x h e = cc
@@ -79,13 +78,10 @@ shared_by old new op parts t k false is w b s e h q =
     subst (λ ns. Shares old ns t op parts) (sym e) (added old op parts t k w b s is (ap (λ ns. slice_get ns t) (sym e) ∙ h) q)
 
 -- a table with the node of an operation on parts inserted
-pub shared : (old new : List Node) (op : Op) (parts ps : List ℕ) (ty : Ty) (t : ℕ) (k : Node) → ps ≡ parts → ty ≡ type_of op (types_at old parts)
+pub shared : (old new : List Node) (op : Op) (parts : List ℕ) (n : Node) (t : ℕ) (k : Node) → n ≡ node_of old op parts
     → WellTyped old → All (λ p. p < length old) parts → Suits op (types_at old parts)
-    → (let n : Node = record { op = op; parts = ps; ty = ty } in
-    (new ≡ cond (list_any (equal_nodes n) old) old (old ++ n ∷ [])) → slice_get new t ≡ Some k → equal_nodes n k ≡ true → Shares old new t op parts)
-shared old new op parts ps ty t k e f w b s g h q =
-    let n : Node = record { op = op; parts = ps; ty = ty } in
-    let same : n ≡ node_of old op parts = λ i. record { op = op; parts = e i; ty = f i } in
+    → new ≡ cond (list_any (equal_nodes n) old) old (old ++ n ∷ []) → slice_get new t ≡ Some k → equal_nodes n k ≡ true → Shares old new t op parts
+shared old new op parts n t k same w b s g h q =
     shared_by old new op parts t k (list_any (equal_nodes (node_of old op parts)) old) refl w b s
     (subst (λ x. new ≡ cond (list_any (equal_nodes x) old) old (old ++ x ∷ [])) same g) h (subst (λ x. equal_nodes x k ≡ true) same q)
 

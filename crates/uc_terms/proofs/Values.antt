@@ -1,13 +1,11 @@
 -- The value of a term under a model.
 use Rattle.std.proofs.Common.{ℕ, ◌≡◌, ◌<◌, List, [], ◌∷◌, ◌++◌, length, map, All, Some, slice_get, refl, sym, ap, ◌∙◌, arith}
-use Rattle.uc_values.specs.declared.ty.Ty.{Ty}
 use Rattle.uc_ops.specs.declared.model.Model.{Model}
-use Rattle.uc_ops.specs.declared.op.Op.{Op}
 use Rattle.uc_ops.specs.declared.node.Node.{Node}
 use Rattle.uc_ops.specs.Typing.{type_at, type_in, types_at}
 use Rattle.uc_ops.specs.Meaning.{apply}
 use Rattle.uc_ops.proofs.Lists.{same_map, at_place, slice_get-within}
-use Rattle.uc_terms.specs.Tables.{IsFine, WellTyped, node_of, Makes}
+use Rattle.uc_terms.specs.Tables.{WellTyped}
 use Rattle.uc_terms.specs.Values.{Meant, meant, meant_types, meant_values, node_meant, nothing_meant, value, values_at}
 use Rattle.uc_terms.specs.Laws.{KeepsValues}
 use Rattle.uc_terms.proofs.Told.{told-keeps, told-node}

@@ -1,17 +1,17 @@
 //! The table of terms.
 
 ghost use Rattle.std.specs.Prelude.{◌≡◌, ℕ, ◌<◌, ◌≤◌, ◌+◌, ◌^◌, [], length, slice_get, IfOk, OnOk, OnErr, All, Some};
-ghost use Rattle.uc_ops.specs.Typing.{Suits, Valid, type_at, types_at};
+ghost use Rattle.uc_ops.specs.Typing.{AllValid, Suits, Valid, type_at, type_of, types_at};
 ghost use Rattle.uc_ops.specs.Meaning.{apply};
 ghost use Rattle.uc_ops.specs.declared.model.Model.{Model};
-ghost use Rattle.uc_terms.specs.Tables.{WellTyped, NoTwoEqual, Makes, Adds, HasOp, parts_at};
+ghost use Rattle.uc_terms.specs.Tables.{WellTyped, NoTwoEqual, Makes, Adds, HasOp, node_of, parts_at};
 ghost use Rattle.uc_terms.specs.Values.{value, values_at};
 ghost use Rattle.uc_terms.specs.Laws.{KeepsValues};
 
 use indexmap::IndexSet;
 use std::alloc::{AllocError, Global};
 use std::marker::Model;
-use uc_items::Items;
+use uc_items::{Items, beside};
 use uc_ops::{Node, Op, TermId, result_type};
 use uc_values::Ty;
 
@@ -86,12 +86,8 @@ impl Terms {
         ensures kept { KeepsValues self.old self.new }
         ensures err { OnErr result (self.new ≡ self.old) }
     {
-        if self.nodes.len() >= u32::MAX as usize {
-            return Err(AllocError);
-        }
-        let ty = result_type(alloc, self.nodes.as_slice(), &op, parts)?;
-        let parts = Items::from_slice(alloc, parts)?;
-        let (place, _) = self.nodes.insert_full(Node { op, parts, ty })?;
+        let node = new_node(alloc, self.nodes.as_slice(), op, parts)?;
+        let (place, _) = self.nodes.insert_full(node)?;
         Ok(TermId::new(place as u32))
     }
 
@@ -121,4 +117,36 @@ impl Terms {
     {
         &self.node(t.index()).ty
     }
+}
+
+/// The node of an operation on parts that suit it, where a table has room for one more.
+fn new_node(alloc: Global, nodes: &[Node], op: Op, parts: &[TermId]) -> Result<Node, AllocError>
+    requires suits { Suits op (types_at nodes.now parts.now) }
+    requires valid { AllValid (types_at nodes.now parts.now) }
+    ensures node { IfOk result (λ node. node ≡ node_of nodes.now op parts.now) }
+    ensures room { IfOk result (λ _. length nodes.now + 1 < 2 ^ 32) }
+{
+    let found = type_and_parts(alloc, nodes, &op, parts);
+    let (op, (ty, parts)) = beside(op, found)?;
+    Ok(Node { op, parts, ty })
+}
+
+/// The type of an operation on parts that suit it, and the parts, where a table has room for one more.
+fn type_and_parts(
+    alloc: Global,
+    nodes: &[Node],
+    op: &Op,
+    parts: &[TermId],
+) -> Result<(Ty, Items<TermId>), AllocError>
+    requires suits { Suits op.now (types_at nodes.now parts.now) }
+    requires valid { AllValid (types_at nodes.now parts.now) }
+    ensures ty { IfOk result (λ found. found.0 ≡ type_of op.now (types_at nodes.now parts.now)) }
+    ensures parts { IfOk result (λ found. found.1 ≡ parts.now) }
+    ensures room { IfOk result (λ _. length nodes.now + 1 < 2 ^ 32) }
+{
+    if nodes.len() >= u32::MAX as usize {
+        return Err(AllocError);
+    }
+    let ty = result_type(alloc, nodes, op, parts)?;
+    beside(ty, Items::from_slice(alloc, parts))
 }

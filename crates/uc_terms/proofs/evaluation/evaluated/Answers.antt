@@ -1,7 +1,7 @@
-use Rattle.std.proofs.Common.{◌≡◌, ◌<◌, ◌≤◌, length, false, sym, ◌∙◌, arith}
+use Rattle.std.proofs.Common.{◌<◌, length, false, sym, ◌∙◌, arith}
 use Rattle.std.proofs.lemmas.List.{get_or_read}
 use Rattle.uc_terms.specs.Subterms.{Marked}
-use Rattle.uc_terms.proofs.Evaluating.{parts_known, met_in_one, Evaluating-end}
+use Rattle.uc_terms.proofs.Evaluating.{parts_known, Evaluating-end}
 use Rattle.uc_terms.proofs.evaluation.evaluated.Goals as goal
 
 pub value_at-requires-clause-given : goal.value_at-requires-clause-given

@@ -1,4 +1,4 @@
-use Rattle.std.proofs.Common.{arith, ◌≡◌, ◌<◌, ◌≤◌, length, get_or, sym, ap, ◌∙◌, subst, All, take}
+use Rattle.std.proofs.Common.{◌<◌, sym, subst, All}
 use Rattle.std.proofs.lemmas.List.{take_all}
 use Rattle.uc_terms.proofs.Walk.{bounded-next}
 use Rattle.uc_terms.proofs.marks.span.Goals as goal

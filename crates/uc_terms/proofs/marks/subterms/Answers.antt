@@ -1,6 +1,5 @@
-use Rattle.std.proofs.Common.{rules, ◌≡◌, ◌<◌, ◌≤◌, ◌+◌, ◌-◌, replicate, length, false, true, Bool, List, slice_set, slice_index_or, sym, ap, ◌∙◌, arith, subst, All, get_or}
+use Rattle.std.proofs.Common.{rules, ◌≡◌, ◌<◌, ◌≤◌, ◌+◌, ◌-◌, replicate, length, false, sym, ◌∙◌, arith, subst, All}
 use Rattle.std.proofs.lemmas.List.{length-replicate, get_or_read}
-use Rattle.uc_terms.specs.Tables.{parts_at}
 use Rattle.uc_terms.specs.Subterms.{Marked}
 use Rattle.uc_terms.specs.Marks.{MarksMore}
 use Rattle.uc_terms.proofs.Grown.{parts-node}
