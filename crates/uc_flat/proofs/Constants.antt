@@ -1,5 +1,5 @@
 -- Code under models that agree on the constants and functions that it reads.
-use Rattle.std.proofs.Common.{◌≡◌, ℕ, ◌<◌, List, [], ◌∷◌, ◌++◌, length, map, refl, sym, ap, ◌∙◌, subst, slice_get, slice_set}
+use Rattle.std.proofs.Common.{◌≡◌, ℕ, ◌<◌, List, [], ◌∷◌, ◌++◌, map, refl, sym, ap, ◌∙◌, subst, slice_get, slice_set}
 use Rattle.std.specs.Prelude.{not, ◌&&◌, All, Contains}
 use Rattle.std.specs.Option.{option_map}
 use Rattle.std.proofs.lemmas.List.Elements.{All-head, All-tail}
@@ -28,9 +28,6 @@ use Rattle.uc_flat.specs.Reading.{read, value_of, is_true}
 use Rattle.uc_flat.specs.Drawn.{Drawn, listed_if, go, drawn, in_order, arm, other_arm, either_arm}
 use Rattle.uc_flat.specs.Fine.{IsWithin, itself, deeper, ReadsBelow, CodeReadsBelow}
 use Rattle.uc_flat.specs.Laws.{AgreeBelow}
-use Rattle.uc_flat.specs.declared.flat.Flat.{Flat}
-use Rattle.uc_flat.specs.declared.flat.Further.{Further}
-use Rattle.uc_flat.specs.Flats.{cell_types, IsFurther}
 use Rattle.uc_flat.specs.Unrolled.{widened}
 use Rattle.uc_flat.proofs.Forms.{read_cell, read_apply, types_in, values_in, go_assign, go_havoc, go_assume, go_assert, go_if}
 use Rattle.uc_flat.proofs.Inside.{contains_first, contains_later, reads_part, reads_within, one_inside, one_of, rest_of, first_of, second_of}
@@ -111,16 +108,15 @@ pub same_value : (n : ℕ) (m m' : Model) (types : List Ty) (cells : List Value)
 same_value n m m' types cells a e h = ap (λ (v : TypedValue). v.value) (same_read n m m' types cells a e h)
 
 -- further cells begin with the same values
-pub same_widened : (f : Flat) (n : ℕ) (m m' : Model) (cells : List Value) (further : List Further) → n ≡ length f.constants → AgreeBelow n m m' → All (IsFurther f) further
-    → widened m (cell_types f) further cells ≡ widened m' (cell_types f) further cells
-same_widened f n m m' cells further e a h = ap (λ vs. cells ++ vs) (each further h)
+pub same_widened : (n : ℕ) (m m' : Model) (types : List Ty) (cells : List Value) (further : List Expression) → AgreeBelow n m m' → All (ReadsBelow n) further
+    → widened m types further cells ≡ widened m' types further cells
+same_widened n m m' types cells further a h = ap (λ vs. cells ++ vs) (each further h)
   where
-    each : (cs : List Further) → All (IsFurther f) cs → map (λ (c : Further). value_of m (cell_types f) cells c.first) cs ≡ map (λ (c : Further). value_of m' (cell_types f) cells c.first) cs
+    each : (es : List Expression) → All (ReadsBelow n) es → map (value_of m types cells) es ≡ map (value_of m' types cells) es
     each [] g = refl
-    each (c ∷ cs) g =
-        ap (λ v. v ∷ map (λ (x : Further). value_of m (cell_types f) cells x.first) cs)
-        (same_value n m m' (cell_types f) cells a c.first (subst (λ k. ReadsBelow k c.first) (sym e) (All-head (IsFurther f) c cs g).reads))
-        ∙ ap (λ vs. value_of m' (cell_types f) cells c.first ∷ vs) (each cs (All-tail (IsFurther f) c cs g))
+    each (e ∷ es) g =
+        ap (λ v. v ∷ map (value_of m types cells) es) (same_value n m m' types cells a e (All-head (ReadsBelow n) e es g))
+        ∙ ap (λ vs. value_of m' types cells e ∷ vs) (each es (All-tail (ReadsBelow n) e es g))
 
 abbrev Does : ℕ → Model → Model → List Ty → List Value → Statement → Type 0
 Does n m m' types frees x = CodeReadsBelow n (x ∷ []) → (r : Drawn) → go m types frees x r ≡ go m' types frees x r

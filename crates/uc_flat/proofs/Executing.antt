@@ -126,7 +126,7 @@ initial_found f m first cells choices sites s c l i =
     let values = free_values-are n.symbols types i.firsts first i.begins (front_stands n.symbols first i.firsts w.frees stands) in
     let start = wider n types f.further (begun n.symbols types first) in
     let begins : start.cells ≡ widened m types f.further i.firsts =
-    ap (widened n types f.further) values ∙ sym (same_widened f (length f.constants) m n i.firsts f.further refl below s.further) in
+    ap (widened n types f.further) values ∙ sym (same_widened (length f.constants) m n types i.firsts f.further below s.further_reads) in
     let later_stands = back_stands n.symbols first (first + length types) i.firsts w.frees (omega (arith, fit_length types i.firsts i.begins)) stands in
     let goes = w.ways n.symbols start later_stands begins refl refl in
     let same = same_drawn (length f.constants) m n (init_types f) f.init n.symbols start s.init_reads below in

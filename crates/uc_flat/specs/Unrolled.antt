@@ -7,7 +7,7 @@ use Rattle.uc_values.specs.Values.{truth_of}
 use Rattle.uc_ops.specs.declared.model.Model.{Model}
 use Rattle.uc_flat.specs.declared.statement.Statement.{Statement}
 use Rattle.uc_flat.specs.declared.flat.Flat.{Flat}
-use Rattle.uc_flat.specs.declared.flat.Further.{Further}
+use Rattle.uc_flat.specs.declared.expression.Expression.{Expression}
 use Rattle.uc_flat.specs.declared.flat.Formula.{Formula}
 use Rattle.uc_flat.specs.Reading.{value_of}
 use Rattle.uc_flat.specs.Drawn.{Drawn, free, drawn}
@@ -30,10 +30,10 @@ begun frees types n = record {
 }
 
 -- the cells, and behind them the further ones as they begin
-abbrev pub widened : Model → List Ty → List Further → List Value → List Value
-widened m types further cells = cells ++ map (λ c. value_of m types cells c.first) further
+abbrev pub widened : Model → List Ty → List Expression → List Value → List Value
+widened m types further cells = cells ++ map (value_of m types cells) further
 
-abbrev pub wider : Model → List Ty → List Further → Drawn → Drawn
+abbrev pub wider : Model → List Ty → List Expression → Drawn → Drawn
 wider m types further r = record { cells = widened m types further r.cells; goes = r.goes; taken = r.taken; chosen = r.chosen; sites = r.sites; next = r.next }
 
 -- the first n cells alone
@@ -41,7 +41,7 @@ abbrev pub narrower : ℕ → Drawn → Drawn
 narrower n r = record { cells = take n r.cells; goes = r.goes; taken = r.taken; chosen = r.chosen; sites = r.sites; next = r.next }
 
 -- The state after the init code, which runs over the cells and the further ones, in one list; n is the number of the first free value.
-unfoldable pub started : Model → List Ty → List Further → List Statement → ℕ → Drawn
+unfoldable pub started : Model → List Ty → List Expression → List Statement → ℕ → Drawn
 started m types further init n = narrower (length types) (drawn m (wider_types types further) m.symbols init (wider m types further (begun m.symbols types n)))
 
 -- a step begins with the old cells, and with the same values as new cells

@@ -1,7 +1,7 @@
 //! A design over numbered cells.
 
 ghost use Rattle.std.specs.Prelude.{◌≡◌, ◌++◌, IfOk};
-ghost use Rattle.uc_flat.specs.Flats.{cell_types, wider_types, repeated};
+ghost use Rattle.uc_flat.specs.Flats.{cell_types, repeated};
 
 use crate::expression::Expression;
 use crate::statement::Statement;
@@ -15,13 +15,6 @@ pub struct Cell {
     pub path: Items<u32>,
     pub name: u32,
     pub ty: Ty,
-}
-
-/// A cell that only the init code has: its type, and what it begins with, over the cells of the state.
-#[derive(Drop)]
-pub struct Further {
-    pub ty: Ty,
-    pub first: Expression,
 }
 
 #[derive(Drop)]
@@ -60,8 +53,8 @@ pub struct Flat {
     pub cells: Items<Cell>,
     pub constants: Items<Constant>,
     pub functions: Items<Function>,
-    /// Cells that only the init code has, behind the others.
-    pub further: Items<Further>,
+    /// What further cells begin with, over the cells: only the init code has them, behind the others.
+    pub further: Items<Expression>,
     /// All init code, over the cells and the further ones.
     pub init: Items<Statement>,
     /// A step's code, over the old cells and, after them, the new cells. What is read of a new cell is written before.
@@ -91,21 +84,6 @@ fn copy_types(alloc: Global, types: &[Ty]) -> Result<Items<Ty>, AllocError>
     let mut all = Items::new(alloc);
     for ty in types {
         all.push(copy_ty(alloc, ty)?)?;
-    }
-    Ok(all)
-}
-
-/// The types of the cells that the init code has: those of the state, and those of the further ones.
-pub fn wider_types(
-    alloc: Global,
-    types: &[Ty],
-    further: &[Further],
-) -> Result<Items<Ty>, AllocError>
-    ensures { IfOk result (λ all. all ≡ wider_types types.now further.now) }
-{
-    let mut all = copy_types(alloc, types)?;
-    for cell in further {
-        all.push(copy_ty(alloc, &cell.ty)?)?;
     }
     Ok(all)
 }

@@ -8,8 +8,7 @@ mod statement;
 
 pub use expression::Expression;
 pub use flat::{
-    Cell, Constant, Flat, Formula, Function, Further, Site, repeat_types, twice_types,
-    types_of_cells, wider_types,
+    Cell, Constant, Flat, Formula, Function, Site, repeat_types, twice_types, types_of_cells,
 };
 pub use laws::{
     allows_order, code_runs, code_runs_on, counts_values, extends, initial_states,
