@@ -48,7 +48,7 @@ pub fn sym_expression(
 /// A term for each of the expressions.
 #[cycle(sym_expression)]
 #[tactic(auto, using(crate::proofs::Grown::grows_on))]
-fn sym_parts(
+pub(crate) fn sym_parts(
     terms: &mut Terms,
     alloc: Global,
     types: &[Ty],
