@@ -17,6 +17,7 @@ use Rattle.uc_terms.specs.Values.{value}
 use Rattle.uc_flat.specs.declared.expression.Expression.{Expression}
 use Rattle.uc_flat.specs.declared.statement.Statement.{Statement}
 use Rattle.uc_flat.specs.Reading.{type_of}
+use Rattle.uc_flat.specs.Fine.{AreFine}
 use Rattle.uc_flat.specs.Flats.{wider_types}
 use Rattle.uc_flat.specs.Drawn.{Drawn, drawn, free, listed_if}
 use Rattle.uc_symstep.specs.declared.state.Choice.{Choice}
@@ -24,7 +25,7 @@ use Rattle.uc_symstep.specs.declared.state.Hit.{Hit}
 use Rattle.uc_symstep.specs.declared.state.Symbolic.{Symbolic}
 use Rattle.uc_symstep.specs.declared.state.SymState.{SymState}
 use Rattle.uc_symstep.specs.Growing.{Grows, IsTerm, AreCells}
-use Rattle.uc_symstep.specs.Stands.{stands, holds, choice_in, hit_in, IsTruth, IsChoice, IsHit, Follows, IsSymbol}
+use Rattle.uc_symstep.specs.Stands.{stands, holds, choice_in, hit_in, IsTruth, IsChoice, IsHit, IsState, Follows, IsSymbol}
 use Rattle.uc_flat.specs.Unrolled.{free_values, begun, wider, started, doubled, stepped}
 use Rattle.uc_symstep.specs.Unrolled.{Begins, BeginsWide, Doubles, shows, StartsAs, StepsAs}
 use Rattle.uc_flat.proofs.Choosing.{code_chooses}
@@ -99,11 +100,21 @@ begins_wide old mid new types further n d t f g = record {
 pub wide_is : (nodes : List Node) (types wide ts : List Ty) (further : List Expression) (cells own : List ℕ) → AreCells nodes (wider_types types further) cells → own ≡ cells → ts ≡ map (type_at nodes) own → wide ≡ ts → wide ≡ wider_types types further
 wide_is nodes types wide ts further cells own a o t w = w ∙ t ∙ ap (map (type_at nodes)) o ∙ a.typed
 
+pub wide_state : (nodes : List Node) (types wide ts : List Ty) (further : List Expression) (own : List ℕ) (d : Symbolic) → IsState nodes (wider_types types further) d → own ≡ d.cells → ts ≡ map (type_at nodes) own → wide ≡ ts → IsState nodes wide d
+wide_state nodes types wide ts further own d h o t w = subst (λ us. IsState nodes us d) (sym (wide_is nodes types wide ts further d.cells own h.cells o t w)) h
+
+pub wide_fine : (nodes : List Node) (types wide ts : List Ty) (further : List Expression) (own : List ℕ) (d : Symbolic) (init : List Statement) → IsState nodes (wider_types types further) d → own ≡ d.cells → ts ≡ map (type_at nodes) own → wide ≡ ts
+    → AreFine (wider_types types further) init → AreFine wide init
+wide_fine nodes types wide ts further own d init h o t w fine = subst (λ us. AreFine us init) (sym (wide_is nodes types wide ts further d.cells own h.cells o t w)) fine
+
+pub own_there : (nodes : List Node) (types : List Ty) (own cells : List ℕ) → AreCells nodes types cells → own ≡ cells → All (λ t. t < length nodes) own
+own_there nodes types own cells a o = subst (All (λ t. t < length nodes)) (sym o) a.there
+
 take-seam : {A : Type 0} (xs ys : List A) → take (length xs) (xs ++ ys) ≡ xs
 take-seam xs ys = take-append-le (length xs) xs ys (le_refl (length xs)) ∙ take_all (length xs) xs (le_refl (length xs))
 
-pub long_front : (nodes : List Node) (types wide : List Ty) (further : List Expression) (cells : List ℕ) → AreCells nodes wide cells → wide ≡ wider_types types further → length types ≤ length cells
-long_front nodes types wide further cells a i = omega (arith, length-map cells (type_at nodes), ap length a.typed, ap length i, length-append types (map (type_of types) further))
+pub long_front : (nodes : List Node) (types wide : List Ty) (further : List Expression) (cells xs : List ℕ) → AreCells nodes wide cells → wide ≡ wider_types types further → xs ≡ cells → length types ≤ length xs
+long_front nodes types wide further cells xs a i x = omega (arith, length-map cells (type_at nodes), ap length a.typed, ap length i, length-append types (map (type_of types) further), ap length x)
 
 front_cells : (nodes : List Node) (types wide : List Ty) (further : List Expression) (cells : List ℕ) → AreCells nodes wide cells → wide ≡ wider_types types further → AreCells nodes types (take (length types) cells)
 front_cells nodes types wide further cells a i = record {

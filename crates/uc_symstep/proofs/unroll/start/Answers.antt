@@ -1,33 +1,24 @@
-use Rattle.std.proofs.Common.{◌<◌, length, List, ℕ, sym, subst, ◌≤◌}
-use Rattle.std.specs.Prelude.{All}
-use Rattle.uc_values.specs.declared.ty.Ty.{Ty}
-use Rattle.uc_flat.specs.Fine.{AreFine}
-use Rattle.uc_symstep.specs.Stands.{IsState}
-use Rattle.uc_symstep.proofs.Steps.{wide_is, starts_as, long_front}
+use Rattle.uc_symstep.proofs.Steps.{wide_is, wide_state, wide_fine, own_there, starts_as, long_front}
 use Rattle.uc_symstep.proofs.Known.{started_known}
 use Rattle.uc_symstep.proofs.Grown.{grows_on}
 use Rattle.uc_symstep.proofs.unroll.start.Goals as goal
 
 pub types_of_terms-requires : goal.types_of_terms-requires
-types_of_terms-requires c = subst (λ (ts : List ℕ). All (λ t. t < length _) ts) (sym c.as_slice.ensures) c.in_ok-first.ensures.ok.state.cells.there
+types_of_terms-requires c = own_there _ _ _ _ c.in_ok-first.ensures.ok.state.cells c.as_slice.ensures
 
 pub sym_code-requires-clause-state : goal.sym_code-requires-clause-state
-sym_code-requires-clause-state c =
-    subst (λ (ts : List Ty). IsState _ ts _) (sym (wide_is _ _ _ _ _ _ _ c.in_ok-first.ensures.ok.state.cells c.as_slice.ensures c.in_ok-wide_types.ensures c.as_slice-2.ensures)) c.in_ok-first.ensures.ok.state
+sym_code-requires-clause-state c = wide_state _ _ _ _ _ _ _ c.in_ok-first.ensures.ok.state c.as_slice.ensures c.in_ok-wide_types.ensures c.as_slice-2.ensures
 
 pub sym_code-requires-clause-fine : goal.sym_code-requires-clause-fine
-sym_code-requires-clause-fine c =
-    subst (λ (ts : List Ty). AreFine ts _) (sym (wide_is _ _ _ _ _ _ _ c.in_ok-first.ensures.ok.state.cells c.as_slice.ensures c.in_ok-wide_types.ensures c.as_slice-2.ensures)) c.requires.fine
+sym_code-requires-clause-fine c = wide_fine _ _ _ _ _ _ _ _ c.in_ok-first.ensures.ok.state c.as_slice.ensures c.in_ok-wide_types.ensures c.as_slice-2.ensures c.requires.fine
 
 pub first_part-requires : goal.first_part-requires
-first_part-requires c =
-    subst (λ (xs : List ℕ). length c.args.types.now ≤ length xs) (sym c.as_slice-3.ensures)
-    (long_front _ c.args.types.now _ _ _ c.in_ok-last.ensures.ok.state.cells (wide_is _ _ _ _ _ _ _ c.in_ok-first.ensures.ok.state.cells c.as_slice.ensures c.in_ok-wide_types.ensures c.as_slice-2.ensures))
+first_part-requires c = long_front _ _ _ _ _ _ c.in_ok-last.ensures.ok.state.cells (wide_is _ _ _ _ _ _ _ c.in_ok-first.ensures.ok.state.cells c.as_slice.ensures c.in_ok-wide_types.ensures c.as_slice-2.ensures) c.as_slice-3.ensures
 
 pub returns-clause-ok : goal.returns-clause-ok
 returns-clause-ok c =
-    starts_as _ _ _ _ _ _ _ _ _ _ _ _ (wide_is _ _ _ _ _ _ _ c.in_ok-first.ensures.ok.state.cells c.as_slice.ensures c.in_ok-wide_types.ensures c.as_slice-2.ensures)
-    c.in_ok-first.ensures.ok c.in_ok-last.ensures.ok c.as_slice-3.ensures c.in_ok-cells.ensures
+    starts_as _ _ _ _ _ _ _ _ _ _ _ _ (wide_is _ _ _ _ _ _ _ c.in_ok-first.ensures.ok.state.cells c.as_slice.ensures c.in_ok-wide_types.ensures c.as_slice-2.ensures) c.in_ok-first.ensures.ok c.in_ok-last.ensures.ok c.as_slice-3.ensures
+    c.in_ok-cells.ensures
 
 pub returns-clause-known : goal.returns-clause-known
 returns-clause-known c = λ supply more reads l.

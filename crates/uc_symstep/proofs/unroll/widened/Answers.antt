@@ -1,4 +1,4 @@
-use Rattle.std.proofs.Common.{subst, sym, List, ℕ}
+use Rattle.std.proofs.Common.{subst, sym}
 use Rattle.std.specs.Prelude.{All}
 use Rattle.uc_symstep.specs.Growing.{AreCells}
 use Rattle.uc_symstep.specs.Known.{IsKnown}
@@ -7,7 +7,7 @@ use Rattle.uc_symstep.proofs.Known.{widened_known}
 use Rattle.uc_symstep.proofs.unroll.widened.Goals as goal
 
 pub sym_parts-requires-clause-cells : goal.sym_parts-requires-clause-cells
-sym_parts-requires-clause-cells c = subst (λ (ts : List ℕ). AreCells _ _ ts) (sym c.as_slice.ensures) c.requires.state.cells
+sym_parts-requires-clause-cells c = subst (AreCells _ _) (sym c.as_slice.ensures) c.requires.state.cells
 
 pub returns-clause-ok : goal.returns-clause-ok
 returns-clause-ok c = widened_follows _ _ c.args.types.now c.args.further.now c.args.s _ _ _ c.requires.state c.as_slice.ensures c.in_ok-more.ensures.ok c.in_ok-append.ensures
@@ -15,4 +15,4 @@ returns-clause-ok c = widened_follows _ _ c.args.types.now c.args.further.now c.
 pub returns-clause-known : goal.returns-clause-known
 returns-clause-known c = λ supply reads h.
     widened_known supply _ _ c.args.s _ _ c.in_ok-more.ensures.grown c.in_ok-append.ensures
-    (c.in_ok-more.ensures.known supply reads (subst (λ (ts : List ℕ). All (IsKnown supply _) ts) (sym c.as_slice.ensures) h.cells)) h
+    (c.in_ok-more.ensures.known supply reads (subst (All (IsKnown supply _)) (sym c.as_slice.ensures) h.cells)) h
