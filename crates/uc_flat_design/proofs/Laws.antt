@@ -171,8 +171,8 @@ module _ (system : System) (code : Module) (f : Flat) (i : Interp) (m : Model) (
           last = s.cells;
           begins = subst (λ ts. FitAll ts first) (sym (flat_types system code f d)) fit;
           all = whole choices n;
-          reaches = all_kept s.cells (subst (FitAll (types_of system)) (sym (ap (λ (q : State). q.cells) same)) at.fit);
           ends = same_init [] first left ∙ a.1 ∙ ap Some (at.flat ∙ ap (placed [] at.cells) none) ∙ ap (λ (q : State). Some (placed [] q.cells [])) (sym same);
+          reaches = all_kept s.cells (subst (FitAll (types_of system)) (sym (ap (λ (q : State). q.cells) same)) at.fit);
         };
       }
 
