@@ -18,7 +18,7 @@ use Rattle.uc_flat.specs.declared.statement.Statement.{Statement}
 use Rattle.uc_flat.specs.declared.flat.Flat.{Flat}
 use Rattle.uc_flat.specs.declared.flat.Formula.{Formula}
 use Rattle.uc_flat.specs.Fine.{ReadsBelow, CodeReadsBelow}
-use Rattle.uc_flat.specs.Flats.{cell_types, IsSound, IsFormula}
+use Rattle.uc_flat.specs.Flats.{cell_types, init_types, IsSound, IsFormula}
 use Rattle.uc_symstep.specs.declared.state.SymState.{SymState}
 use Rattle.uc_symstep.specs.Growing.{Grows}
 use Rattle.uc_symstep.specs.Unrolled.{IsSeen}
