@@ -99,11 +99,7 @@ fn begin_wide(
 }
 
 /// The types of terms.
-fn types_of_terms(
-    terms: &Terms,
-    alloc: Global,
-    cells: &[TermId],
-) -> Result<Items<Ty>, AllocError>
+fn types_of_terms(terms: &Terms, alloc: Global, cells: &[TermId]) -> Result<Items<Ty>, AllocError>
     requires { All (λ t. t < length terms.now) cells.now }
     ensures { IfOk result (λ types. types ≡ map (type_at terms.now) cells.now) }
 {
