@@ -1,0 +1,4 @@
+pub mod Told
+pub mod Walking
+pub mod Copies
+pub mod Executed

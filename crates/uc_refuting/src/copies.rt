@@ -1,0 +1,192 @@
+//! Copies of executions that are judged at their last position.
+
+ghost use Rattle.std.specs.Prelude.{◌≡◌, ℕ, ◌+◌, ◌<◌, ◌&&◌, length, map, IfOk};
+ghost use Rattle.std.specs.Bool.{Decides};
+ghost use Rattle.std.specs.List.{All};
+ghost use Rattle.std.specs.Option.{option_copied};
+ghost use Rattle.uc_meaning.specs.Cells.{cells_of};
+ghost use Rattle.uc_meaning.specs.Runs.{AreCopies};
+ghost use Rattle.uc_meaning.specs.Lines.{FailsAt, FailsAfter, FailsInduction};
+ghost use Rattle.uc_refuting.specs.declared.walk.Beginning.TheVariants.{Initial, Anywhere};
+ghost use Rattle.uc_refuting.specs.Tellings.{Tells, OfEach};
+ghost use Rattle.uc_refuting.specs.Walks.{Lists, ListsAsked, CopyTells, AreStates};
+ghost use Rattle.uc_refuting.specs.Answers.{CopiesAnswer, WalkAnswer};
+ghost use Rattle.uc_refuting.specs.Sites.{site_asked};
+ghost use Rattle.uc_refuting.specs.Refutations.{CopiesTell, SubjectTells, EndTells, AfterTells, InductionTells, AgreeAt};
+
+use crate::positions::{hyperaxioms_agree, hyperinvariants_agree, invariants_agree};
+use crate::sites::site_of;
+use crate::walk::{Beginning, Walk, copy_lists};
+use std::alloc::Global;
+use uc_instances::cell_types;
+use uc_items::Items;
+use uc_layout::Layout;
+use uc_meaning::{Choices, Interp, Line, State, What};
+use uc_operators::EvalError;
+use uc_trace_checks::is_false_at;
+
+/// Whether copies are runs of so many steps, in step, at whose last position the subject of a line fails.
+pub(crate) fn fails_after(
+    alloc: Global,
+    layout: &Layout,
+    interp: &Interp,
+    line: &Line,
+    steps: u32,
+    copies: &[Items<(State, Choices)>],
+) -> Result<bool, EvalError>
+    ensures value { IfOk result (λ b. Decides b (FailsAfter layout.now line.now steps interp.now copies.now)) }
+    ensures wide { Tells (AfterTells layout.now line.now steps interp.now copies.now) result }
+{
+    let begin = Beginning::Initial;
+    let listed = copies_list(alloc, layout, interp, begin, line, steps, copies)?;
+    match listed {
+        Some(listed) => end_fails(alloc, layout, interp, begin, line, steps, copies, listed),
+        None => Ok(false),
+    }
+}
+
+/// Whether copies are linked states in which the invariants hold up to the last one, where the subject of a line fails.
+pub(crate) fn fails_induction(
+    alloc: Global,
+    layout: &Layout,
+    interp: &Interp,
+    line: &Line,
+    steps: u32,
+    copies: &[Items<(State, Choices)>],
+) -> Result<bool, EvalError>
+    ensures value { IfOk result (λ b. Decides b (FailsInduction layout.now line.now steps interp.now copies.now)) }
+    ensures wide { Tells (InductionTells layout.now line.now steps interp.now copies.now) result }
+{
+    let begin = Beginning::Anywhere;
+    let listed = copies_list(alloc, layout, interp, begin, line, steps, copies)?;
+    let Some(listed) = listed else {
+        return Ok(false);
+    };
+    let hold = invariants_agree(alloc, layout, interp, copies, steps)?;
+    if !hold {
+        return Ok(false);
+    }
+    let agree = hyperinvariants_agree(alloc, layout, interp, line.arity, copies, steps)?;
+    if !agree {
+        return Ok(false);
+    }
+    end_fails(alloc, layout, interp, begin, line, steps, copies, listed)
+}
+
+/// Whether copies are as many and as long as they must be, and the states of each are linked; and then whether the last step of each lists
+/// the site that a line judges.
+fn copies_list(
+    alloc: Global,
+    layout: &Layout,
+    interp: &Interp,
+    beginning: Beginning,
+    line: &Line,
+    steps: u32,
+    copies: &[Items<(State, Choices)>],
+) -> Result<Option<bool>, EvalError>
+    ensures value { IfOk result (λ o. WalkAnswer beginning layout.now interp.now line.now steps copies.now o) }
+    ensures wide { Tells (CopiesTell beginning layout.now interp.now line.now.arity steps copies.now) result }
+{
+    if !are_copies(copies, line.arity, steps) {
+        return Ok(None);
+    }
+    let types = cell_types(alloc, layout.tables())?;
+    let walk = Walk {
+        layout,
+        types: types.as_slice(),
+        interp,
+        beginning,
+        site: site_of(&line.what),
+    };
+    each_lists(alloc, &walk, copies)
+}
+
+fn are_copies(copies: &[Items<(State, Choices)>], number: u8, steps: u32) -> bool
+    ensures { Decides result (AreCopies number steps copies.now) }
+{
+    if copies.len() != usize::from(number) {
+        return false;
+    }
+    let count = steps as usize + 1;
+    for copy in copies {
+        if copy.len() != count {
+            return false;
+        }
+    }
+    true
+}
+
+/// Whether the states of each copy are linked; and then whether the last step of each lists the site.
+fn each_lists(
+    alloc: Global,
+    walk: &Walk<'_>,
+    copies: &[Items<(State, Choices)>],
+) -> Result<Option<bool>, EvalError>
+    requires { walk.now.types.now ≡ map (λ c. c.type) (cells_of walk.now.layout.now) }
+    ensures value { IfOk result (λ o. CopiesAnswer walk.now.beginning walk.now.layout.now walk.now.interp.now (option_copied walk.now.site) copies.now o) }
+    ensures wide { Tells (OfEach (CopyTells walk.now.beginning walk.now.layout.now walk.now.interp.now) (AreStates walk.now.beginning walk.now.layout.now walk.now.interp.now) copies.now) result }
+{
+    let mut all = true;
+    for copy in copies {
+        let listed = copy_lists(alloc, walk, copy.as_slice())?;
+        match listed {
+            Some(listed) => {
+                all = all && listed;
+            }
+            None => {
+                return Ok(None);
+            }
+        }
+    }
+    Ok(Some(all))
+}
+
+/// Whether all hyperaxioms hold at every position, and the subject of a line fails at the last, where it is known whether the last step of
+/// each copy lists the site.
+fn end_fails(
+    alloc: Global,
+    layout: &Layout,
+    interp: &Interp,
+    beginning: Beginning,
+    line: &Line,
+    steps: u32,
+    copies: &[Items<(State, Choices)>],
+    listed: bool,
+) -> Result<bool, EvalError>
+    requires { Decides listed (All (ListsAsked beginning layout.now interp.now (site_asked line.now.what)) copies.now) }
+    ensures value { IfOk result (λ b. Decides b (((k : ℕ) → k < steps + 1 → AgreeAt layout.now interp.now line.now.arity copies.now k) × FailsAt layout.now interp.now copies.now steps (Lists beginning layout.now interp.now) line.now.what)) }
+    ensures wide { Tells (EndTells layout.now line.now steps interp.now copies.now) result }
+{
+    let agree = hyperaxioms_agree(alloc, layout, interp, line.arity, copies, steps)?;
+    if !agree {
+        return Ok(false);
+    }
+    subject_fails(
+        alloc, layout, interp, beginning, &line.what, steps, copies, listed,
+    )
+}
+
+fn subject_fails(
+    alloc: Global,
+    layout: &Layout,
+    interp: &Interp,
+    beginning: Beginning,
+    what: &What,
+    steps: u32,
+    copies: &[Items<(State, Choices)>],
+    listed: bool,
+) -> Result<bool, EvalError>
+    requires { Decides listed (All (ListsAsked beginning layout.now interp.now (site_asked what.now)) copies.now) }
+    ensures value { IfOk result (λ b. Decides b (FailsAt layout.now interp.now copies.now steps (Lists beginning layout.now interp.now) what.now)) }
+    ensures wide { Tells (SubjectTells layout.now interp.now copies.now steps what.now) result }
+{
+    match what {
+        What::Formula { path, decl } => {
+            let position = steps as usize;
+            let path = path.as_slice();
+            is_false_at(alloc, layout, interp, path, *decl, copies, position)
+        }
+        What::AtSite(_) => Ok(listed),
+        What::Ensures(_) => Ok(false),
+    }
+}
