@@ -1,14 +1,13 @@
 -- Executions of a procedure of main.
-use Rattle.std.proofs.Common.{◌≡◌, ℕ, zero, suc, ◌+◌, ◌-◌, ◌<◌, ◌≤◌, ◌⊎◌, inl, inr, List, [], ◌∷◌, ◌++◌, map, length, take, drop, min, Option, Some, None, Bool, true, false, refl, ap, ◌∙◌, sym, subst, arith}
-use Rattle.std.specs.Prelude.{slice_get, Result, Ok, Err}
+use Rattle.std.proofs.Common.{◌≡◌, ℕ, zero, suc, ◌-◌, ◌≤◌, List, [], ◌∷◌, ◌++◌, map, length, take, drop, Option, Some, None, Bool, true, false, refl, ap, ◌∙◌, sym, subst, arith}
+use Rattle.std.specs.Prelude.{Result, Ok, Err, IfOk}
 use Rattle.std.specs.Bool.{Decides}
-use Rattle.std.specs.List.{All, flat_map}
-use Rattle.std.proofs.lemmas.List.{append-nil, length-map, length-drop, take_all, drop_all}
+use Rattle.std.specs.List.{flat_map}
+use Rattle.std.proofs.lemmas.List.{append-nil, length-map, length-drop, drop_all}
 use Rattle.uc_syntax.specs.declared.declaration.Procedure.{Procedure}
 use Rattle.uc_syntax.specs.declared.declaration.Module.{Module}
 use Rattle.uc_values.specs.declared.ty.Ty.{Ty}
 use Rattle.uc_values.specs.declared.value.Value.{Value}
-use Rattle.uc_meaning.specs.declared.overflow.Wide.{Wide}
 use Rattle.uc_meaning.specs.declared.scope.Interp.{Interp}
 use Rattle.uc_meaning.specs.declared.scope.Scope.{Scope}
 use Rattle.uc_meaning.specs.declared.scope.State.{State}
@@ -20,34 +19,33 @@ use Rattle.uc_meaning.specs.declared.code.CodeEnd.TheVariants.{Ended, Stopped as
 use Rattle.uc_meaning.specs.Lookup.{System, main_module}
 use Rattle.uc_meaning.specs.Types.{type_of_written}
 use Rattle.uc_meaning.specs.Cells.{as_list, FitAll}
-use Rattle.uc_meaning.specs.Code.{Ending, Goes, Stopped, Unfit, Running}
+use Rattle.uc_meaning.specs.Code.{requires_of, Ending, Goes, Stopped, Unfit, Running}
 use Rattle.uc_meaning.specs.Ends.{IsEnd}
 use Rattle.uc_meaning.specs.Runs.{Position, IsExecution}
 use Rattle.uc_meaning.specs.Lines.{BodyFails, FailsBody, FailsBodyOf, main_declarations}
 use Rattle.uc_operators.specs.declared.error.EvalError.{EvalError}
-use Rattle.uc_operators.specs.declared.error.EvalError.TheVariants.{NoMemory, Wide as TooWide}
-use Rattle.uc_executions.specs.Executions.{entry_at, body_ending}
+use Rattle.uc_trace_checks.specs.Asked.{ask_each}
+use Rattle.uc_trace_checks.specs.Formulas.{truth_asked}
+use Rattle.uc_executions.specs.Executions.{entry_at, body_ending, body_met}
 use Rattle.uc_refuting.specs.declared.bodies.Execution.{Execution}
-use Rattle.uc_refuting.specs.Tellings.{Telling, Nothing, Followed, Where, Tells}
-use Rattle.uc_refuting.specs.Refutations.{IsEntry, RequiredAt, EndsIn, ExitTells, BodyOfTells, arguments_at, choices_at}
+use Rattle.uc_refuting.specs.Tellings.{Telling, Of, Followed, Where, Tells}
+use Rattle.uc_refuting.specs.Refutations.{IsEntry, RequiredAt, EndsIn, ExitTells, BodyTells, BodyOfTells, arguments_at, choices_at}
 use Rattle.uc_refuting.specs.Bodies.{two_of, ended, FailsAtExit}
-use Rattle.uc_refuting.proofs.Told.{none_decided, same_decided, where_told}
+use Rattle.uc_refuting.proofs.Told.{none_decided, same_decided, where_none, where_told}
 
 -- ---- what is meant
 
 pub main_decls : (system : System) (m : Module) → Some m ≡ main_module system → m.decls ≡ main_declarations system
 main_decls system m is = sym (append-nil m.decls) ∙ ap (λ o. flat_map (λ (n : Module). n.decls) (as_list o)) is
 
+same_some : {A : Type 0} (p q : A) → Some p ≡ Some q → p ≡ q
+same_some p q same = cc
+
 pub two_is : (copies : List (List Position)) (e x : Position) → Some (e, x) ≡ two_of copies → copies ≡ (e ∷ (x ∷ [])) ∷ []
 two_is [] e x is = absurd (cc)
 two_is ([] ∷ copies) e x is = absurd (cc)
 two_is ((a ∷ []) ∷ copies) e x is = absurd (cc)
-two_is ((a ∷ (b ∷ [])) ∷ []) e x is =
-    let both : (e, x) ≡ (a, b) = by (e, x) (a, b) is in
-    sym (ap (λ (p : Position × Position). (p.0 ∷ (p.1 ∷ [])) ∷ []) both)
-  where
-    by : (p q : Position × Position) → Some p ≡ Some q → p ≡ q
-    by p q same = cc
+two_is ((a ∷ (b ∷ [])) ∷ []) e x is = sym (ap (λ (p : Position × Position). (p.0 ∷ (p.1 ∷ [])) ∷ []) (same_some (e, x) (a, b) is))
 two_is ((a ∷ (b ∷ [])) ∷ (c ∷ copies)) e x is = absurd (cc)
 two_is ((a ∷ (b ∷ (c ∷ ps))) ∷ copies) e x is = absurd (cc)
 
@@ -69,18 +67,6 @@ module _ (system : System) (line : Line) (i : Interp) (m : Module) (p : Procedur
   not_two_told ((a ∷ (b ∷ (c ∷ ps))) ∷ copies) is = refl
 
 -- ---- the arguments and the choices of the body
-
-pub take_min : {A : Type 0} (n : ℕ) (xs : List A) → take (min n (length xs)) xs ≡ take n xs
-take_min zero xs = ap (λ k. take k xs) (let none : min 0 (length xs) ≡ 0 = omega arith in none)
-take_min (suc n) [] = ap (λ k. take k []) (let none : min (suc n) 0 ≡ 0 = omega arith in none)
-take_min (suc n) (x ∷ xs) =
-    ap (λ k. take k (x ∷ xs)) (let one : min (suc n) (suc (length xs)) ≡ suc (min n (length xs)) = omega arith in one) ∙ ap (λ ys. x ∷ ys) (take_min n xs)
-
-pub drop_min : {A : Type 0} (n : ℕ) (xs : List A) → drop (min n (length xs)) xs ≡ drop n xs
-drop_min zero xs = ap (λ k. drop k xs) (let none : min 0 (length xs) ≡ 0 = omega arith in none)
-drop_min (suc n) [] = ap (λ k. drop k []) (let none : min (suc n) 0 ≡ 0 = omega arith in none)
-drop_min (suc n) (x ∷ xs) =
-    ap (λ k. drop k (x ∷ xs)) (let one : min (suc n) (suc (length xs)) ≡ suc (min n (length xs)) = omega arith in one) ∙ drop_min n xs
 
 fit_take : (ts : List Ty) (vs ws : List Value) → FitAll ts vs → take (length ts) (vs ++ ws) ≡ vs
 unfolding FitAll
@@ -159,6 +145,93 @@ module _ (system : System) (line : Line) (i : Interp) (m : Module) (p : Procedur
         (λ k. body_ending system m p (entry_at system m i p entry.0 (arguments_are k)) (choices_are k)) ∙ h.executes.ends in
         subst FailsThere (sym ends) (h.executes.uses_all, h.exits, h.fails)
 
+-- the same for arguments and choices that are equal to these
+module _ (system : System) (line : Line) (i : Interp) (m : Module) (p : Procedure) (entry exit : Position) (arguments choices : List Value) where
+  abbrev EndingHere : Ending
+  EndingHere = body_ending system m p (entry_at system m i p entry.0 arguments) choices
+
+  abbrev FailsHere : Type 0
+  FailsHere = FailsAtExit system p entry.0 exit.0 EndingHere line.what
+
+  -- what is told of an execution with these arguments and choices
+  abbrev pub TellsExit : Telling
+  TellsExit = Followed (Of (body_met system m p (entry_at system m i p entry.0 arguments) choices)) (EndsIn exit.0 EndingHere) (ExitTells system p entry.0 EndingHere line.what)
+
+  abbrev pub TellsRequired : Telling
+  TellsRequired = Followed (Of (ask_each (truth_asked system (entry_at system m i p entry.0 arguments)) (requires_of p)).met) (RequiredAt system m i p entry.0 arguments) TellsExit
+
+  abbrev pub TellsHere : Telling
+  TellsHere = Where (IsEntry system m p entry arguments) TellsRequired
+
+  module _ (as' : arguments ≡ arguments_at p exit) (cs : choices ≡ choices_at p exit) where
+    pub body_to : IsEntry system m p entry arguments → RequiredAt system m i p entry.0 arguments → FailsHere → FailsBody system line i m p entry exit
+    body_to e required h =
+        fails_there system line i m p entry exit (subst (IsEntry system m p entry) as' e) (subst (RequiredAt system m i p entry.0) as' required)
+        (subst (λ xs. FailsAtExit system p entry.0 exit.0 (body_ending system m p (entry_at system m i p entry.0 xs) (choices_at p exit)) line.what) as'
+        (subst (λ ys. FailsAtExit system p entry.0 exit.0 (body_ending system m p (entry_at system m i p entry.0 arguments) ys) line.what) cs h))
+
+    pub body_entry : FailsBody system line i m p entry exit → IsEntry system m p entry arguments
+    body_entry h = subst (IsEntry system m p entry) (sym as') (entry_of system line i m p entry exit h)
+
+    pub body_required : FailsBody system line i m p entry exit → RequiredAt system m i p entry.0 arguments
+    body_required h = subst (RequiredAt system m i p entry.0) (sym as') (required_of system line i m p entry exit h)
+
+    pub body_from : FailsBody system line i m p entry exit → FailsHere
+    body_from h =
+        subst (λ ys. FailsAtExit system p entry.0 exit.0 (body_ending system m p (entry_at system m i p entry.0 arguments) ys) line.what) (sym cs)
+        (subst (λ xs. FailsAtExit system p entry.0 exit.0 (body_ending system m p (entry_at system m i p entry.0 xs) (choices_at p exit)) line.what) (sym as')
+        (there_of system line i m p entry exit h))
+
+-- what is told depends on the arguments and choices alone
+pub tells_to : {A : Type 0} (system : System) (line : Line) (i : Interp) (m : Module) (p : Procedure) (entry exit : Position) (arguments choices : List Value) → arguments ≡ arguments_at p exit → choices ≡ choices_at p exit →
+    (r : Result A EvalError) → Tells (TellsHere system line i m p entry exit arguments choices) r → Tells (BodyTells system line.what i m p entry exit) r
+tells_to system line i m p entry exit arguments choices as' cs r told =
+    subst (λ xs. Tells (TellsHere system line i m p entry exit xs (choices_at p exit)) r) as'
+    (subst (λ ys. Tells (TellsHere system line i m p entry exit arguments ys) r) cs told)
+
+-- ---- the module, the procedure and the two positions
+
+module _ (system : System) (line : Line) (i : Interp) (copies : List (List Position)) where
+  pub no_main : (mo : Option Module) (po : Option Procedure) → None ≡ mo → FailsBodyOf system line i mo po copies → ⊥
+  no_main mo po is h = let none : FailsBodyOf system line i None po copies = subst (λ o. FailsBodyOf system line i o po copies) (sym is) h in none
+
+  pub no_main_told : (mo : Option Module) (po : Option Procedure) → None ≡ mo → BodyOfTells system line.what i mo po copies None
+  no_main_told mo po is = subst (λ o. BodyOfTells system line.what i o po copies None) is refl
+
+  pub no_procedure : (mo : Option Module) (po : Option Procedure) (m : Module) → Some m ≡ mo → None ≡ po → FailsBodyOf system line i mo po copies → ⊥
+  no_procedure mo po m some is h =
+      let none : FailsBodyOf system line i (Some m) None copies =
+      subst (λ o. FailsBodyOf system line i (Some m) o copies) (sym is) (subst (λ o. FailsBodyOf system line i o po copies) (sym some) h) in
+      none
+
+  pub no_procedure_told : (mo : Option Module) (po : Option Procedure) (m : Module) → Some m ≡ mo → None ≡ po → BodyOfTells system line.what i mo po copies None
+  no_procedure_told mo po m some is =
+      subst (λ o. BodyOfTells system line.what i o po copies None) some (subst (λ o. BodyOfTells system line.what i (Some m) o copies None) is refl)
+
+  module _ (mo : Option Module) (po : Option Procedure) (m : Module) (p : Procedure) (some : Some m ≡ mo) (named : Some p ≡ po) where
+    pub no_ends : None ≡ two_of copies → FailsBodyOf system line i mo po copies → ⊥
+    no_ends is h =
+        not_two system line i m p copies is
+        (subst (λ o. FailsBodyOf system line i (Some m) o copies) (sym named) (subst (λ o. FailsBodyOf system line i o po copies) (sym some) h))
+
+    pub no_ends_told : None ≡ two_of copies → BodyOfTells system line.what i mo po copies None
+    no_ends_told is =
+        subst (λ o. BodyOfTells system line.what i o po copies None) some
+        (subst (λ o. BodyOfTells system line.what i (Some m) o copies None) named (not_two_told system line i m p copies is))
+
+    module _ (e x : Position) (two : Some (e, x) ≡ two_of copies) where
+      pub body_value : {E : Type 0} (r : Result Bool E) → IfOk r (λ b. Decides b (FailsBody system line i m p e x)) → IfOk r (λ b. Decides b (FailsBodyOf system line i mo po copies))
+      body_value r h =
+          subst (λ o. IfOk r (λ b. Decides b (FailsBodyOf system line i o po copies))) some
+          (subst (λ o. IfOk r (λ b. Decides b (FailsBodyOf system line i (Some m) o copies))) named
+          (subst (λ cs. IfOk r (λ b. Decides b (FailsBodyOf system line i (Some m) (Some p) cs))) (sym (two_is copies e x two)) h))
+
+      pub body_told : {A : Type 0} (r : Result A EvalError) → Tells (BodyTells system line.what i m p e x) r → Tells (BodyOfTells system line.what i mo po copies) r
+      body_told r h =
+          subst (λ o. Tells (BodyOfTells system line.what i o po copies) r) some
+          (subst (λ o. Tells (BodyOfTells system line.what i (Some m) o copies) r) named
+          (subst (λ cs. Tells (BodyOfTells system line.what i (Some m) (Some p) cs) r) (sym (two_is copies e x two)) h))
+
 -- ---- how the program tells the end
 
 drop_none : {A : Type 0} (k : ℕ) (xs : List A) → k ≤ length xs → drop k xs ≡ [] → k ≡ length xs
@@ -214,3 +287,38 @@ module _ (e : Execution) where
           (subst (λ z. Tells (ExitTells system e.procedure.now e.entry.now (Goes z) what) r) (same_end q is) told)
       exit_told r told Stopped is = absurd is
       exit_told r told (Unfit left) is = absurd is
+
+pub at_ending : {E : Type 0} (system : System) (e : Execution) (what : What) (o : Ending) (r : Result Bool E) (end : CodeEnd) → IsEnd e.choices.now end o →
+    IfOk r (λ b. (ending : Ending) → IsEnd e.choices.now end ending → Decides b (FailsAtExit system e.procedure.now e.entry.now e.exit.now ending what)) →
+    IfOk r (λ b. Decides b (FailsAtExit system e.procedure.now e.entry.now e.exit.now o what))
+at_ending system e what o (Ok b) end is h = h o is
+at_ending system e what o (Err error) end is h = h
+
+-- ---- by what the program answered of the code
+
+module _ (e : Execution) (system : System) (what : What) (end : CodeEnd) where
+  pub not_ended : (scope : Scope) (violated : List Site) (used : ℕ) → end ≡ Ended scope violated used → ((used ≡ length e.choices.now) × (scope.before ≡ e.exit.now) → ⊥) →
+      (o : Ending) → IsEnd e.choices.now end o → Decides false (FailsAtExit system e.procedure.now e.entry.now e.exit.now o what)
+  not_ended scope violated used is no o ends =
+      none_decided (λ h. ended_not e scope violated used no o (subst (λ z. IsEnd e.choices.now z o) is ends) (exits e system what o h))
+
+  pub not_ended_told : (scope : Scope) (violated : List Site) (used : ℕ) → end ≡ Ended scope violated used → ((used ≡ length e.choices.now) × (scope.before ≡ e.exit.now) → ⊥) →
+      (o : Ending) → IsEnd e.choices.now end o → Where (EndsIn e.exit.now o) (ExitTells system e.procedure.now e.entry.now o what) None
+  not_ended_told scope violated used is no o ends =
+      where_none (EndsIn e.exit.now o) (ExitTells system e.procedure.now e.entry.now o what) (ended_not e scope violated used no o (subst (λ z. IsEnd e.choices.now z o) is ends))
+
+  pub no_end : ((scope : Scope) (violated : List Site) (used : ℕ) → end ≡ Ended scope violated used → ⊥) → (o : Ending) → IsEnd e.choices.now end o → Decides false (FailsAtExit system e.procedure.now e.entry.now e.exit.now o what)
+  no_end no o ends = none_decided (λ h. other_end e end no o ends (exits e system what o h))
+
+  pub no_end_told : ((scope : Scope) (violated : List Site) (used : ℕ) → end ≡ Ended scope violated used → ⊥) → (o : Ending) → IsEnd e.choices.now end o → Where (EndsIn e.exit.now o) (ExitTells system e.procedure.now e.entry.now o what) None
+  no_end_told no o ends = where_none (EndsIn e.exit.now o) (ExitTells system e.procedure.now e.entry.now o what) (other_end e end no o ends)
+
+  module _ (scope : Scope) (violated : List Site) (used : ℕ) (is : end ≡ Ended scope violated used) (at : (used ≡ length e.choices.now) × (scope.before ≡ e.exit.now)) where
+    pub ends_value : {E : Type 0} (r : Result Bool E) → IfOk r (λ b. Decides b (BodyFails system e.procedure.now e.entry.now (ended scope violated) what)) →
+        IfOk r (λ b. (o : Ending) → IsEnd e.choices.now end o → Decides b (FailsAtExit system e.procedure.now e.entry.now e.exit.now o what))
+    ends_value (Ok b) decided = λ o ends. exit_decided e system what scope violated used at b decided o (subst (λ z. IsEnd e.choices.now z o) is ends)
+    ends_value (Err error) decided = decided
+
+    pub ends_told : {A : Type 0} (r : Result A EvalError) → Tells (ExitTells system e.procedure.now e.entry.now (Goes (ended scope violated)) what) r →
+        (o : Ending) → IsEnd e.choices.now end o → Tells (Where (EndsIn e.exit.now o) (ExitTells system e.procedure.now e.entry.now o what)) r
+    ends_told r told o ends = exit_told e system what scope violated used at r told o (subst (λ z. IsEnd e.choices.now z o) is ends)

@@ -1,4 +1,4 @@
 pub mod Told
 pub mod Walking
-pub mod Copies
+pub mod Judging
 pub mod Executed

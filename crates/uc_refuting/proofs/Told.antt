@@ -1,6 +1,6 @@
 -- What answers tell of conditions that are asked one after another.
 use Rattle.std.proofs.Common.{◌≡◌, ℕ, zero, suc, ◌+◌, ◌-◌, ◌<◌, ◌≤◌, ◌⊎◌, inl, inr, List, [], ◌∷◌, length, drop, get_or, Option, Some, None, Bool, true, false, refl, ap, ◌∙◌, sym, subst, below_more, arith}
-use Rattle.std.specs.Prelude.{Result, Ok, Err}
+use Rattle.std.specs.Prelude.{Result, Ok, Err, IfOk}
 use Rattle.std.specs.Bool.{Decides}
 use Rattle.std.specs.List.{All}
 use Rattle.std.proofs.lemmas.List.{drop_all, drop_more}
@@ -19,8 +19,15 @@ refused b decided fails h = absurd (let clash : false ≡ true = sym fails ∙ d
 pub none_decided : {P : Type 0} → (P → ⊥) → Decides false P
 none_decided no = (λ is. absurd (let clash : false ≡ true = is in cc), λ h. absurd (no h))
 
+pub all_decided : {P : Type 0} → P → Decides true P
+all_decided h = (λ is. h, λ again. refl)
+
 pub same_decided : {P Q : Type 0} (b : Bool) → Decides b P → (P → Q) → (Q → P) → Decides b Q
 same_decided b decided to from = (λ is. to (decided.0 is), λ h. decided.1 (from h))
+
+pub if_same : {P Q E : Type 0} (r : Result Bool E) → (P → Q) → (Q → P) → IfOk r (λ b. Decides b P) → IfOk r (λ b. Decides b Q)
+if_same (Ok b) to from decided = same_decided b decided to from
+if_same (Err e) to from decided = decided
 
 -- ---- one condition and what follows
 
@@ -28,6 +35,10 @@ pub of_met : {A : Type 0} (met : List Wide) (r : Result A EvalError) → TellsWi
 of_met met (Ok x) told = told
 of_met met (Err NoMemory) told = tt
 of_met met (Err (TooWide w)) told = told
+
+pub of_err : (A : Type 0) (met : List Wide) (e : EvalError) → TellsWide {A = A} (first_wide met) (Err e) → Tells {A = A} (Of met) (Err e)
+of_err A met NoMemory told = tt
+of_err A met (TooWide w) told = told
 
 pub told_other : (A B : Type 0) (here : Telling) (e : EvalError) → Tells {A = A} here (Err e) → Tells {A = B} here (Err e)
 told_other A B here NoMemory told = tt
@@ -50,11 +61,19 @@ module _ (here : Telling) (Holds : Type 0) (next : Telling) where
   told_next (Err NoMemory) none h told = tt
   told_next (Err (TooWide w)) none h told = inr (none, h, told)
 
+pub told_err_next : (A B : Type 0) (here : Telling) (Holds : Type 0) (next : Telling) (e : EvalError) → here None → Holds → Tells {A = A} next (Err e) → Tells {A = B} (Followed here Holds next) (Err e)
+told_err_next A B here Holds next NoMemory none h told = tt
+told_err_next A B here Holds next (TooWide w) none h told = inr (none, h, told)
+
 pub where_told : {A : Type 0} (Holds : Type 0) (next : Telling) (r : Result A EvalError) → Holds → Tells next r → Tells (Where Holds next) r
 where_told Holds next r h told = told_next Nothing Holds next r refl h told
 
 pub where_none : (Holds : Type 0) (next : Telling) → (Holds → ⊥) → Where Holds next None
 where_none Holds next no = told_stop Nothing Holds next refl no
+
+pub where_err : (A B : Type 0) (Holds : Type 0) (next : Telling) (e : EvalError) → Holds → Tells {A = A} next (Err e) → Tells {A = B} (Where Holds next) (Err e)
+where_err A B Holds next NoMemory h told = tt
+where_err A B Holds next (TooWide w) h told = inr (refl, h, told)
 
 -- a condition that is asked behind other operations
 pub where_behind : {A : Type 0} (here : Telling) (Holds : Type 0) (next : Telling) (r : Result A EvalError) → here None → Tells (Where Holds next) r → Tells (Followed here Holds next) r

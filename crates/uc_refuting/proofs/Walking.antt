@@ -51,9 +51,10 @@ start_sites system i p (Ok (Some sites)) is = is
 start_sites system i p (Ok None) is = is
 start_sites system i p (Err e) is = is
 
-pub step_sites : (system : System) (i : Interp) (s new : State) (choices : List Value) (o : Option (List Site)) → IsStepAnswer system i s new choices o → AreSites (IsStep system i s new choices) o
-step_sites system i s new choices (Some sites) is = is
-step_sites system i s new choices None is = is
+pub step_answers : (system : System) (i : Interp) (s new : State) (choices : List Value) (r : Result (Option (List Site)) EvalError) → IfOk r (IsStepAnswer system i s new choices) → IfOk r (AreSites (IsStep system i s new choices))
+step_answers system i s new choices (Ok (Some sites)) is = is
+step_answers system i s new choices (Ok None) is = is
+step_answers system i s new choices (Err e) is = is
 
 pub answered : (Fits : Type 0) (Has : List Site → Type 0) (site : Option Site) (o : Option (List Site)) (r : Option Bool) → Fits → AreSites Has o → r ≡ option_map (asks_site site) o → IsAnswer (λ sites. Fits × Has sites) site r
 answered Fits Has site (Some sites) r fits has is = subst (IsAnswer (λ sites'. Fits × Has sites') site) (sym is) (sites, (fits, has), refl)

@@ -1,6 +1,6 @@
 //! Executions of procedures of main.
 
-ghost use Rattle.std.specs.Prelude.{◌≡◌, Some, length, map, slice_get, IfOk};
+ghost use Rattle.std.specs.Prelude.{◌≡◌, Some, length, map, take, drop, slice_get, IfOk};
 ghost use Rattle.std.specs.Bool.{Decides};
 ghost use Rattle.std.specs.Option.{option_copied, option_map};
 ghost use Rattle.uc_meaning.specs.Lookup.{main_module};
@@ -109,8 +109,8 @@ fn body_fails(
     ensures wide { Tells (BodyTells layout.now line.now.what interp.now code.now procedure.now ends.entry.first.now ends.entry.last.now) result }
 {
     let all = ends.last.1.as_slice();
-    let count = procedure.parameters.len().min(all.len());
-    let (arguments, choices) = all.split_at(count);
+    let arguments = arguments_in(procedure, all);
+    let choices = choices_in(procedure, all);
     let fits = is_entry(alloc, layout, code, procedure, ends.first, arguments)?;
     if !fits {
         return Ok(false);
@@ -130,6 +130,30 @@ fn body_fails(
     exit_fails(alloc, layout, interp, &execution, &line.what)
 }
 
+/// The arguments of a procedure, with which the choices at an exit begin.
+fn arguments_in<'a>(procedure: &Procedure, all: &'a [Value]) -> &'a [Value]
+    ensures { result.now ≡ take (length procedure.now.parameters) all.now }
+{
+    let count = procedure.parameters.len();
+    if count <= all.len() {
+        &all[..count]
+    } else {
+        all
+    }
+}
+
+/// The choices of the body, which follow the arguments.
+fn choices_in<'a>(procedure: &Procedure, all: &'a [Value]) -> &'a [Value]
+    ensures { result.now ≡ drop (length procedure.now.parameters) all.now }
+{
+    let count = procedure.parameters.len();
+    if count <= all.len() {
+        &all[count..]
+    } else {
+        &[]
+    }
+}
+
 /// Whether an entry has no choices, and its state and the arguments fit.
 fn is_entry(
     alloc: Global,
@@ -141,7 +165,8 @@ fn is_entry(
 ) -> Result<bool, AllocError>
     ensures { IfOk result (λ b. Decides b (IsEntry layout.now code.now procedure.now entry.now arguments.now)) }
 {
-    if !entry.1.is_empty() {
+    let free = entry.1.is_empty();
+    if !free {
         return Ok(false);
     }
     let fits = is_state(alloc, layout, &entry.0)?;
@@ -231,7 +256,8 @@ fn end_fails(
             violated,
             used,
         } => {
-            if !is_exit(execution, scope, *used) {
+            let exits = is_exit(execution, scope, *used);
+            if !exits {
                 return Ok(false);
             }
             subject_fails(alloc, layout, execution, scope, violated.as_slice(), what)
@@ -244,7 +270,11 @@ fn is_exit(execution: &Execution<'_>, scope: &Scope, used: usize) -> bool
     ensures { Decides result ((used ≡ length execution.now.choices.now) × (scope.now.before ≡ execution.now.exit.now)) }
 {
     let cells = scope.before.cells.as_slice();
-    used == execution.choices.len() && equal_all(cells, execution.exit.cells.as_slice())
+    if used == execution.choices.len() {
+        equal_all(cells, execution.exit.cells.as_slice())
+    } else {
+        false
+    }
 }
 
 /// Whether the subject fails at the exit of a body that listed some sites.

@@ -87,7 +87,8 @@ fn copies_list(
     ensures value { IfOk result (λ o. WalkAnswer beginning layout.now interp.now line.now steps copies.now o) }
     ensures wide { Tells (CopiesTell beginning layout.now interp.now line.now.arity steps copies.now) result }
 {
-    if !are_copies(copies, line.arity, steps) {
+    let fit = are_copies(copies, line.arity, steps);
+    if !fit {
         return Ok(None);
     }
     let types = cell_types(alloc, layout.tables())?;
@@ -104,9 +105,17 @@ fn copies_list(
 fn are_copies(copies: &[Items<(State, Choices)>], number: u8, steps: u32) -> bool
     ensures { Decides result (AreCopies number steps copies.now) }
 {
-    if copies.len() != usize::from(number) {
-        return false;
+    if copies.len() == usize::from(number) {
+        are_even(copies, steps)
+    } else {
+        false
     }
+}
+
+/// Whether each copy has one position more than steps.
+fn are_even(copies: &[Items<(State, Choices)>], steps: u32) -> bool
+    ensures { Decides result (All (λ run. length run ≡ steps + 1) copies.now) }
+{
     let count = steps as usize + 1;
     for copy in copies {
         if copy.len() != count {
@@ -131,7 +140,7 @@ fn each_lists(
         let listed = copy_lists(alloc, walk, copy.as_slice())?;
         match listed {
             Some(listed) => {
-                all = all && listed;
+                all = both(all, listed);
             }
             None => {
                 return Ok(None);
@@ -139,6 +148,12 @@ fn each_lists(
         }
     }
     Ok(Some(all))
+}
+
+fn both(one: bool, other: bool) -> bool
+    ensures { result ≡ (one && other) }
+{
+    one && other
 }
 
 /// Whether all hyperaxioms hold at every position, and the subject of a line fails at the last, where it is known whether the last step of

@@ -6,7 +6,8 @@ ghost use Rattle.std.specs.Option.{option_copied};
 ghost use Rattle.uc_meaning.specs.declared.scope.Site.{Site as SiteMeant};
 ghost use Rattle.uc_meaning.specs.Cells.{IsState, cells_of};
 ghost use Rattle.uc_meaning.specs.Steps.{IsStep};
-ghost use Rattle.uc_refuting.specs.Tellings.{Tells};
+ghost use Rattle.uc_overflows.specs.Checks.{step_met};
+ghost use Rattle.uc_refuting.specs.Tellings.{Tells, Of};
 ghost use Rattle.uc_refuting.specs.Walks.{Begins, BeginTells, FirstTells, StepTells, StepsTell, CopyTells, asks_site};
 ghost use Rattle.uc_refuting.specs.Answers.{IsAnswer, AreSites, StepsAnswer, CopyAnswer};
 
@@ -69,7 +70,8 @@ fn first_lists(
     ensures value { IfOk result (λ o. IsAnswer (λ sites. IsState walk.now.layout.now first.now.0 × Begins walk.now.beginning walk.now.layout.now walk.now.interp.now first.now sites) (option_copied walk.now.site) o) }
     ensures wide { Tells (FirstTells walk.now.beginning walk.now.layout.now walk.now.interp.now first.now) result }
 {
-    if !is_state(walk, &first.0) {
+    let fits = is_state(walk, &first.0);
+    if !fits {
         return Ok(None);
     }
     let sites = begins(alloc, walk, first)?;
@@ -153,17 +155,24 @@ fn step_lists(
     ensures value { IfOk result (λ o. IsAnswer (λ sites. IsState walk.now.layout.now next.now.0 × IsStep walk.now.layout.now walk.now.interp.now old.now next.now.0 next.now.1 sites) (option_copied walk.now.site) o) }
     ensures wide { Tells (StepTells walk.now.layout.now walk.now.interp.now old.now next.now) result }
 {
-    let (state, choices) = next;
-    if !is_state(walk, state) {
+    let fits = is_state(walk, &next.0);
+    if !fits {
         return Ok(None);
     }
-    let sites = step_holds(
-        alloc,
-        walk.layout,
-        walk.interp,
-        old,
-        state,
-        choices.as_slice(),
-    )?;
+    let sites = step_sites(alloc, walk, old, next)?;
     Ok(listed_in(walk.site, sites))
+}
+
+/// The sites that a step lists, if it is one.
+fn step_sites(
+    alloc: Global,
+    walk: &Walk<'_>,
+    old: &State,
+    next: &(State, Choices),
+) -> Result<Option<Items<Site>>, EvalError>
+    ensures value { IfOk result (λ o. AreSites (IsStep walk.now.layout.now walk.now.interp.now old.now next.now.0 next.now.1) o) }
+    ensures wide { Tells (Of (step_met walk.now.layout.now walk.now.interp.now old.now next.now.0 next.now.1)) result }
+{
+    let choices = next.1.as_slice();
+    step_holds(alloc, walk.layout, walk.interp, old, &next.0, choices)
 }

@@ -1,7 +1,7 @@
 use Rattle.std.specs.Option.{option_copied}
 use Rattle.uc_refuting.specs.Walks.{AreStates, CopyTells}
 use Rattle.uc_refuting.proofs.Told.{Passed}
-use Rattle.uc_refuting.proofs.Copies.{Listed}
+use Rattle.uc_refuting.proofs.Judging.{Listed}
 use Rattle.uc_refuting.proofs.copies.each_lists.Given as goal
 
 abbrev pub invariant-loop-copy : goal.invariant-loop-copy

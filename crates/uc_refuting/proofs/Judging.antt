@@ -1,5 +1,6 @@
 -- All copies of a trace, and what a line judges at their last position.
 use Rattle.std.proofs.Common.{◌≡◌, ℕ, ◌+◌, ◌<◌, ◌≤◌, List, [], ◌∷◌, map, length, drop, get_or, Option, Some, None, Bool, true, false, ◌&&◌, refl, ap, ◌∙◌, sym, subst}
+use Rattle.std.specs.Prelude.{Result, Ok, Err, IfOk}
 use Rattle.std.specs.Bool.{Decides}
 use Rattle.std.specs.List.{All}
 use Rattle.std.proofs.lemmas.List.{drop_all, drop_more}
@@ -19,8 +20,8 @@ use Rattle.uc_refuting.specs.declared.walk.Beginning.TheVariants.{Initial, Anywh
 use Rattle.uc_refuting.specs.Sites.{site_asked}
 use Rattle.uc_refuting.specs.Walks.{Lists, AreStates, ListsAsked}
 use Rattle.uc_refuting.specs.Answers.{CopyAnswer, CopiesAnswer, WalkAnswer}
-use Rattle.uc_refuting.specs.Refutations.{InvariantsBefore, HyperinvariantsAt, AgreeAt}
-use Rattle.uc_refuting.proofs.Told.{refused, none_decided, same_decided}
+use Rattle.uc_refuting.specs.Refutations.{AreWalked, InvariantsBefore, HyperinvariantsAt, AgreeAt}
+use Rattle.uc_refuting.proofs.Told.{none_decided}
 
 and_left : (a b : Bool) → (a && b) ≡ true → a ≡ true
 and_left true b is = refl
@@ -29,6 +30,9 @@ and_left false b is = is
 and_right : (a b : Bool) → (a && b) ≡ true → b ≡ true
 and_right true b is = is
 and_right false b is = absurd (let clash : false ≡ true = is in cc)
+
+pub answer_at : (beginning : Beginning) (system : System) (i : Interp) (site : Option Site) (run : List Position) (o p : Option Bool) → o ≡ p → CopyAnswer beginning system i site run o → CopyAnswer beginning system i site run p
+answer_at beginning system i site run o p same answer = subst (CopyAnswer beginning system i site run) same answer
 
 -- ---- whether each copy lists the site
 
@@ -65,6 +69,22 @@ module _ (beginning : Beginning) (system : System) (i : Interp) (site : Option S
 pub copies_decided : (n steps : ℕ) (copies : List (List Position)) → length copies ≡ n → All (λ run. length run ≡ steps + 1) copies → Decides true (AreCopies n steps copies)
 copies_decided n steps copies number even = (λ is. record { number = number; even = even }, λ h. refl)
 
+pub walk_at : (beginning : Beginning) (system : System) (i : Interp) (line : Line) (steps : ℕ) (copies : List (List Position)) (o p : Option Bool) → o ≡ p →
+    WalkAnswer beginning system i line steps copies o → WalkAnswer beginning system i line steps copies p
+walk_at beginning system i line steps copies o p same answer = subst (WalkAnswer beginning system i line steps copies) same answer
+
+pub walk_answer : {E : Type 0} (beginning : Beginning) (system : System) (i : Interp) (line : Line) (steps : ℕ) (copies : List (List Position)) (site : Option Site) → site ≡ site_asked line.what →
+    (r : Result (Option Bool) E) → AreCopies line.arity steps copies → IfOk r (CopiesAnswer beginning system i site copies) → IfOk r (WalkAnswer beginning system i line steps copies)
+walk_answer beginning system i line steps copies site same (Ok (Some b)) copied h = (copied, (h.0, subst (λ s. Decides b (All (ListsAsked beginning system i s) copies)) same h.1))
+walk_answer beginning system i line steps copies site same (Ok None) copied h = λ again all. h all
+walk_answer beginning system i line steps copies site same (Err e) copied h = h
+
+pub walked : (beginning : Beginning) (system : System) (line : Line) (steps : ℕ) (i : Interp) (copies : List (List Position)) (listed : Bool) → WalkAnswer beginning system i line steps copies (Some listed) → AreWalked beginning system i line.arity steps copies
+walked beginning system line steps i copies listed answer = (answer.0, answer.1.0)
+
+pub not_walked : (beginning : Beginning) (system : System) (line : Line) (steps : ℕ) (i : Interp) (copies : List (List Position)) → WalkAnswer beginning system i line steps copies None → AreWalked beginning system i line.arity steps copies → ⊥
+not_walked beginning system line steps i copies none h = none h.0 h.1
+
 -- ---- what a line judges
 
 pub subject_at : (beginning : Beginning) (system : System) (i : Interp) (copies : List (List Position)) (steps : ℕ) (what : What) (site : Site) (listed : Bool) → what ≡ AtSite site →
@@ -85,11 +105,11 @@ module _ (system : System) (line : Line) (steps : ℕ) (i : Interp) (copies : Li
   pub no_walk_after : WalkAnswer Initial system i line steps copies None → FailsAfter system line steps i copies → ⊥
   no_walk_after none h = none h.runs.copied h.runs.runs
 
-  pub after_decided : (b listed : Bool) → WalkAnswer Initial system i line steps copies (Some listed) → Decides b (FailsEnd Initial) → Decides b (FailsAfter system line steps i copies)
-  after_decided b listed walked decided =
-      same_decided b decided
-      (λ h. record { runs = record { copied = walked.0; runs = walked.1.0; agree = h.0 }; fails = h.1 })
-      (λ h. (h.runs.agree, h.fails))
+  pub after_to : (listed : Bool) → WalkAnswer Initial system i line steps copies (Some listed) → FailsEnd Initial → FailsAfter system line steps i copies
+  after_to listed walked h = record { runs = record { copied = walked.0; runs = walked.1.0; agree = h.0 }; fails = h.1 }
+
+  pub after_from : FailsAfter system line steps i copies → FailsEnd Initial
+  after_from h = (h.runs.agree, h.fails)
 
   -- positions first, or copies first
   each_state : (P : State → Type 0) (k : ℕ) (runs : List (List Position)) → All (λ run. P (position_at k run).0) runs → All P (states_at k runs)
@@ -120,16 +140,16 @@ module _ (system : System) (line : Line) (steps : ℕ) (i : Interp) (copies : Li
   pub no_hyperinvariants : (((k : ℕ) → k < steps → HyperinvariantsAt system i line.arity copies k) → ⊥) → FailsInduction system line steps i copies → ⊥
   no_hyperinvariants no h = no h.hyperinvariants
 
-  pub induction_decided : (b listed : Bool) → WalkAnswer Anywhere system i line steps copies (Some listed) → All (InvariantsBefore system i steps) copies →
-      ((k : ℕ) → k < steps → HyperinvariantsAt system i line.arity copies k) → Decides b (FailsEnd Anywhere) → Decides b (FailsInduction system line steps i copies)
-  induction_decided b listed walked invariants hyperinvariants decided =
-      same_decided b decided
-      (λ h. record {
-        copied = walked.0;
-        linked = walked.1.0;
-        invariants = by_positions invariants;
-        hyperinvariants = hyperinvariants;
-        hyperaxioms = h.0;
-        fails = h.1;
-      })
-      (λ h. (h.hyperaxioms, h.fails))
+  pub induction_to : (listed : Bool) → WalkAnswer Anywhere system i line steps copies (Some listed) → All (InvariantsBefore system i steps) copies →
+      ((k : ℕ) → k < steps → HyperinvariantsAt system i line.arity copies k) → FailsEnd Anywhere → FailsInduction system line steps i copies
+  induction_to listed walked invariants hyperinvariants h = record {
+    copied = walked.0;
+    linked = walked.1.0;
+    invariants = by_positions invariants;
+    hyperinvariants = hyperinvariants;
+    hyperaxioms = h.0;
+    fails = h.1;
+  }
+
+  pub induction_from : FailsInduction system line steps i copies → FailsEnd Anywhere
+  induction_from h = (h.hyperaxioms, h.fails)
