@@ -1,6 +1,6 @@
 -- Executions of a procedure of main.
 use Rattle.std.proofs.Common.{◌≡◌, ℕ, zero, suc, ◌-◌, ◌≤◌, List, [], ◌∷◌, ◌++◌, map, length, take, drop, Option, Some, None, Bool, true, false, refl, ap, ◌∙◌, sym, subst, arith}
-use Rattle.std.specs.Prelude.{Result, Ok, Err, IfOk}
+use Rattle.std.specs.Prelude.{IsTrue, ◌↔◌, Result, Ok, Err, IfOk}
 use Rattle.std.specs.Bool.{Decides}
 use Rattle.std.specs.List.{flat_map}
 use Rattle.std.proofs.lemmas.List.{append-nil, length-map, length-drop, drop_all}
@@ -32,6 +32,9 @@ use Rattle.uc_refuting.specs.Tellings.{Telling, Of, Followed, Where, Tells}
 use Rattle.uc_refuting.specs.Refutations.{IsEntry, RequiredAt, EndsIn, ExitTells, BodyTells, BodyOfTells, arguments_at, choices_at}
 use Rattle.uc_refuting.specs.Bodies.{two_of, ended, FailsAtExit}
 use Rattle.uc_refuting.proofs.Told.{none_decided, same_decided, where_none, where_told}
+
+pub none_left : {A : Type 0} (xs : List A) (b : Bool) → (IsTrue b ↔ (xs ≡ [])) → b ≡ true → xs ≡ []
+none_left xs b same is = same.0 is
 
 -- ---- what is meant
 

@@ -22,6 +22,9 @@ none_decided no = (λ is. absurd (let clash : false ≡ true = is in cc), λ h. 
 pub all_decided : {P : Type 0} → P → Decides true P
 all_decided h = (λ is. h, λ again. refl)
 
+pub bool_decided : (b c : Bool) → b ≡ c → Decides b (c ≡ true)
+bool_decided b c same = (λ is. sym same ∙ is, λ is. same ∙ is)
+
 pub same_decided : {P Q : Type 0} (b : Bool) → Decides b P → (P → Q) → (Q → P) → Decides b Q
 same_decided b decided to from = (λ is. to (decided.0 is), λ h. decided.1 (from h))
 
