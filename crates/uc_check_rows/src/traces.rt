@@ -92,7 +92,7 @@ const LISTED: &[u8] =
 const PROCESSOR: &[u8] =
     b"module main { type * = common.*; input w : word; var pa, pb : word; instance a : cpu(instr : (w), pc : (pa)); instance b : cpu(instr : (w), pc : (pb)); init { assume a.regs == b.regs; } next { next (a); next (b); } invariant same_regs : a.regs == b.regs; invariant same_pc : pa == pb; invariant other : pa != 1bv8; } module common { type word = bv8; type reg = bv2; type op = enum { nop, add, mov }; } module cpu { type * = common.*; type regs_t = [reg]word; input instr : word; output pc : word; var regs : regs_t; function decode(w : word) : op; init { pc = 0bv8; } next { pc' = pc + 1bv8; case decode(instr) == add : { regs'[instr[1:0]] = regs[instr[1:0]] + regs[instr[3:2]]; } decode(instr) == mov : { regs'[instr[1:0]] = regs[instr[3:2]]; } esac } }";
 
-const ROWS: [Row; 40] = [
+const ROWS: [Row; 39] = [
     (
         SWAPPED,
         At::Step(1),
@@ -245,17 +245,6 @@ const ROWS: [Row; 40] = [
                 (&[Bits(8, 5), Bits(8, 0), Bits(8, 2)], &[]),
             ],
         ],
-        0,
-        Refused,
-    ),
-    (
-        SECRET,
-        At::Step(1),
-        Formula(5),
-        &[&[
-            (&[Bits(8, 7), Bits(8, 1), Bits(8, 0)], &[]),
-            (&[Bits(8, 6), Bits(8, 0), Bits(8, 1)], &[]),
-        ]],
         0,
         Refused,
     ),
@@ -557,7 +546,7 @@ const ROWS: [Row; 40] = [
     (
         PROCESSOR,
         At::Exactly(1),
-        Formula(8),
+        Formula(9),
         &[&[
             (
                 &[Bits(8, 4), Bits(8, 0), Bits(8, 0), Words(3), Words(3)],
