@@ -1,6 +1,6 @@
 //! What a procedure ensures at its exit.
 
-ghost use Rattle.std.specs.Prelude.{◌≡◌, ◌-◌, [], slice_get, IfOk};
+ghost use Rattle.std.specs.Prelude.{◌≡◌, ◌-◌, [], Some, slice_get, IfOk};
 ghost use Rattle.std.specs.Bool.{Decides};
 ghost use Rattle.std.specs.List.{filter_map};
 ghost use Rattle.std.specs.Option.{option_copied};
@@ -8,6 +8,7 @@ ghost use Rattle.uc_meaning.specs.Runs.{ensures_in, ensures_of};
 ghost use Rattle.uc_meaning.specs.Lines.{EnsuresFails};
 ghost use Rattle.uc_meaning.specs.Ends.{begun};
 ghost use Rattle.uc_operators.specs.Overflows.{first_wide, TellsWide};
+ghost use Rattle.uc_scopes.specs.Scopes.{scope_in};
 ghost use Rattle.uc_executions.specs.Executions.{ensures_asked};
 
 use std::alloc::Global;
@@ -32,16 +33,35 @@ pub fn ensures_fails(
 {
     let place = number.saturating_sub(1) as usize;
     match ensures_at(procedure.clauses.as_slice(), place) {
-        Some(formula) => {
-            let here = ScopeRef::of(exit);
-            let here = ScopeRef {
-                at_entry: Some(entry),
-                ..here
-            };
-            let holds = is_true(alloc, layout, &here, formula)?;
-            Ok(!holds)
-        }
+        Some(formula) => is_false(alloc, layout, entry, exit, formula),
         None => Ok(false),
+    }
+}
+
+/// Whether a formula is false at an exit from an entry state.
+fn is_false(
+    alloc: Global,
+    layout: &Layout,
+    entry: &State,
+    exit: &Scope,
+    formula: &Expr,
+) -> Result<bool, EvalError>
+    ensures value { IfOk result (λ b. b ≡ (ensures_asked layout.now entry.now exit.now (Some formula.now)).holds) }
+    ensures wide { TellsWide (first_wide (ensures_asked layout.now entry.now exit.now (Some formula.now)).met) result }
+{
+    let scope = exit_scope(entry, exit);
+    let holds = is_true(alloc, layout, &scope, formula)?;
+    Ok(!holds)
+}
+
+/// The scope at an exit, with the entry state.
+fn exit_scope<'s>(entry: &'s State, exit: &'s Scope) -> ScopeRef<'s>
+    ensures { scope_in result ≡ record exit.now { at_entry = Some entry.now } }
+{
+    let here = ScopeRef::of(exit);
+    ScopeRef {
+        at_entry: Some(entry),
+        ..here
     }
 }
 

@@ -10,3 +10,13 @@ pub returns-then-place-eq0 : goal.returns-then-place-eq0
 returns-then-place-eq0 t c =
     let split : c.args.clauses.now ≡ c.in-Some.first.now ∷ c.in-Some.rest.now = search rules in
     at_first ensures_in c.args.clauses.now c.in-Some.first.now c.in-Some.rest.now c.in-Some-ensures_in.formula.now c.args.place split c.in-Some-ensures_in.ensures c.if-place-eq0.true
+
+pub returns-in-Some-ensures_in : goal.returns-in-Some-ensures_in
+returns-in-Some-ensures_in t c =
+    let split : c.args.clauses.now ≡ c.in-Some.first.now ∷ c.in-Some.rest.now = search rules in
+    c.ensures_at.ensures ∙ at_later ensures_in c.args.clauses.now c.in-Some.first.now c.in-Some.rest.now c.in-Some-ensures_in.formula.now c.args.place split c.in-Some-ensures_in.ensures c.if-place-eq0.false
+
+pub returns-in-None : goal.returns-in-None
+returns-in-None t c =
+    let split : c.args.clauses.now ≡ c.in-Some.first.now ∷ c.in-Some.rest.now = search rules in
+    c.ensures_at-2.ensures ∙ at_others ensures_in c.args.clauses.now c.in-Some.first.now c.in-Some.rest.now c.args.place split c.in-None.ensures
