@@ -28,7 +28,7 @@ found_in_arms-loop-arm-init t c = arms_begin c.args.effects.now c.args.table.now
 
 pub found_in_arms-loop-arm-preserved : goal.found_in_arms-loop-arm-preserved
 found_in_arms-loop-arm-preserved t c =
-    arms_more c.args.effects.now c.args.table.now c.args.arms.now _ _ _ _ _ c.arm-item.result _ c.as_slice.result.now _ c.loop-arm.invariant c.loop-arm-test.true c.arm-item.is c.as_slice.ensures c.found_in_block-own.ensures c.in_ok-others.ensures c.in_ok-or_all.ensures
+    arms_more c.args.effects.now c.args.table.now c.args.arms.now _ _ _ _ _ c.arm-item.result _ c.as_slice.result.now _ c.loop-arm.invariant c.loop-arm-test.true c.arm-item.is c.as_slice.ensures c.found_in_block-own.ensures c.in_ok-others.ensures c.in_ok-either.ensures
 
 pub found_in_arms-returns : goal.found_in_arms-returns
 found_in_arms-returns t c = arms_end c.args.effects.now c.args.table.now c.args.arms.now _ _ c.loop-arm.invariant c.loop-arm-test.false
