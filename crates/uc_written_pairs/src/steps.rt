@@ -51,7 +51,8 @@ impl<'a> StepTable<'a> {
             drop(step);
             return Ok(());
         }
-        self.steps.insert(name, step)?;
+        let before = self.steps.insert(name, step)?;
+        drop(before);
         Ok(())
     }
 }
