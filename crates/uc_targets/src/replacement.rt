@@ -20,7 +20,7 @@ use uc_syntax::TargetPart;
 use uc_values::{Value, store};
 
 /// The value with the part behind fields and indices replaced, where the indices are read in a scope.
-pub(crate) fn replaced(
+pub fn replaced(
     alloc: Global,
     layout: &Layout,
     scope: &ScopeRef<'_>,
