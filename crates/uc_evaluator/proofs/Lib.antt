@@ -6,3 +6,4 @@ pub mod Turns
 pub mod Sizes
 pub mod Shaped
 pub mod Named
+pub mod Selections

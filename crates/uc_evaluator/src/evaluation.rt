@@ -9,15 +9,15 @@ ghost use Rattle.uc_operators.specs.Overflows.{first_wide, TellsWide};
 ghost use Rattle.uc_shapes.specs.Levels.{reading_at, type_at, value_at, met_at, chosen_at, chosen_met_at, select_at, select_all_at, selection_met_at, selections_met_at, head_reading, head_rest, head_met};
 ghost use Rattle.uc_scopes.specs.Scopes.{scope_in};
 ghost use Rattle.uc_readings.specs.Readings.{reading_of};
+ghost use Rattle.uc_evaluator.specs.Selections.{with_values};
 
-use crate::operands::{Operands, chained, is_held, retyped};
+use crate::operands::{Operands, chained, into_value, is_held, retyped};
+use crate::selections::taken;
 use std::alloc::Global;
+use uc_items::beside;
 use uc_layout::Layout;
 use uc_operators::EvalError;
-use uc_readings::{
-    Said, applied, bits_literal, compared, element, extracted, field, number, on_bits, truth,
-    updated,
-};
+use uc_readings::{Said, applied, bits_literal, compared, number, on_bits, truth};
 use uc_scopes::{ScopeRef, reached};
 use uc_shapes::{Shape, shape_of};
 use uc_sources::{Applied, Meant, application, meaning, with_locals};
@@ -217,19 +217,36 @@ fn select(
     ensures value { IfOk result (λ r. reading_of r ≡ select_at below layout.now (scope_in scope.now) (reading_of before) selection.now) }
     ensures wide { TellsWide (first_wide (selection_met_at below layout.now (scope_in scope.now) selection.now)) result }
 {
+    let selection = evaluated(alloc, layout, below, scope, selection);
+    let (before, selection) = beside(before, selection)?;
+    Ok(taken(alloc, before, selection)?)
+}
+
+/// A selection with the values of its expressions.
+#[cycle(said)]
+fn evaluated(
+    alloc: Global,
+    layout: &Layout,
+    below: u32,
+    scope: &ScopeRef<'_>,
+    selection: &Selection<Expr>,
+) -> Result<Selection<Value>, EvalError>
+    ensures value { IfOk result (λ s. s ≡ with_values (value_at below layout.now (scope_in scope.now)) selection.now) }
+    ensures wide { TellsWide (first_wide (selection_met_at below layout.now (scope_in scope.now) selection.now)) result }
+{
     match selection {
-        Selection::Field(_, name) => Ok(field(alloc, &before, name.name)?),
-        Selection::Copy(_, _) => Ok(before),
-        Selection::Element(_, index) => {
+        Selection::Field(place, name) => Ok(Selection::Field(*place, *name)),
+        Selection::Copy(place, number) => Ok(Selection::Copy(*place, *number)),
+        Selection::Element(place, index) => {
             let index = said(alloc, layout, below, scope, index)?;
-            Ok(element(alloc, &before, &index.value)?)
+            Ok(Selection::Element(*place, into_value(index)))
         }
-        Selection::Update(_, index, new) => {
+        Selection::Update(place, index, new) => {
             let index = said(alloc, layout, below, scope, index)?;
-            let new = said(alloc, layout, below, scope, new)?;
-            Ok(updated(alloc, before, &index.value, &new.value)?)
+            let (index, new) = beside(index, said(alloc, layout, below, scope, new))?;
+            Ok(Selection::Update(*place, into_value(index), into_value(new)))
         }
-        Selection::Extract(_, high, low) => Ok(extracted(&before, *high, *low)?),
+        Selection::Extract(place, high, low) => Ok(Selection::Extract(*place, *high, *low)),
     }
 }
 

@@ -8,5 +8,6 @@
 mod entry;
 mod evaluation;
 mod operands;
+mod selections;
 
 pub use entry::{eval_expr, is_true, name_reading, reading};

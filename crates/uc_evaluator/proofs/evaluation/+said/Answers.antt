@@ -1,13 +1,15 @@
-use Rattle.std.proofs.Common.{◌≡◌, ◌-◌, ◌++◌, [], length, map, take, drop, true, false, ap, ◌∙◌, sym, subst, rules, arith}
-use Rattle.std.specs.Prelude.{Err}
+use Rattle.std.proofs.Common.{◌≡◌, ◌-◌, ◌++◌, [], length, map, take, drop, true, false, refl, ap, ◌∙◌, sym, subst, rules, arith}
+use Rattle.std.specs.Prelude.{Err, IfOk}
 use Rattle.std.specs.List.{flat_map}
 use Rattle.std.proofs.lemmas.List.{take_rest}
-use Rattle.uc_values.specs.Arrays.{at, store}
+use Rattle.uc_values.specs.declared.value.Value.{Value}
+use Rattle.uc_syntax.specs.declared.expression.Selection.{Selection}
+use Rattle.uc_syntax.specs.declared.expression.Selection.TheVariants.{Element, Update}
 use Rattle.uc_meaning.specs.Operators.{holds}
-use Rattle.uc_meaning.specs.Expressions.{reads, element_type, name, reading_through, reached, applied, applied_reading, meaning_of}
+use Rattle.uc_meaning.specs.Expressions.{reads, name, reading_through, reached, applied, applied_reading, meaning_of}
 use Rattle.uc_meaning.specs.Overflow.{met_through, name_met, applied_met}
-use Rattle.uc_operators.specs.Overflows.{first_wide}
-use Rattle.uc_shapes.specs.Levels.{reading_at, type_at, value_at, met_at, select_at, selection_met_at, selections_met_at, head_reading, head_met}
+use Rattle.uc_operators.specs.Overflows.{first_wide, TellsWide}
+use Rattle.uc_shapes.specs.Levels.{reading_at, type_at, value_at, met_at, selection_met_at, selections_met_at, head_reading, head_met}
 use Rattle.uc_shapes.specs.Shapes.{size, sizes, branch_size, primary_size, selection_size, selections_size}
 use Rattle.uc_lookup.specs.Parts.{system_in}
 use Rattle.uc_scopes.specs.Scopes.{scope_in, reached_scope}
@@ -15,9 +17,11 @@ use Rattle.uc_readings.specs.declared.said.Said.{Said}
 use Rattle.uc_readings.specs.Readings.{reading_of, on_bits_said}
 use Rattle.uc_sources.specs.Sources.{StandsFor, Applies, with_locals}
 use Rattle.uc_evaluator.specs.declared.operands.Operands.{Operands}
+use Rattle.uc_evaluator.specs.Selections.{with_values, taken}
 use Rattle.uc_evaluator.proofs.Told.{told_first, told_as, told_second, told_all, none_both, gives_as}
 use Rattle.uc_evaluator.proofs.Bodies.{bodies}
 use Rattle.uc_evaluator.proofs.Levels.{body_reading, body_met, no_reading, none_met, below_left, left_within}
+use Rattle.uc_evaluator.proofs.Selections.{select_is_taken}
 use Rattle.uc_evaluator.proofs.Sizes.{part_size, rest_size}
 use Rattle.uc_evaluator.proofs.Forms.{on_bits_are, other_selected, other_selected_met, name_selected, name_selected_met}
 use Rattle.uc_evaluator.proofs.Turns.{all_more, all_told, all_end, mapped_more, mapped_end, chosen_more, chosen_taken, chosen_end, chosen_met_more, chosen_met_told, chosen_met_taken, chosen_met_end, after_more, after_end}
@@ -142,59 +146,81 @@ pub after-returns-clause-wide : goal.after-returns-clause-wide
 after-returns-clause-wide t c =
     all_end (selection_met_at c.args.below c.args.layout.now (scope_in c.args.scope.now)) c.args.selections.now c.loop-selection.selection-index c.loop-selection-test.false c.loop-selection.invariant.wide
 
-pub select-said-requires : goal.select-said-requires
-select-said-requires t c = (omega (arith, c.decreases, ap selection_size c.in-Element.is), tt)
+pub select-evaluated-requires : goal.select-evaluated-requires
+select-evaluated-requires t c = (omega (arith, c.decreases), tt)
 
-pub select-said-requires-in-Update : goal.select-said-requires-in-Update
-select-said-requires-in-Update t c = (omega (arith, c.decreases, ap selection_size c.in-Update.is), tt)
+pub select-returns-in_err-before-clause-wide : goal.select-returns-in_err-before-clause-wide
+select-returns-in_err-before-clause-wide t c =
+    let met = selection_met_at c.args.below c.args.layout.now (scope_in c.args.scope.now) c.args.selection.now in
+    let told = told_as (Selection Value) Said met met c.in_err-before.field-0.0 refl (subst (TellsWide {A = Selection Value} (first_wide met)) c.in_err-before.ensures c.evaluated-selection.ensures.wide) in
+    search (rules, told)
 
-pub select-said-requires-in-Update-2 : goal.select-said-requires-in-Update-2
-select-said-requires-in-Update-2 t c = (omega (arith, c.decreases, ap selection_size c.in-Update.is), tt)
+pub select-returns-in_ok-taken-clause-value : goal.select-returns-in_ok-taken-clause-value
+select-returns-in_ok-taken-clause-value t c =
+    let values = with_values (value_at c.args.below c.args.layout.now (scope_in c.args.scope.now)) c.args.selection.now in
+    let same : c.in_ok-before.selection ≡ values = subst (λ r. IfOk r (λ s. s ≡ values)) c.in_ok-before.ensures.1 c.evaluated-selection.ensures.value in
+    c.in_ok-taken.ensures ∙ (λ i. taken (reading_of (c.in_ok-before.ensures.0 i)) (same i))
+    ∙ select_is_taken c.args.below c.args.layout.now (scope_in c.args.scope.now) (reading_of c.args.before) c.args.selection.now
 
-pub select-returns-in_err-index-in-Element-clause-wide : goal.select-returns-in_err-index-in-Element-clause-wide
-select-returns-in_err-index-in-Element-clause-wide t c =
-    let told = told_as Said Said (met_at c.args.below c.args.layout.now (scope_in c.args.scope.now) c.in-Element.index) (selection_met_at c.args.below c.args.layout.now (scope_in c.args.scope.now) c.args.selection.now) c.in_err-index-in-Element.field-0.0
+pub select-returns-in_ok-taken-clause-wide : goal.select-returns-in_ok-taken-clause-wide
+select-returns-in_ok-taken-clause-wide t c =
+    subst (TellsWide {A = Selection Value} (first_wide (selection_met_at c.args.below c.args.layout.now (scope_in c.args.scope.now) c.args.selection.now))) c.in_ok-before.ensures.1 c.evaluated-selection.ensures.wide
+
+pub evaluated-said-requires : goal.evaluated-said-requires
+evaluated-said-requires t c = (omega (arith, c.decreases, ap selection_size c.in-Element.is), tt)
+
+pub evaluated-said-requires-in-Update : goal.evaluated-said-requires-in-Update
+evaluated-said-requires-in-Update t c = (omega (arith, c.decreases, ap selection_size c.in-Update.is), tt)
+
+pub evaluated-said-requires-in-Update-2 : goal.evaluated-said-requires-in-Update-2
+evaluated-said-requires-in-Update-2 t c = (omega (arith, c.decreases, ap selection_size c.in-Update.is), tt)
+
+pub evaluated-returns-in_err-index-in-Element-clause-wide : goal.evaluated-returns-in_err-index-in-Element-clause-wide
+evaluated-returns-in_err-index-in-Element-clause-wide t c =
+    let told = told_as Said (Selection Value) (met_at c.args.below c.args.layout.now (scope_in c.args.scope.now) c.in-Element.index) (selection_met_at c.args.below c.args.layout.now (scope_in c.args.scope.now) c.args.selection.now) c.in_err-index-in-Element.field-0.0
     (sym (ap (selection_met_at c.args.below c.args.layout.now (scope_in c.args.scope.now)) c.in-Element.is)) c.in_err-index-in-Element.ensures.wide in
     search (rules, told)
 
-pub select-returns-in_err-index-in-Update-clause-wide : goal.select-returns-in_err-index-in-Update-clause-wide
-select-returns-in_err-index-in-Update-clause-wide t c =
+pub evaluated-returns-in_err-index-in-Update-clause-wide : goal.evaluated-returns-in_err-index-in-Update-clause-wide
+evaluated-returns-in_err-index-in-Update-clause-wide t c =
     let first = met_at c.args.below c.args.layout.now (scope_in c.args.scope.now) c.in-Update.index in
     let second = met_at c.args.below c.args.layout.now (scope_in c.args.scope.now) c.in-Update.new in
-    let told = told_as Said Said (first ++ second) (selection_met_at c.args.below c.args.layout.now (scope_in c.args.scope.now) c.args.selection.now) c.in_err-index-in-Update.field-0.0
+    let told = told_as Said (Selection Value) (first ++ second) (selection_met_at c.args.below c.args.layout.now (scope_in c.args.scope.now) c.args.selection.now) c.in_err-index-in-Update.field-0.0
     (sym (ap (selection_met_at c.args.below c.args.layout.now (scope_in c.args.scope.now)) c.in-Update.is)) (told_first Said Said first second c.in_err-index-in-Update.field-0.0 c.in_err-index-in-Update.ensures.wide) in
     search (rules, told)
 
-pub select-returns-in_err-new-in-Update-clause-wide : goal.select-returns-in_err-new-in-Update-clause-wide
-select-returns-in_err-new-in-Update-clause-wide t c =
+pub evaluated-returns-in_err-index-in-Update-2-clause-wide : goal.evaluated-returns-in_err-index-in-Update-2-clause-wide
+evaluated-returns-in_err-index-in-Update-2-clause-wide t c =
     let first = met_at c.args.below c.args.layout.now (scope_in c.args.scope.now) c.in-Update.index in
     let second = met_at c.args.below c.args.layout.now (scope_in c.args.scope.now) c.in-Update.new in
-    let told = told_as Said Said (first ++ second) (selection_met_at c.args.below c.args.layout.now (scope_in c.args.scope.now) c.args.selection.now) c.in_err-new-in-Update.field-0.0
+    let there = subst (TellsWide {A = Said} (first_wide second)) c.in_err-index-in-Update-2.ensures c.said-in-Update-2.ensures.wide in
+    let told = told_as Said (Selection Value) (first ++ second) (selection_met_at c.args.below c.args.layout.now (scope_in c.args.scope.now) c.args.selection.now) c.in_err-index-in-Update-2.field-0.0
     (sym (ap (selection_met_at c.args.below c.args.layout.now (scope_in c.args.scope.now)) c.in-Update.is))
-    (told_second {A = Said} first second (Err c.in_err-new-in-Update.field-0.0) c.in_ok-index-in-Update.ensures.wide c.in_err-new-in-Update.ensures.wide) in
+    (told_second {A = Said} first second (Err c.in_err-index-in-Update-2.field-0.0) c.in_ok-index-in-Update.ensures.wide there) in
     search (rules, told)
 
-pub select-returns-in_ok-element-in-Element-clause-value : goal.select-returns-in_ok-element-in-Element-clause-value
-select-returns-in_ok-element-in-Element-clause-value t c =
-    c.in_ok-element-in-Element.ensures
-    ∙ ap (λ r. reads (element_type c.args.before.ty) (at c.args.before.value r.value)) c.in_ok-index-in-Element.ensures.value
-    ∙ ap (select_at c.args.below c.args.layout.now (scope_in c.args.scope.now) (reading_of c.args.before)) (sym c.in-Element.is)
+pub evaluated-returns-in_ok-index-in-Element-clause-value : goal.evaluated-returns-in_ok-index-in-Element-clause-value
+evaluated-returns-in_ok-index-in-Element-clause-value t c =
+    ap (Element c.in-Element.place) (c.into_value-in-Element.ensures ∙ ap (λ r. r.value) c.in_ok-index-in-Element.ensures.value)
+    ∙ ap (with_values (value_at c.args.below c.args.layout.now (scope_in c.args.scope.now))) (sym c.in-Element.is)
 
-pub select-returns-in_ok-element-in-Element-clause-wide : goal.select-returns-in_ok-element-in-Element-clause-wide
-select-returns-in_ok-element-in-Element-clause-wide t c =
+pub evaluated-returns-in_ok-index-in-Element-clause-wide : goal.evaluated-returns-in_ok-index-in-Element-clause-wide
+evaluated-returns-in_ok-index-in-Element-clause-wide t c =
     ap (λ x. first_wide (selection_met_at c.args.below c.args.layout.now (scope_in c.args.scope.now) x)) c.in-Element.is ∙ c.in_ok-index-in-Element.ensures.wide
 
-pub select-returns-in_ok-updated-in-Update-clause-value : goal.select-returns-in_ok-updated-in-Update-clause-value
-select-returns-in_ok-updated-in-Update-clause-value t c =
-    c.in_ok-updated-in-Update.ensures
-    ∙ (λ i. reads c.args.before.ty (store c.args.before.value (c.in_ok-index-in-Update.ensures.value i).value (c.in_ok-new-in-Update.ensures.value i).value))
-    ∙ ap (select_at c.args.below c.args.layout.now (scope_in c.args.scope.now) (reading_of c.args.before)) (sym c.in-Update.is)
+pub evaluated-returns-in_ok-index-in-Update-2-clause-value : goal.evaluated-returns-in_ok-index-in-Update-2-clause-value
+evaluated-returns-in_ok-index-in-Update-2-clause-value t c =
+    let new = subst (λ r. IfOk r (λ x. reading_of x ≡ reading_at c.args.below c.args.layout.now (scope_in c.args.scope.now) c.in-Update.new)) c.in_ok-index-in-Update-2.ensures.1 c.said-in-Update-2.ensures.value in
+    (λ i. Update c.in-Update.place (c.into_value-in-Update.ensures i) (c.into_value-in-Update-2.ensures i))
+    ∙ (λ i. Update c.in-Update.place (c.in_ok-index-in-Update-2.ensures.0 i).value (new i).value)
+    ∙ (λ i. Update c.in-Update.place (c.in_ok-index-in-Update.ensures.value i).value (value_at c.args.below c.args.layout.now (scope_in c.args.scope.now) c.in-Update.new))
+    ∙ ap (with_values (value_at c.args.below c.args.layout.now (scope_in c.args.scope.now))) (sym c.in-Update.is)
 
-pub select-returns-in_ok-updated-in-Update-clause-wide : goal.select-returns-in_ok-updated-in-Update-clause-wide
-select-returns-in_ok-updated-in-Update-clause-wide t c =
+pub evaluated-returns-in_ok-index-in-Update-2-clause-wide : goal.evaluated-returns-in_ok-index-in-Update-2-clause-wide
+evaluated-returns-in_ok-index-in-Update-2-clause-wide t c =
     ap (λ x. first_wide (selection_met_at c.args.below c.args.layout.now (scope_in c.args.scope.now) x)) c.in-Update.is
     ∙ none_both (met_at c.args.below c.args.layout.now (scope_in c.args.scope.now) c.in-Update.index) (met_at c.args.below c.args.layout.now (scope_in c.args.scope.now) c.in-Update.new)
-    c.in_ok-index-in-Update.ensures.wide c.in_ok-new-in-Update.ensures.wide
+    c.in_ok-index-in-Update.ensures.wide (subst (TellsWide {A = Said} _) c.in_ok-index-in-Update-2.ensures.1 c.said-in-Update-2.ensures.wide)
 
 -- expressions elsewhere
 pub elsewhere-said-requires : goal.elsewhere-said-requires
@@ -349,19 +375,19 @@ said-returns-in_err-left-in-Compared-clause-wide t c =
 pub said-returns-in_err-right-in-Compared-clause-wide : goal.said-returns-in_err-right-in-Compared-clause-wide
 said-returns-in_err-right-in-Compared-clause-wide t c =
     let told = compared_right c.args.below c.args.layout.now (scope_in c.args.scope.now) c.args.e.now c.in-Compared.how c.in-Compared.left.now c.in-Compared.right.now c.in-Compared.ensures Said Said c.in_err-right-in-Compared.field-0.0
-    c.in_ok-left-in-Compared.ensures.wide c.in_err-right-in-Compared.ensures.wide in
+    c.in_ok-taken-in-Compared.ensures.wide c.in_err-right-in-Compared.ensures.wide in
     search (rules, told)
 
 pub said-returns-in_ok-compared-in-Compared-clause-value : goal.said-returns-in_ok-compared-in-Compared-clause-value
 said-returns-in_ok-compared-in-Compared-clause-value t c =
     c.in_ok-compared-in-Compared.ensures
     ∙ compared_gives c.args.below c.args.layout.now (scope_in c.args.scope.now) c.args.e.now c.in-Compared.how c.in-Compared.left.now c.in-Compared.right.now c.in-Compared.ensures _ _ _
-    (ap (λ r. r.type) c.in_ok-left-in-Compared.ensures.value) (ap (λ r. r.value) c.in_ok-left-in-Compared.ensures.value) (ap (λ r. r.value) c.in_ok-right-in-Compared.ensures.value)
+    (ap (λ r. r.type) c.in_ok-taken-in-Compared.ensures.value) (ap (λ r. r.value) c.in_ok-taken-in-Compared.ensures.value) (ap (λ r. r.value) c.in_ok-right-in-Compared.ensures.value)
 
 pub said-returns-in_ok-compared-in-Compared-clause-wide : goal.said-returns-in_ok-compared-in-Compared-clause-wide
 said-returns-in_ok-compared-in-Compared-clause-wide t c =
     compared_none c.args.below c.args.layout.now (scope_in c.args.scope.now) c.args.e.now c.in-Compared.how c.in-Compared.left.now c.in-Compared.right.now c.in-Compared.ensures
-    c.in_ok-left-in-Compared.ensures.wide c.in_ok-right-in-Compared.ensures.wide
+    c.in_ok-taken-in-Compared.ensures.wide c.in_ok-right-in-Compared.ensures.wide
 
 pub said-returns-in_err-operand-in-Applied-clause-wide : goal.said-returns-in_err-operand-in-Applied-clause-wide
 said-returns-in_err-operand-in-Applied-clause-wide t c =

@@ -25,10 +25,13 @@ abbrev pub decreases-head : goal.decreases-head
 decreases-head l = levels l.below (bodies l.layout.now) + (8 * primary_size l.primary.now + 3)
 
 abbrev pub decreases-after : goal.decreases-after
-decreases-after l = levels l.below (bodies l.layout.now) + (8 * selections_size l.selections.now + 2)
+decreases-after l = levels l.below (bodies l.layout.now) + (8 * selections_size l.selections.now + 3)
 
 abbrev pub decreases-select : goal.decreases-select
-decreases-select l = levels l.below (bodies l.layout.now) + (8 * selection_size l.selection.now + 1)
+decreases-select l = levels l.below (bodies l.layout.now) + (8 * selection_size l.selection.now + 2)
+
+abbrev pub decreases-evaluated : goal.decreases-evaluated
+decreases-evaluated l = levels l.below (bodies l.layout.now) + (8 * selection_size l.selection.now + 1)
 
 abbrev pub decreases-named : goal.decreases-named
 decreases-named l = levels l.below (bodies l.layout.now) + 1
