@@ -1,0 +1,5 @@
+//! A try.
+#![tactic(auto)]
+
+mod evaluation;
+mod selections;
