@@ -1,5 +1,5 @@
 -- Operations on constants.
-use Rattle.std.specs.Prelude.{◌≡◌, ℕ, ◌<◌, IsTrue, List, [], ◌∷◌, map, length, All}
+use Rattle.std.specs.Prelude.{◌≡◌, ℕ, ◌<◌, IsTrue, List, [], ◌∷◌, map, length, All, Result, Ok, IfOk}
 use Rattle.std.proofs.Common.{refl, sym, ap, ◌∙◌, arith, subst, take}
 use Rattle.std.proofs.lemmas.List.Elements.{All-nil, All-cons}
 use Rattle.uc_values.specs.Values.{fits}
@@ -21,7 +21,7 @@ use Rattle.uc_ops.proofs.Fitting.{Fits, apply-fits}
 use Rattle.uc_terms.specs.Tables.{WellTyped}
 use Rattle.uc_terms.specs.Values.{values_at}
 use Rattle.uc_terms.proofs.Grown.{types-valid}
-use Rattle.uc_simplify_steps.specs.Steps.{Replaces, IsConstant, is_evaluated}
+use Rattle.uc_simplify_steps.specs.Steps.{Replaces, IsConstant, AreConstants, is_evaluated}
 use Rattle.uc_simplify_steps.proofs.Steps.{constant_replaces}
 
 -- such an operation looks at the values alone
@@ -109,10 +109,10 @@ pub evaluated_on : (op : Op) (given : List Value) (x y : ℕ) (v : Value) (m : M
 evaluated_on op given x y v m types h e f l s n others =
     evaluated-alone op n m others types given h ∙ ap (apply m op types) (sym (few_given given x y e f l)) ∙ sym s
 
--- the terms are constants of these values
-pub record AreConstants (nodes : List Node) (parts : List ℕ) (values : List Value) : Type 0 where
-  pub fit : Fit (types_at nodes parts) values
-  pub same : (m : Model) → values_at m nodes parts ≡ values
+pub evaluated_ok : {E : Type 0} (op : Op) (given : List Value) (x y : ℕ) (r : Result Value E) (v : Value) (m : Model) (types : List Ty) → IsTrue (is_evaluated op) → x ≡ 0 → y ≡ 1 → length given < 3
+    → r ≡ Ok v → IfOk r (λ u. u ≡ apply m op types (map (part given) (take (length given) (x ∷ y ∷ [])))) → (n : Model) (others : List Ty) → apply n op others given ≡ v
+evaluated_ok op given x y r v m types h e f l is s =
+    evaluated_on op given x y v m types h e f l (subst (λ q. IfOk q (λ u. u ≡ apply m op types (map (part given) (take (length given) (x ∷ y ∷ []))))) is s)
 
 pub one_constant : (nodes : List Node) (a : ℕ) (v u : Value) → u ≡ v → IsConstant nodes a v → AreConstants nodes (a ∷ []) (u ∷ [])
 one_constant nodes a v u e c =

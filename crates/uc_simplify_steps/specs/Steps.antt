@@ -1,5 +1,6 @@
 -- By what an operation on parts may be replaced.
 use Rattle.std.specs.Prelude.{◌≡◌, ◌⊎◌, ℕ, ◌<◌, Bool as Truth, true, false, not, IsTrue, List, length, All, Option, Some, None, nat_eq}
+use Rattle.std.specs.List.{AllZip}
 use Rattle.uc_values.specs.Values.{fits, truth_of, same_scalar}
 use Rattle.uc_values.specs.Operators.{complemented}
 use Rattle.uc_values.specs.declared.ty.Ty.TheVariants.{Bool as Boolean}
@@ -44,6 +45,11 @@ pub record IsConstant (nodes : List Node) (t : ℕ) (v : Value) : Type 0 where
   pub constant : IsTrue (is_constant (type_at nodes t))
   pub fit : IsTrue (fits (type_at nodes t) v)
   pub same : (m : Model) → value m nodes t ≡ v
+
+-- the terms are constants of these values
+pub record AreConstants (nodes : List Node) (parts : List ℕ) (values : List Value) : Type 0 where
+  pub fit : AllZip (λ ty v. IsTrue (fits ty v)) (types_at nodes parts) values
+  pub same : (m : Model) → values_at m nodes parts ≡ values
 
 -- the operation gives a truth, a number or bits of such values alone, whatever the types and the model
 abbrev pub is_evaluated : Op → Truth

@@ -10,7 +10,7 @@ use crate::opened::{concatenation, single};
 use crate::step::Step;
 use crate::words::zero;
 use std::alloc::{AllocError, Global};
-use uc_items::Items;
+use uc_items::{Items, beside};
 use uc_terms::{Op, TermId, Terms};
 use uc_values::Ty;
 
@@ -87,7 +87,7 @@ pub(crate) fn combined(
     let Some(next) = joint(op, inner, *width) else {
         return Ok(None);
     };
-    let parts = Items::from_slice(alloc, &[part])?;
+    let (next, parts) = beside(next, Items::from_slice(alloc, &[part]))?;
     Ok(Some(Step::Other(next, parts)))
 }
 

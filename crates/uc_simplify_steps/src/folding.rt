@@ -6,11 +6,12 @@ ghost use Rattle.uc_ops.specs.declared.model.Model.{Model};
 ghost use Rattle.uc_ops.specs.Typing.{Suits, types_at, type_at};
 ghost use Rattle.uc_ops.specs.Meaning.{apply};
 ghost use Rattle.uc_ops.specs.Met.{Sound};
-ghost use Rattle.uc_simplify_steps.specs.Steps.{IsRight, is_evaluated};
+ghost use Rattle.uc_simplify_steps.specs.Steps.{AreConstants, IsRight, is_evaluated};
 
 use crate::step::{Step, constant};
 use std::alloc::{AllocError, Global};
-use uc_items::Items;
+use std::slice::from_ref;
+use uc_items::{Items, beside};
 use uc_linear::LinearError;
 use uc_ops::{apply, result_type};
 use uc_terms::{Model, Op, TermId, Terms};
@@ -27,21 +28,13 @@ pub(crate) fn folded_one(
     requires suits { Suits op.now (type_at terms.now a ∷ []) }
     ensures { IfOk result (λ o. IfSome o (IsRight terms.now op.now (a ∷ []))) }
 {
-    let nodes = terms.nodes();
     if !is_evaluated(op) {
         return Ok(None);
     }
     let Some(value) = constant(terms, a) else {
         return Ok(None);
     };
-    let given = [copy(alloc, value)?];
-    match evaluated(alloc, op, &given)? {
-        Some(value) => {
-            let ty = result_type(alloc, nodes, op, &[a])?;
-            Ok(Some(Step::Other(Op::Const(ty, value), Items::new(alloc))))
-        }
-        None => Ok(None),
-    }
+    folded(alloc, terms, op, &[a], from_ref(value))
 }
 
 /// The value of an operation on two constants.
@@ -57,7 +50,6 @@ pub(crate) fn folded_two(
     requires suits { Suits op.now (type_at terms.now a ∷ type_at terms.now b ∷ []) }
     ensures { IfOk result (λ o. IfSome o (IsRight terms.now op.now (a ∷ b ∷ []))) }
 {
-    let nodes = terms.nodes();
     if !is_evaluated(op) {
         return Ok(None);
     }
@@ -67,14 +59,35 @@ pub(crate) fn folded_two(
     let Some(right) = constant(terms, b) else {
         return Ok(None);
     };
-    let given = [copy(alloc, left)?, copy(alloc, right)?];
-    match evaluated(alloc, op, &given)? {
-        Some(value) => {
-            let ty = result_type(alloc, nodes, op, &[a, b])?;
-            Ok(Some(Step::Other(Op::Const(ty, value), Items::new(alloc))))
-        }
-        None => Ok(None),
-    }
+    let left = copy(alloc, left)?;
+    let (left, right) = beside(left, copy(alloc, right))?;
+    let given = [left, right];
+    let step = folded(alloc, terms, op, &[a, b], &given);
+    drop(given);
+    step
+}
+
+/// The value of an operation on one or two constants of these values.
+fn folded(
+    alloc: Global,
+    terms: &Terms,
+    op: &Op,
+    parts: &[TermId],
+    given: &[Value],
+) -> Result<Option<Step>, AllocError>
+    requires evaluated { IsTrue (is_evaluated op.now) }
+    requires there { All (λ p. p < length terms.now) parts.now }
+    requires suits { Suits op.now (types_at terms.now parts.now) }
+    requires constants { AreConstants terms.now parts.now given.now }
+    requires few { length given.now < 3 }
+    ensures { IfOk result (λ o. IfSome o (IsRight terms.now op.now parts.now)) }
+{
+    let nodes = terms.nodes();
+    let Some(value) = evaluated(alloc, op, given)? else {
+        return Ok(None);
+    };
+    let (value, ty) = beside(value, result_type(alloc, nodes, op, parts))?;
+    Ok(Some(Step::Other(Op::Const(ty, value), Items::new(alloc))))
 }
 
 /// The value on one or two values, and none where a number leaves 128 bits.
@@ -89,7 +102,9 @@ fn evaluated(alloc: Global, op: &Op, given: &[Value]) -> Result<Option<Value>, A
         tables: Items::new(alloc),
     };
     let numbers = [TermId::new(0), TermId::new(1)];
-    match apply(alloc, &model, op, &[], given, &numbers[..given.len()]) {
+    let value = apply(alloc, &model, op, &[], given, &numbers[..given.len()]);
+    drop(model);
+    match value {
         Ok(value) => Ok(Some(value)),
         Err(LinearError::Wide(_)) => Ok(None),
         Err(LinearError::NoMemory) => Err(AllocError),

@@ -18,7 +18,7 @@ use crate::sums::{scaled, sum_of_one, sum_of_two};
 use crate::truths::{chosen, condition_itself, condition_negated, turned, twice_negated, unchosen};
 use crate::words::{one_of_two, reordered, shifted_out, with_itself};
 use std::alloc::{AllocError, Global};
-use uc_items::Items;
+use uc_items::{Items, beside};
 use uc_terms::{Op, TermId, Terms};
 
 /// How many steps are taken at one operation, at most.
@@ -54,10 +54,16 @@ fn settled(
     if steps == 0 {
         return Ok(Step::Other(op, parts));
     }
-    match step(alloc, terms, &op, parts.as_slice())? {
-        Some(Step::Other(next, own)) => settled(alloc, terms, next, own, steps - 1),
-        Some(known) => Ok(known),
-        None => Ok(Step::Other(op, parts)),
+    let found = step(alloc, terms, &op, parts.as_slice());
+    let (held, found) = beside((op, parts), found)?;
+    let Some(next) = found else {
+        let (op, parts) = held;
+        return Ok(Step::Other(op, parts));
+    };
+    drop(held);
+    match next {
+        Step::Known(term) => Ok(Step::Known(term)),
+        Step::Other(op, parts) => settled(alloc, terms, op, parts, steps - 1),
     }
 }
 

@@ -11,7 +11,7 @@ ghost use Rattle.uc_simplify_steps.specs.declared.step.Step.TheVariants.{Other};
 use crate::pairs::is_constant;
 use crate::step::{Step, constant};
 use std::alloc::{AllocError, Global};
-use uc_items::Items;
+use uc_items::{Items, beside};
 use uc_ops::copy_op;
 use uc_terms::{Op, TermId, Terms};
 use uc_values::word::complement;
@@ -183,7 +183,7 @@ pub(crate) fn reordered(
         return Ok(None);
     }
     let op = copy_op(alloc, op)?;
-    let parts = Items::from_slice(alloc, &[b, a])?;
+    let (op, parts) = beside(op, Items::from_slice(alloc, &[b, a]))?;
     Ok(Some(Step::Other(op, parts)))
 }
 
