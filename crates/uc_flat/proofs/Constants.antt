@@ -1,7 +1,8 @@
 -- Code under models that agree on the constants and functions that it reads.
 use Rattle.std.proofs.Common.{◌≡◌, ℕ, ◌<◌, List, [], ◌∷◌, ◌++◌, map, refl, sym, ap, ◌∙◌, subst, slice_get, slice_set}
-use Rattle.std.specs.Prelude.{not, ◌&&◌, Contains}
+use Rattle.std.specs.Prelude.{not, ◌&&◌, All, Contains}
 use Rattle.std.specs.Option.{option_map}
+use Rattle.std.proofs.lemmas.List.Elements.{All-head, All-tail}
 use Rattle.uc_values.specs.declared.ty.Ty.{Ty}
 use Rattle.uc_values.specs.declared.value.Value.{Value}
 use Rattle.uc_values.specs.Values.{TypedValue, truth_of}
@@ -27,6 +28,7 @@ use Rattle.uc_flat.specs.Reading.{read, value_of, is_true}
 use Rattle.uc_flat.specs.Drawn.{Drawn, listed_if, go, drawn, in_order, arm, other_arm, either_arm}
 use Rattle.uc_flat.specs.Fine.{IsWithin, itself, deeper, ReadsBelow, CodeReadsBelow}
 use Rattle.uc_flat.specs.Laws.{AgreeBelow}
+use Rattle.uc_flat.specs.Unrolled.{widened}
 use Rattle.uc_flat.proofs.Forms.{read_cell, read_apply, types_in, values_in, go_assign, go_havoc, go_assume, go_assert, go_if}
 use Rattle.uc_flat.proofs.Inside.{contains_first, contains_later, reads_part, reads_within, one_inside, one_of, rest_of, first_of, second_of}
 
@@ -104,6 +106,17 @@ same_read n m m' types cells a = ind-Expression (Same n m m' types cells) (λ x 
 
 pub same_value : (n : ℕ) (m m' : Model) (types : List Ty) (cells : List Value) → AgreeBelow n m m' → (e : Expression) → ReadsBelow n e → value_of m types cells e ≡ value_of m' types cells e
 same_value n m m' types cells a e h = ap (λ (v : TypedValue). v.value) (same_read n m m' types cells a e h)
+
+-- further cells begin with the same values
+pub same_widened : (n : ℕ) (m m' : Model) (types : List Ty) (cells : List Value) (further : List Expression) → AgreeBelow n m m' → All (ReadsBelow n) further
+    → widened m types further cells ≡ widened m' types further cells
+same_widened n m m' types cells further a h = ap (λ vs. cells ++ vs) (each further h)
+  where
+    each : (es : List Expression) → All (ReadsBelow n) es → map (value_of m types cells) es ≡ map (value_of m' types cells) es
+    each [] g = refl
+    each (e ∷ es) g =
+        ap (λ v. v ∷ map (value_of m types cells) es) (same_value n m m' types cells a e (All-head (ReadsBelow n) e es g))
+        ∙ ap (λ vs. value_of m' types cells e ∷ vs) (each es (All-tail (ReadsBelow n) e es g))
 
 abbrev Does : ℕ → Model → Model → List Ty → List Value → Statement → Type 0
 Does n m m' types frees x = CodeReadsBelow n (x ∷ []) → (r : Drawn) → go m types frees x r ≡ go m' types frees x r

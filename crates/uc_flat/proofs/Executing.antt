@@ -13,13 +13,13 @@ use Rattle.uc_flat.specs.declared.flat.Flat.{Flat}
 use Rattle.uc_flat.specs.Drawn.{Drawn, free, drawn}
 use Rattle.uc_flat.specs.Running.{Placed, run_all}
 use Rattle.uc_flat.specs.Laws.{StandAt, AgreeBelow}
-use Rattle.uc_flat.specs.Flats.{cell_types, IsSound}
-use Rattle.uc_flat.specs.Unrolled.{free_values, begun, started, doubled, stepped, initial, after_step}
+use Rattle.uc_flat.specs.Flats.{cell_types, init_types, IsSound}
+use Rattle.uc_flat.specs.Unrolled.{free_values, begun, widened, wider, started, doubled, stepped, initial, after_step}
 use Rattle.uc_flat.specs.Executions.{FitAll, IsInitial, IsStep, IsFound}
 use Rattle.uc_flat.proofs.Extending.{slice_get-front, slice_get-back}
 use Rattle.uc_flat.proofs.Choosing.{place, drawn_runs}
 use Rattle.uc_flat.proofs.Finding.{runs_drawn, fitting_is, front_stands, back_stands}
-use Rattle.uc_flat.proofs.Constants.{same_drawn}
+use Rattle.uc_flat.proofs.Constants.{same_drawn, same_widened}
 
 free_values-fit : (frees : List Value) (types : List Ty) (n : ℕ) → AllValid types → FitAll types (free_values frees types n)
 unfolding free_values FitAll
@@ -52,16 +52,20 @@ pub initial_is : (f : Flat) (m : Model) (first : ℕ) → IsSound f → (initial
 unfolding started
 initial_is f m first s g =
     let types = cell_types f in
-    let u = drawn_runs m types m.symbols f.init (begun m.symbols types first) s.init refl g in
+    let start = wider m types f.further (begun m.symbols types first) in
+    let end = drawn m (init_types f) m.symbols f.init start in
+    let u = drawn_runs m (init_types f) m.symbols f.init start s.init refl g in
     record {
       firsts = free_values m.symbols types first;
       rest = u.used;
       others = u.others;
+      last = end.cells;
       begins = free_values-fit m.symbols types first s.valid;
       all = u.chosen;
       ends =
-          run_through m types f (free_values m.symbols types first) u.used u.others (u.used ++ []) (u.others ++ []) _ (append-nil u.used) (append-nil u.others) (u.ends [] [] [])
-          ∙ ap (λ ns. Some (place (initial f first m).cells [] [] ns)) (sym u.listed);
+          run_through m (init_types f) f start.cells u.used u.others (u.used ++ []) (u.others ++ []) _ (append-nil u.used) (append-nil u.others) (u.ends [] [] [])
+          ∙ ap (λ ns. Some (place end.cells [] [] ns)) (sym u.listed);
+      reaches = refl;
     }
 
 step_through : (m : Model) (types : List Ty) (f : Flat) (cells left others : List Value) (l o : List Value) (end : Option Placed) → l ≡ left → o ≡ others
@@ -114,21 +118,24 @@ pub initial_found : (f : Flat) (m : Model) (first : ℕ) (cells choices : List V
 unfolding started
 initial_found f m first cells choices sites s c l i =
     let types = cell_types f in
-    let w = runs_drawn m types f.init (place i.firsts i.rest i.others []) (place cells [] [] sites) i.ends in
+    let w = runs_drawn m (init_types f) f.init (place (widened m types f.further i.firsts) i.rest i.others []) (place i.last [] [] sites) i.ends in
     let n = with_values first m (i.firsts ++ w.frees) in
     let agrees = with_agrees first m (i.firsts ++ w.frees) l in
+    let below = fewer (length f.constants) first m n c agrees in
     let stands = with_stands first m (i.firsts ++ w.frees) l in
     let values = free_values-are n.symbols types i.firsts first i.begins (front_stands n.symbols first i.firsts w.frees stands) in
-    let start = begun n.symbols types first in
+    let start = wider n types f.further (begun n.symbols types first) in
+    let begins : start.cells ≡ widened m types f.further i.firsts =
+    ap (widened n types f.further) values ∙ sym (same_widened (length f.constants) m n types i.firsts f.further below s.further_reads) in
     let later_stands = back_stands n.symbols first (first + length types) i.firsts w.frees (omega (arith, fit_length types i.firsts i.begins)) stands in
-    let goes = w.ways n.symbols start later_stands values refl refl in
-    let same = same_drawn (length f.constants) m n types f.init n.symbols start s.init_reads (fewer (length f.constants) first m n c agrees) in
+    let goes = w.ways n.symbols start later_stands begins refl refl in
+    let same = same_drawn (length f.constants) m n (init_types f) f.init n.symbols start s.init_reads below in
     record {
       model = n;
       agrees = agrees;
       at = record {
         goes = ap (λ (d : Drawn). d.goes) (sym same) ∙ goes.goes;
-        cells = ap (λ (d : Drawn). d.cells) (sym same) ∙ goes.cells;
+        cells = ap (λ (d : Drawn). take (length types) d.cells) (sym same) ∙ ap (take (length types)) goes.cells ∙ i.reaches;
         chosen = ap (λ (d : Drawn). d.chosen) (sym same) ∙ goes.lists ∙ ap (λ vs. vs ++ w.used) values ∙ ap (λ vs. i.firsts ++ vs) (sym (nothing_left w.used [] i.rest w.left refl)) ∙ sym i.all;
         sites = ap (λ (d : Drawn). d.sites) (sym same) ∙ goes.listed ∙ sym w.sites;
       };

@@ -1,5 +1,5 @@
 -- Initial states and steps of a design as executions on choices, and what free values have to do with them.
-use Rattle.std.specs.Prelude.{◌≡◌, ℕ, ◌≤◌, true, IsTrue, List, [], ◌∷◌, ◌++◌, drop, length, Some}
+use Rattle.std.specs.Prelude.{◌≡◌, ℕ, ◌≤◌, true, IsTrue, List, [], ◌∷◌, ◌++◌, take, drop, length, Some}
 use Rattle.uc_values.specs.declared.ty.Ty.{Ty}
 use Rattle.uc_values.specs.declared.value.Value.{Value}
 use Rattle.uc_values.specs.Values.{fits}
@@ -8,8 +8,8 @@ use Rattle.uc_flat.specs.declared.flat.Flat.{Flat}
 use Rattle.uc_flat.specs.Drawn.{Drawn}
 use Rattle.uc_flat.specs.Running.{run_all}
 use Rattle.uc_flat.specs.Laws.{AgreeBelow}
-use Rattle.uc_flat.specs.Flats.{cell_types, IsSound}
-use Rattle.uc_flat.specs.Unrolled.{initial, after_step}
+use Rattle.uc_flat.specs.Flats.{cell_types, init_types, IsSound}
+use Rattle.uc_flat.specs.Unrolled.{widened, initial, after_step}
 
 -- the values fit the types, one by one
 unfoldable pub FitAll : List Ty → List Value → Type 0
@@ -18,14 +18,16 @@ FitAll (ty ∷ types) (v ∷ values) = IsTrue (fits ty v) × FitAll types values
 FitAll [] (v ∷ values) = ⊥
 FitAll (ty ∷ types) [] = ⊥
 
--- The choices begin with a fitting value for each cell, which are the cells before all init code. The code ends with these cells, uses the other choices and lists these sites.
+-- The choices begin with a fitting value for each cell, which are the cells before all init code. The code, which has further cells behind them, ends with these cells, uses the other choices and lists these sites.
 pub record IsInitial (f : Flat) (m : Model) (cells choices : List Value) (sites : List ℕ) : Type 0 where
   pub firsts : List Value
   pub rest : List Value
   pub others : List Value
+  pub last : List Value
   pub begins : FitAll (cell_types f) firsts
   pub all : choices ≡ firsts ++ rest
-  pub ends : run_all m (cell_types f) f.init (record { cells = firsts; left = rest; others = others; sites = [] }) ≡ Some (record { cells = cells; left = []; others = []; sites = sites })
+  pub ends : run_all m (init_types f) f.init (record { cells = widened m (cell_types f) f.further firsts; left = rest; others = others; sites = [] }) ≡ Some (record { cells = last; left = []; others = []; sites = sites })
+  pub reaches : take (length (cell_types f)) last ≡ cells
 
 -- The step's code, from the old cells and the same values as new cells, ends with these new cells, uses the choices and lists these sites.
 pub record IsStep (f : Flat) (m : Model) (old new choices : List Value) (sites : List ℕ) : Type 0 where

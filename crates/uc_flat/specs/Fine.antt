@@ -40,6 +40,10 @@ pub record AreFine (types : List Ty) (code : List Statement) : Type 0 where
   pub asserts : (site : ℕ) (e : Expression) → IsInside code (Assert site e) → IsTest types e
   pub decides : (e : Expression) (xs ys : List Statement) → IsInside code (If e xs ys) → IsTest types e
 
+-- each constant that an expression reads is one of these types, by its number, and is read at its type
+abbrev pub ReadsTyped : List Ty → Expression → Type 0
+ReadsTyped types e = (number : ℕ) (ty : Ty) (parts : List Expression) → IsWithin e (Apply (Symbol number ty) parts) → slice_get types number ≡ Some ty
+
 -- the constants that are read have numbers below n
 abbrev pub ReadsBelow : ℕ → Expression → Type 0
 ReadsBelow n e = (k : ℕ) (ty : Ty) (parts : List Expression) → IsWithin e (Apply (Symbol k ty) parts) → k < n

@@ -1,5 +1,5 @@
 -- Initial states, and steps one after another, where each free value is read in one list.
-use Rattle.std.specs.Prelude.{ℕ, zero, suc, ◌+◌, true, not, ◌&&◌, List, [], ◌∷◌, ◌++◌, drop, length, Bool}
+use Rattle.std.specs.Prelude.{ℕ, zero, suc, ◌+◌, true, not, ◌&&◌, List, [], ◌∷◌, ◌++◌, map, take, drop, length, Bool}
 use Rattle.std.specs.List.{list_all}
 use Rattle.uc_values.specs.declared.ty.Ty.{Ty}
 use Rattle.uc_values.specs.declared.value.Value.{Value}
@@ -7,10 +7,11 @@ use Rattle.uc_values.specs.Values.{truth_of}
 use Rattle.uc_ops.specs.declared.model.Model.{Model}
 use Rattle.uc_flat.specs.declared.statement.Statement.{Statement}
 use Rattle.uc_flat.specs.declared.flat.Flat.{Flat}
+use Rattle.uc_flat.specs.declared.expression.Expression.{Expression}
 use Rattle.uc_flat.specs.declared.flat.Formula.{Formula}
 use Rattle.uc_flat.specs.Reading.{value_of}
 use Rattle.uc_flat.specs.Drawn.{Drawn, free, drawn}
-use Rattle.uc_flat.specs.Flats.{cell_types, repeated, axioms_of}
+use Rattle.uc_flat.specs.Flats.{cell_types, wider_types, repeated, axioms_of}
 
 -- the free values of these types, from a number on
 unfoldable pub free_values : List Value → List Ty → ℕ → List Value
@@ -28,9 +29,20 @@ begun frees types n = record {
   next = n + length types;
 }
 
--- the state after the init code, where n is the number of the first free value
-unfoldable pub started : Model → List Ty → List Statement → ℕ → Drawn
-started m types init n = drawn m types m.symbols init (begun m.symbols types n)
+-- the cells, and behind them the further ones as they begin
+abbrev pub widened : Model → List Ty → List Expression → List Value → List Value
+widened m types further cells = cells ++ map (value_of m types cells) further
+
+abbrev pub wider : Model → List Ty → List Expression → Drawn → Drawn
+wider m types further r = record { cells = widened m types further r.cells; goes = r.goes; taken = r.taken; chosen = r.chosen; sites = r.sites; next = r.next }
+
+-- the first n cells alone
+abbrev pub narrower : ℕ → Drawn → Drawn
+narrower n r = record { cells = take n r.cells; goes = r.goes; taken = r.taken; chosen = r.chosen; sites = r.sites; next = r.next }
+
+-- The state after the init code, which runs over the cells and the further ones, in one list; n is the number of the first free value.
+unfoldable pub started : Model → List Ty → List Expression → List Statement → ℕ → Drawn
+started m types further init n = narrower (length types) (drawn m (wider_types types further) m.symbols init (wider m types further (begun m.symbols types n)))
 
 -- a step begins with the old cells, and with the same values as new cells
 abbrev pub doubled : Drawn → Drawn
@@ -51,7 +63,7 @@ seen m types step r (suc n) = stepped m types step (seen m types step r n)
 
 -- the initial state of a design, where n is the number of the first free value
 abbrev pub initial : Flat → ℕ → Model → Drawn
-initial f n m = started m (cell_types f) f.init n
+initial f n m = started m (cell_types f) f.further f.init n
 
 abbrev pub after_step : Flat → Model → Drawn → Drawn
 after_step f m = stepped m (cell_types f) f.step

@@ -53,7 +53,9 @@ pub struct Flat {
     pub cells: Items<Cell>,
     pub constants: Items<Constant>,
     pub functions: Items<Function>,
-    /// All init code, over the cells.
+    /// What further cells begin with, over the cells: only the init code has them, behind the others.
+    pub further: Items<Expression>,
+    /// All init code, over the cells and the further ones.
     pub init: Items<Statement>,
     /// A step's code, over the old cells and, after them, the new cells. What is read of a new cell is written before.
     pub step: Items<Statement>,

@@ -2,7 +2,7 @@
 use Rattle.std.proofs.Common.{◌≡◌, ℕ, zero, suc, List, [], ◌∷◌, ◌++◌, map, length, take, drop, refl, sym, ap, ◌∙◌, subst, true, Option, Some, None, arith, append-nil}
 use Rattle.std.specs.Prelude.{slice_get}
 use Rattle.std.specs.List.{flat_map, list_all}
-use Rattle.std.proofs.lemmas.List.{length-map}
+use Rattle.std.proofs.lemmas.List.{length-map, take_all}
 use Rattle.uc_syntax.specs.declared.declaration.Module.{Module}
 use Rattle.uc_values.specs.declared.ty.Ty.{Ty}
 use Rattle.uc_values.specs.declared.value.Value.{Value}
@@ -18,7 +18,8 @@ use Rattle.uc_ops.specs.declared.model.Model.{Model}
 use Rattle.uc_flat.specs.declared.flat.Flat.{Flat}
 use Rattle.uc_flat.specs.declared.flat.Constant.{Constant as FlatConstant}
 use Rattle.uc_flat.specs.declared.statement.Statement.{Statement}
-use Rattle.uc_flat.specs.Flats.{cell_types}
+use Rattle.uc_flat.specs.Flats.{cell_types, wider_types, init_types}
+use Rattle.uc_flat.specs.Unrolled.{widened}
 use Rattle.uc_flat.specs.Running.{Placed, run_all}
 use Rattle.uc_flat.specs.Executions.{FitAll, IsInitial as IsInitialOver, IsStep as IsStepOver}
 use Rattle.uc_flat_names.specs.Names.{StandsAlone, names_over_cells, types_of, constant_types, flat_constant}
@@ -55,6 +56,16 @@ types_are (c ∷ cells) = ap (λ ts. c.type ∷ ts) (types_are cells)
 
 pub flat_types : (system : System) (code : Module) (f : Flat) → IsFlatOf system code f → cell_types f ≡ types_of system
 flat_types system code f d = ap cell_types d.is ∙ types_are (cells_of system)
+
+-- the init code has no further cells
+pub no_further : (system : System) (code : Module) (f : Flat) → IsFlatOf system code f → f.further ≡ []
+no_further system code f d = ap (λ (g : Flat). g.further) d.is
+
+pub flat_init_types : (system : System) (code : Module) (f : Flat) → IsFlatOf system code f → init_types f ≡ types_of system
+flat_init_types system code f d = ap (wider_types (cell_types f)) (no_further system code f d) ∙ append-nil (cell_types f) ∙ flat_types system code f d
+
+not_widened : (system : System) (code : Module) (f : Flat) → IsFlatOf system code f → (m : Model) (cells : List Value) → widened m (cell_types f) f.further cells ≡ cells
+not_widened system code f d m cells = ap (λ es. widened m (cell_types f) es cells) (no_further system code f d) ∙ append-nil cells
 
 constants_are : (parts : List ConstantParts) → map (λ (c : FlatConstant). c.ty) (map flat_constant parts) ≡ map (λ (c : ConstantParts). c.type) parts
 constants_are [] = refl
@@ -130,8 +141,15 @@ module _ (system : System) (code : Module) (f : Flat) (i : Interp) (m : Model) (
   alike others cells left fit = sequential_holds system (bodies system) i m (types_of system) (names_over_cells system code) (init_of code) d.init others cells left (init_table system code (alone_of system code f d) m d.types d.constants i shared) d.init_is fit
 
   -- the init code over the cells of the design
-  same_init : (p : Placed) → run_all m (cell_types f) f.init p ≡ run_all m (types_of system) d.init p
-  same_init p = ap (λ ts. run_all m ts f.init p) (flat_types system code f d) ∙ ap (λ (g : Flat). run_all m (types_of system) g.init p) d.is
+  same_init : (others cells left : List Value) → run_all m (init_types f) f.init (placed others (widened m (cell_types f) f.further cells) left) ≡ run_all m (types_of system) d.init (placed others cells left)
+  same_init others cells left =
+      ap (λ cs. run_all m (init_types f) f.init (placed others cs left)) (not_widened system code f d m cells)
+      ∙ ap (λ ts. run_all m ts f.init (placed others cells left)) (flat_init_types system code f d)
+      ∙ ap (λ (g : Flat). run_all m (types_of system) g.init (placed others cells left)) d.is
+
+  -- the cells of the state are all cells
+  all_kept : (cells : List Value) → FitAll (types_of system) cells → take (length (cell_types f)) cells ≡ cells
+  all_kept cells fit = take_all (length (cell_types f)) cells (omega (arith, fit_length (types_of system) cells fit, ap length (flat_types system code f d)))
 
   initial_there : (s : State) (choices : List Value) (sites : List Site) → IsInitial system i s choices sites → IsInitialThere f m s choices sites
   initial_there s choices sites h =
@@ -150,9 +168,11 @@ module _ (system : System) (code : Module) (f : Flat) (i : Interp) (m : Model) (
           firsts = first;
           rest = left;
           others = [];
+          last = s.cells;
           begins = subst (λ ts. FitAll ts first) (sym (flat_types system code f d)) fit;
           all = whole choices n;
-          ends = same_init (placed [] first left) ∙ a.1 ∙ ap Some (at.flat ∙ ap (placed [] at.cells) none) ∙ ap (λ (q : State). Some (placed [] q.cells [])) (sym same);
+          ends = same_init [] first left ∙ a.1 ∙ ap Some (at.flat ∙ ap (placed [] at.cells) none) ∙ ap (λ (q : State). Some (placed [] q.cells [])) (sym same);
+          reaches = all_kept s.cells (subst (FitAll (types_of system)) (sym (ap (λ (q : State). q.cells) same)) at.fit);
         };
       }
 
@@ -161,13 +181,13 @@ module _ (system : System) (code : Module) (f : Flat) (i : Interp) (m : Model) (
       let n = length (cells_of system) in
       let fit : FitAll (types_of system) h.firsts = subst (λ ts. FitAll ts h.firsts) (flat_types system code f d) h.begins in
       let even : n ≡ length h.firsts = omega (arith, fit_length (types_of system) h.firsts fit, length-map (cells_of system) (λ (c : Cell). c.type)) in
-      let e = sym (same_init (placed h.others h.firsts h.rest)) ∙ h.ends in
-      let end : Placed = record { cells = cells; left = []; others = []; sites = sites } in
+      let e = sym (same_init h.others h.firsts h.rest) ∙ h.ends in
+      let end : Placed = record { cells = h.last; left = []; others = []; sites = sites } in
       let a = to_ending i (types_of system) h.others (run_by system (bodies system) (init_of code) (running i h.firsts h.rest)) (run_all m (types_of system) d.init (placed h.others h.firsts h.rest)) end (alike h.others h.firsts h.rest fit) e in
       let at = a.2 in
       let first : take n choices ≡ h.firsts = ap (take n) h.all ∙ take_front h.firsts h.rest n even in
       let left : drop n choices ≡ h.rest = ap (drop n) h.all ∙ drop_front h.firsts h.rest n even in
-      let same : at.cells ≡ cells = sym (ap (λ (p : Placed). p.cells) at.flat) in
+      let same : at.cells ≡ cells = sym (all_kept at.cells at.fit) ∙ ap (take (length (cell_types f))) (sym (ap (λ (p : Placed). p.cells) at.flat)) ∙ h.reaches in
       record {
         no_sites = ap (λ (p : Placed). p.sites) at.flat;
         fits = fit_types (types_of system) cells (subst (FitAll (types_of system)) same at.fit);

@@ -89,6 +89,7 @@ flat_with system init next axioms formulas = record {
   cells = map flat_cell (cells_of system);
   constants = flat_constants system;
   functions = [];
+  further = [];
   init = init;
   step = step_code (cells_of system) next;
   sites = [];

@@ -6,7 +6,8 @@ use Rattle.uc_flat.specs.declared.statement.Statement.TheOpen.{Statement-F}
 use Rattle.uc_flat.specs.declared.statement.Statement.TheOpen.Statement-F.{Assign as AssignForm, Havoc as HavocForm, Assume as AssumeForm, Assert as AssertForm, If as IfForm}
 use Rattle.uc_flat.specs.declared.statement.Statement.TheViews.{out-Statement}
 use Rattle.uc_flat.specs.declared.statement.Statement.TheVariants.{Assign, Assume, Assert, If, rolls-Assert}
-use Rattle.uc_symstep.specs.Known.{ReadsTyped, CodeReadsTyped}
+use Rattle.uc_flat.specs.Fine.{ReadsTyped}
+use Rattle.uc_symstep.specs.Known.{CodeReadsTyped}
 use Rattle.uc_flat_fits.proofs.Standing.{Everywhere, out_statement, out_assign, out_assume, out_if}
 
 -- a statement by itself, apart from those inside it

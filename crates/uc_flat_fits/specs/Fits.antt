@@ -6,12 +6,12 @@ use Rattle.uc_values.specs.declared.ty.Ty.{Ty}
 use Rattle.uc_ops.specs.Typing.{AllValid}
 use Rattle.uc_flat.specs.declared.statement.Statement.{Statement}
 use Rattle.uc_flat.specs.Reading.{type_of}
-use Rattle.uc_flat.specs.Fine.{IsTyped, AreFine, ReadsBelow, CodeReadsBelow}
+use Rattle.uc_flat.specs.Fine.{IsTyped, AreFine, ReadsBelow, CodeReadsBelow, ReadsTyped}
 use Rattle.uc_flat_expressions.specs.declared.typed.TypedExpression.{TypedExpression}
 use Rattle.uc_flat_expressions.specs.declared.typed.Meant.{Meant}
 use Rattle.uc_flat_expressions.specs.declared.typed.Meant.TheVariants.{Cell}
 use Rattle.uc_flat_expressions.specs.Expressions.{flat_of}
-use Rattle.uc_symstep.specs.Known.{ReadsTyped, CodeReadsTyped}
+use Rattle.uc_symstep.specs.Known.{CodeReadsTyped}
 use Rattle.uc_flat_code.specs.declared.writing.Writing.{Writing}
 use Rattle.uc_flat_code.specs.Code.{code_of}
 

@@ -73,6 +73,8 @@ is_low_reads = reads_apply 1 Not (Cell 0 ∷ []) (λ k ty i. cc) (one (ReadsBelo
 toggle_sound : IsSound toggle
 toggle_sound = record {
   valid = one Valid Bool valid-Bool;
+  further = none (IsTyped (Bool ∷ []));
+  further_reads = none (ReadsBelow 1);
   init = fine_assign (Bool ∷ []) 0 low (low_typed (Bool ∷ [])) (ap Some (sym (type_apply (Bool ∷ []) (Const Bool (Truth false)) [])));
   init_reads = reads_assign 1 0 low low_reads;
   step = fine_assign both 1 turned turned_typed (ap Some (sym (type_apply both Not (Apply Eq (Cell 0 ∷ enabled ∷ []) ∷ []))));

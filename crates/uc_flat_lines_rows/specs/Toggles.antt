@@ -34,6 +34,7 @@ toggle = record {
   cells = record { path = []; name = 0; ty = Bool } ∷ [];
   constants = record { name = 1; ty = Bool } ∷ [];
   functions = [];
+  further = [];
   init = gives 0 low;
   step = gives 1 turned;
   sites = [];

@@ -79,6 +79,7 @@ pub(crate) fn toggle(alloc: Global) -> Result<Flat, AllocError>
         cells,
         constants,
         functions: Items::new(alloc),
+        further: Items::new(alloc),
         init,
         step,
         sites: Items::new(alloc),

@@ -44,6 +44,7 @@ flat_over cells constants init next conditions = record {
   cells = map flat_cell cells;
   constants = constants;
   functions = [];
+  further = [];
   init = init;
   step = step_code cells next;
   sites = [];

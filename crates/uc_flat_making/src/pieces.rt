@@ -94,6 +94,7 @@ fn flat_over(
         cells,
         constants: Items::new(alloc),
         functions: Items::new(alloc),
+        further: Items::new(alloc),
         init,
         step,
         sites: Items::new(alloc),

@@ -15,13 +15,13 @@ use Rattle.uc_ops.specs.Meaning.{apply}
 use Rattle.uc_ops.proofs.Fitting.{apply-fits}
 use Rattle.uc_ops.proofs.Typed.{type_of-valid}
 use Rattle.uc_flat.specs.Reading.{type_of, value_of}
-use Rattle.uc_flat.specs.Fine.{IsTyped}
+use Rattle.uc_flat.specs.Fine.{IsTyped, ReadsTyped}
 use Rattle.uc_flat.proofs.Forms.{type_apply, value_apply}
 use Rattle.uc_flat.proofs.Making.{typed_apply}
 use Rattle.uc_flat_expressions.specs.declared.typed.TypedExpression.{TypedExpression}
 use Rattle.uc_flat_expressions.specs.Building.{expressions_in, operation}
 use Rattle.uc_meaning.specs.Expressions.{Reading, reads}
-use Rattle.uc_flat_meaning.specs.Sayings.{ReadsTyped, Says}
+use Rattle.uc_flat_meaning.specs.Sayings.{Says}
 use Rattle.uc_flat_meaning.proofs.OnlyReads.{apply_reads}
 
 abbrev pub types_in : List TypedExpression → List Ty

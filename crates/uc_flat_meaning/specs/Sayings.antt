@@ -1,17 +1,14 @@
 -- When an expression over cells says what an expression of a design says.
-use Rattle.std.specs.Prelude.{◌≡◌, ℕ, pos, Bool as Truth, IsTrue, List, Option, Some, None, slice_get}
+use Rattle.std.specs.Prelude.{◌≡◌, ℕ, pos, Bool as Truth, IsTrue, List, Option, Some, None}
 use Rattle.uc_values.specs.Values.{fits}
 use Rattle.uc_values.specs.declared.ty.Ty.{Ty}
 use Rattle.uc_values.specs.declared.ty.Ty.TheVariants.{Int}
 use Rattle.uc_values.specs.declared.value.Value.{Value}
 use Rattle.uc_values.specs.declared.value.Value.TheVariants.{Int as whole}
 use Rattle.uc_ops.specs.declared.model.Model.{Model}
-use Rattle.uc_ops.specs.declared.op.Op.TheVariants.{Symbol}
 use Rattle.uc_ops.specs.Typing.{Valid}
 use Rattle.uc_flat.specs.Reading.{type_of, value_of}
-use Rattle.uc_flat.specs.Fine.{IsTyped, IsWithin}
-use Rattle.uc_flat.specs.declared.expression.Expression.{Expression}
-use Rattle.uc_flat.specs.declared.expression.Expression.TheVariants.{Apply}
+use Rattle.uc_flat.specs.Fine.{IsTyped, ReadsTyped}
 use Rattle.uc_flat_expressions.specs.declared.typed.TypedExpression.{TypedExpression}
 use Rattle.uc_flat_expressions.specs.declared.typed.Meant.{Meant}
 use Rattle.uc_flat_expressions.specs.Names.{named}
@@ -23,10 +20,6 @@ use Rattle.uc_meaning.specs.Expressions.{Reading, elsewhere, name, instance_at}
 abbrev pub IsNumber : Option ℕ → Reading → Type 0
 IsNumber None r = Unit {0}
 IsNumber (Some n) r = (r.type ≡ Int) × (r.value ≡ whole (pos n))
-
--- each constant that an expression reads is one of these types, by its number, and is read at its type
-abbrev pub ReadsTyped : List Ty → Expression → Type 0
-ReadsTyped constants e = (number : ℕ) (ty : Ty) (parts : List Expression) → IsWithin e (Apply (Symbol number ty) parts) → slice_get constants number ≡ Some ty
 
 -- An expression over cells of these types says what is read: it is typed and of its type, a valid one, reads constants of these types, and what is read has this type and the value that the expression has on the cells, which fits the type.
 pub record Says (constants : List Ty) (m : Model) (types : List Ty) (cells : List Value) (r : Reading) (t : TypedExpression) : Type 0 where

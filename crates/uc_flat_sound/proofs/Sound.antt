@@ -2,7 +2,7 @@
 use Rattle.std.proofs.Common.{◌≡◌, ℕ, zero, suc, ◌+◌, ◌<◌, ◌≤◌, List, [], ◌∷◌, ◌++◌, map, length, take, refl, sym, ap, ◌∙◌, subst, true, false, Bool, Some, arith, slice_get, append-nil}
 use Rattle.std.specs.Prelude.{if◌then◌else◌, All}
 use Rattle.std.proofs.lemmas.List.{length-map, length-append}
-use Rattle.std.proofs.lemmas.List.Elements.{All-cons, All-head, All-tail, All-append, All-weaker}
+use Rattle.std.proofs.lemmas.List.Elements.{All-nil, All-cons, All-head, All-tail, All-append, All-weaker}
 use Rattle.std.proofs.lemmas.Option.{slice_get_within}
 use Rattle.uc_syntax.specs.declared.declaration.Module.{Module}
 use Rattle.uc_values.specs.declared.ty.Ty.{Ty}
@@ -15,10 +15,10 @@ use Rattle.uc_flat.specs.declared.flat.Flat.{Flat}
 use Rattle.uc_flat.specs.declared.flat.Formula.{Formula}
 use Rattle.uc_flat.specs.declared.statement.Statement.{Statement}
 use Rattle.uc_flat.specs.declared.statement.Statement.TheVariants.{Havoc}
-use Rattle.uc_flat.specs.Fine.{IsTest, AreFine, ReadsBelow, CodeReadsBelow}
-use Rattle.uc_flat.specs.Flats.{cell_types, repeated, axioms_of, IsFormula, IsSound}
+use Rattle.uc_flat.specs.Fine.{IsTyped, IsTest, AreFine, ReadsBelow, CodeReadsBelow, ReadsTyped}
+use Rattle.uc_flat.specs.Flats.{cell_types, init_types, repeated, axioms_of, IsFormula, IsSound}
 use Rattle.uc_flat.proofs.Making.{Alone, fine_alone}
-use Rattle.uc_symstep.specs.Known.{ReadsTyped, CodeReadsTyped, constants_typed, ReadsOwnTypes}
+use Rattle.uc_symstep.specs.Known.{CodeReadsTyped, constants_typed, ReadsOwnTypes}
 use Rattle.uc_flat_expressions.specs.declared.typed.Meant.{Meant}
 use Rattle.uc_flat_names.specs.Names.{StandsAlone, names_over_cells, types_of, names_of_constants, constant_types}
 use Rattle.uc_flat_names.specs.Constants.{SharesConstants}
@@ -34,7 +34,7 @@ use Rattle.uc_flat_design.specs.Design.{next_names, next_arranged, IsFlatOf}
 use Rattle.uc_flat_design.proofs.Formulas.{axioms_read, invariants_read}
 use Rattle.uc_flat_design.proofs.Tables.{all_valid, zero_interpretation, zero_model, zero_shared, says_at_zeros, axiom_says_at_zeros, init_table}
 use Rattle.uc_flat_design.proofs.NextTable.{next_table, next_says_at_zeros}
-use Rattle.uc_flat_design.proofs.Laws.{alone_of, flat_types, flat_constant_types}
+use Rattle.uc_flat_design.proofs.Laws.{alone_of, no_further, flat_types, flat_init_types, flat_constant_types}
 use Rattle.uc_flat_sound.specs.Law.{SoundLaw, OwnTypesLaw}
 
 valid_append : (xs ys : List Ty) → AllValid xs → AllValid ys → AllValid (xs ++ ys)
@@ -193,8 +193,12 @@ module _ (system : System) (code : Module) (f : Flat) (d : IsFlatOf system code 
   typed : constants_typed f ≡ constants
   typed = flat_constant_types system code f d
 
+  none_further : (P : Expression → Type 0) → All P f.further
+  none_further P = subst (All P) (sym (no_further system code f d)) (All-nil P)
+
   own_types : ReadsOwnTypes f
   own_types = record {
+    further = none_further (ReadsTyped (constants_typed f));
     init = subst (λ ts. CodeReadsTyped ts f.init) (sym typed) (subst (λ (g : Flat). CodeReadsTyped constants g.init) (sym d.is) init_reads);
     step = subst (λ ts. CodeReadsTyped ts f.step) (sym typed) (subst (λ (g : Flat). CodeReadsTyped constants g.step) (sym d.is) step_reads);
     formulas = All-weaker Fits (λ (x : Formula). ReadsTyped (constants_typed f) x.condition) (λ x a. subst (λ ts. ReadsTyped ts x.condition) (sym typed) a.1) f.formulas formulas_fit;
@@ -212,7 +216,9 @@ module _ (system : System) (code : Module) (f : Flat) (d : IsFlatOf system code 
   sound : IsSound f
   sound = record {
     valid = subst AllValid (sym (flat_types system code f d)) valid;
-    init = subst (λ (g : Flat). AreFine (cell_types f) g.init) (sym d.is) (subst (λ ts. AreFine ts d.init) (sym (flat_types system code f d)) (fine_alone types d.init init_fine.at));
+    further = none_further (IsTyped (cell_types f));
+    further_reads = none_further (ReadsBelow (length f.constants));
+    init = subst (λ (g : Flat). AreFine (init_types f) g.init) (sym d.is) (subst (λ ts. AreFine ts d.init) (sym (flat_init_types system code f d)) (fine_alone types d.init init_fine.at));
     init_reads = subst (λ n. CodeReadsBelow n f.init) counted (code_below (constants_typed f) f.init own_types.init);
     step = subst (λ (g : Flat). AreFine (cell_types f ++ cell_types f) g.step) (sym d.is)
         (subst (λ ts. AreFine (ts ++ ts) (step_code (cells_of system) d.next)) (sym (flat_types system code f d)) (fine_alone (types ++ types) (step_code (cells_of system) d.next) step_fine.at));

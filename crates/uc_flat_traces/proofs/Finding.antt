@@ -15,13 +15,13 @@ use Rattle.uc_flat.specs.declared.flat.Formula.{Formula}
 use Rattle.uc_flat.specs.Counts.{all_draws}
 use Rattle.uc_flat.specs.Drawn.{Drawn, free}
 use Rattle.uc_flat.specs.Laws.{StandAt, AgreeBelow}
-use Rattle.uc_flat.specs.Flats.{cell_types, repeated, axioms_of, IsSound, IsFormula}
-use Rattle.uc_flat.specs.Unrolled.{free_values, begun, started, doubled, stepped, holds_in, axioms_hold, is_refuted}
+use Rattle.uc_flat.specs.Flats.{cell_types, init_types, repeated, axioms_of, IsSound, IsFormula}
+use Rattle.uc_flat.specs.Unrolled.{free_values, begun, widened, wider, started, doubled, stepped, holds_in, axioms_hold, is_refuted}
 use Rattle.uc_flat.specs.Executions.{FitAll, IsInitial, IsStep}
 use Rattle.uc_flat.proofs.Extending.{slice_get-front, slice_get-back, next_after}
 use Rattle.uc_flat.proofs.Choosing.{place}
 use Rattle.uc_flat.proofs.Finding.{runs_drawn, fitting_is, front_stands, back_stands}
-use Rattle.uc_flat.proofs.Constants.{same_drawn, same_value}
+use Rattle.uc_flat.proofs.Constants.{same_drawn, same_value, same_widened}
 use Rattle.uc_flat_traces.specs.declared.trace.FlatPosition.{FlatPosition}
 use Rattle.uc_flat_traces.specs.declared.trace.FlatTrace.{FlatTrace}
 use Rattle.uc_flat_traces.specs.Traces.{constant_types, IsRun, RefutesFlat}
@@ -84,20 +84,22 @@ found_first : (f : Flat) (m : Model) (cells choices : List Value) (sites : List 
 unfolding started
 found_first f m cells choices sites s i =
     let types = cell_types f in
-    let w = runs_drawn m types f.init (place i.firsts i.rest i.others []) (place cells [] [] sites) i.ends in
+    let w = runs_drawn m (init_types f) f.init (place (widened m types f.further i.firsts) i.rest i.others []) (place i.last [] [] sites) i.ends in
     record {
       frees = i.firsts ++ w.frees;
       ways = λ n agrees stands.
           let values = free_values-are n.symbols types i.firsts (count f) i.begins (front_stands n.symbols (count f) i.firsts w.frees stands) in
-          let start = begun n.symbols types (count f) in
+          let start = wider n types f.further (begun n.symbols types (count f)) in
+          let begins : start.cells ≡ widened m types f.further i.firsts =
+          ap (widened n types f.further) values ∙ sym (same_widened (count f) m n types i.firsts f.further agrees s.further_reads) in
           let later_stands = back_stands n.symbols (count f) (count f + length types) i.firsts w.frees (omega (arith, fit_length types i.firsts i.begins)) stands in
-          let goes = w.ways n.symbols start later_stands values refl refl in
-          let same = same_drawn (count f) m n types f.init n.symbols start s.init_reads agrees in
+          let goes = w.ways n.symbols start later_stands begins refl refl in
+          let same = same_drawn (count f) m n (init_types f) f.init n.symbols start s.init_reads agrees in
           record {
-            goes = ap (λ (d : Drawn). d.goes) (after_zero f n ∙ sym same) ∙ goes.goes;
-            cells = ap (λ (d : Drawn). d.cells) (after_zero f n ∙ sym same) ∙ goes.cells;
+            goes = ap (λ (d : Drawn). d.goes) (after_zero f n) ∙ ap (λ (d : Drawn). d.goes) (sym same) ∙ goes.goes;
+            cells = ap (λ (d : Drawn). d.cells) (after_zero f n) ∙ ap (λ (d : Drawn). take (length types) d.cells) (sym same) ∙ ap (take (length types)) goes.cells ∙ i.reaches;
             next =
-                let e : (after f n 0).next ≡ count f + length types + all_draws f.init = ap (λ (d : Drawn). d.next) (after_zero f n) ∙ next_after n types f.init n.symbols start in
+                let e : (after f n 0).next ≡ count f + length types + all_draws f.init = ap (λ (d : Drawn). d.next) (after_zero f n) ∙ next_after n (init_types f) f.init n.symbols start in
                 omega (arith, e, w.count, fit_length types i.firsts i.begins, length-append i.firsts w.frees);
           };
     }

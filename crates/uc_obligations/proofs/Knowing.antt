@@ -17,12 +17,12 @@ use Rattle.uc_flat.specs.declared.expression.Expression.{Expression}
 use Rattle.uc_flat.specs.declared.statement.Statement.{Statement}
 use Rattle.uc_flat.specs.declared.flat.Flat.{Flat}
 use Rattle.uc_flat.specs.declared.flat.Formula.{Formula}
-use Rattle.uc_flat.specs.Fine.{ReadsBelow, CodeReadsBelow}
-use Rattle.uc_flat.specs.Flats.{cell_types, IsSound, IsFormula}
+use Rattle.uc_flat.specs.Fine.{ReadsBelow, CodeReadsBelow, ReadsTyped}
+use Rattle.uc_flat.specs.Flats.{cell_types, init_types, IsSound, IsFormula}
 use Rattle.uc_symstep.specs.declared.state.SymState.{SymState}
 use Rattle.uc_symstep.specs.Growing.{Grows}
 use Rattle.uc_symstep.specs.Unrolled.{IsSeen}
-use Rattle.uc_symstep.specs.Known.{IsKnown, known, ReadsTyped, CodeReadsTyped, constants_typed, draw_types, step_types, supply_after, ReadsOwnTypes, KnowsState}
+use Rattle.uc_symstep.specs.Known.{IsKnown, known, CodeReadsTyped, constants_typed, draw_types, step_types, supply_after, ReadsOwnTypes, KnowsState}
 use Rattle.uc_symstep.proofs.Known.{known_grows, all_known_grow, known_later, code_reads_more}
 use Rattle.uc_symstep.proofs.Grown.{grows_on}
 use Rattle.uc_obligations.specs.declared.unrolling.Unrolling.{Unrolling}
@@ -100,7 +100,7 @@ supply_next f n = refl
 
 pub supply_begins : (f : Flat) (n : ℕ) → (more : List Ty) × (supply_after f n ≡ constants_typed f ++ more)
 unfolding supply_after
-supply_begins f zero = (cell_types f ++ draw_types (cell_types f) f.init, append_assoc (constants_typed f) (cell_types f) (draw_types (cell_types f) f.init))
+supply_begins f zero = (cell_types f ++ draw_types (init_types f) f.init, append_assoc (constants_typed f) (cell_types f) (draw_types (init_types f) f.init))
 supply_begins f (suc n) =
     let r = supply_begins f n in
     (r.0 ++ step_types f, ap (λ ts. ts ++ step_types f) r.1 ∙ append_assoc (constants_typed f) r.0 (step_types f))
@@ -128,12 +128,12 @@ one_last t s states i at = let e : Some t ≡ Some s = sym (ap (λ ss. slice_get
 
 pub begun_known : (f : Flat) (a b c : List Node) (axioms first next : ℕ) (s t : SymState) (states : List SymState) → Grows a b → Grows b c → first ≡ length f.constants
     → ((supply : List Ty) → AllReadTyped supply f.formulas → IsKnown supply a axioms)
-    → (CodeReadsTyped (constants_typed f) f.init → first ≡ length f.constants → KnowsState (supply_after f 0) b s next)
+    → (All (ReadsTyped (constants_typed f)) f.further → CodeReadsTyped (constants_typed f) f.init → first ≡ length f.constants → KnowsState (supply_after f 0) b s next)
     → ((supply : List Ty) (k : ℕ) → KnowsState supply b s k → KnowsState supply c t k) → states ≡ t ∷ []
     → ReadsOwnTypes f → KnowsLast f c 0 (record { axioms = axioms; states = states; fresh = record { next = next } })
 begun_known f a b c axioms first next s t states g h i p q simpler j r = record {
   axioms = known_grows (supply_after f 0) a c (grows_on a b c g h) axioms (p (supply_after f 0) (formulas_read f 0 r));
-  last = λ u at. subst (λ v. KnowsState (supply_after f 0) c v next) (one_last t u states j at) (simpler (supply_after f 0) next (q r.init i));
+  last = λ u at. subst (λ v. KnowsState (supply_after f 0) c v next) (one_last t u states j at) (simpler (supply_after f 0) next (q r.further r.init i));
 }
 
 last_of : (run more : List SymState) (n : ℕ) (t s : SymState) → length run ≡ n + 1 → more ≡ run ++ t ∷ [] → slice_get more (n + 1) ≡ Some s → t ≡ s
@@ -215,6 +215,7 @@ pub no_constants : (f : Flat) → IsSound f → f.constants ≡ [] → ReadsOwnT
 no_constants f s none =
     let Q : Formula → Type 0 = λ x. ReadsTyped (constants_typed f) x.condition in
     record {
+      further = All-weaker (ReadsBelow (length f.constants)) (ReadsTyped (constants_typed f)) (λ e h. no_reads f e none h) f.further s.further_reads;
       init = no_code_reads f f.init none s.init_reads;
       step = no_code_reads f f.step none s.step_reads;
       formulas = All-weaker (IsFormula f) Q (λ x h. no_reads f x.condition none h.reads) f.formulas s.formulas;

@@ -8,11 +8,12 @@ use Rattle.uc_ops.specs.declared.node.Node.{Node}
 use Rattle.uc_flat.specs.declared.flat.Flat.{Flat}
 use Rattle.uc_flat.specs.declared.flat.Formula.{Formula}
 use Rattle.uc_flat.specs.Unrolled.{axioms_hold}
+use Rattle.uc_flat.specs.Fine.{ReadsTyped}
 use Rattle.uc_symstep.specs.declared.state.SymState.{SymState}
 use Rattle.uc_symstep.specs.Growing.{Grows, IsTerm}
 use Rattle.uc_symstep.specs.Unrolled.{shows, IsSeen}
 use Rattle.uc_symstep.specs.Designs.{Unrolls}
-use Rattle.uc_symstep.specs.Known.{IsKnown, KnowsState, ReadsTyped, ReadsOwnTypes, supply_after}
+use Rattle.uc_symstep.specs.Known.{IsKnown, KnowsState, ReadsOwnTypes, supply_after}
 use Rattle.uc_obligations.specs.declared.unrolling.Unrolling.{Unrolling}
 
 -- each formula reads its constants at the types of the supply

@@ -3,7 +3,7 @@ use Rattle.std.proofs.Common.{◌≡◌, ℕ, ◌+◌, ◌<◌, ◌≤◌, List,
 use Rattle.std.specs.Prelude.{All, Contains, Bool as Truth}
 use Rattle.std.specs.List.{flat_map}
 use Rattle.std.proofs.lemmas.List.{take_more, map-append, take_all, length-take-le, length-map}
-use Rattle.std.proofs.lemmas.List.Elements.{All-nil, All-cons, All-head, All-tail, All-push, All-weaker, All-append, All-drop, All-contains}
+use Rattle.std.proofs.lemmas.List.Elements.{All-nil, All-cons, All-head, All-tail, All-push, All-weaker, All-append, All-take, All-drop, All-contains}
 use Rattle.uc_values.specs.declared.ty.Ty.{Ty}
 use Rattle.uc_ops.specs.declared.op.Op.{Op}
 use Rattle.uc_ops.specs.declared.op.Op.TheVariants.{Symbol}
@@ -18,16 +18,16 @@ use Rattle.uc_flat.specs.declared.statement.Statement.TheVariants.{Assign, Havoc
 use Rattle.uc_flat.specs.declared.statement.Statement.TheOpen.Statement-F.{Assign as AssignForm, Havoc as HavocForm, Assume as AssumeForm, Assert as AssertForm, If as IfForm}
 use Rattle.uc_flat.specs.declared.statement.Statement.TheViews.{roll-Statement}
 use Rattle.uc_flat.specs.declared.statement.Statement.TheFolds.{fold-roll-Statement}
-use Rattle.uc_flat.specs.Fine.{IsWithin, itself, IsInside}
+use Rattle.uc_flat.specs.Fine.{IsWithin, itself, IsInside, ReadsTyped}
 use Rattle.uc_flat.proofs.Inside.{contains_at, part_within, within_whole, inside_whole, one_inside, one_of, first_of, second_of}
 use Rattle.uc_flat.specs.declared.flat.Flat.{Flat}
 use Rattle.uc_flat.specs.declared.flat.Formula.{Formula}
-use Rattle.uc_flat.specs.Flats.{cell_types}
+use Rattle.uc_flat.specs.Flats.{cell_types, wider_types, init_types}
 use Rattle.uc_symstep.specs.declared.state.Symbolic.{Symbolic}
 use Rattle.uc_symstep.specs.declared.state.SymState.{SymState}
 use Rattle.uc_symstep.specs.declared.branch.Open.{Open}
 use Rattle.uc_symstep.specs.Growing.{Grows}
-use Rattle.uc_symstep.specs.Known.{IsKnown, known, ReadsTyped, CodeReadsTyped, joined, draw_form, drawn_by, draw_types, constants_typed, step_types, supply_after, KnowsPlace, Knows, Extends, KnowsArms}
+use Rattle.uc_symstep.specs.Known.{IsKnown, known, CodeReadsTyped, joined, draw_form, drawn_by, draw_types, constants_typed, step_types, supply_after, KnowsPlace, Knows, Extends, KnowsArms}
 use Rattle.uc_symstep.proofs.Runs.{formula_is}
 
 got_front : {A : Type 0} (xs ys : List A) (k : ℕ) (x : A) → slice_get xs k ≡ Some x → slice_get (xs ++ ys) k ≡ Some x
@@ -374,10 +374,37 @@ doubled_known supply old new own twice copy path next g i j h =
       next = h.next;
     }
 
--- what the code of a start leaves
-pub started_known : (types : List Ty) (init : List Statement) (mid new : List Node) (n : ℕ) (d r : Symbolic) → ((supply : List Ty) → n ≡ length supply → Knows (supply ++ types) mid d)
-    → CodeExtends types init (draw_types types init) mid d new r → (supply : List Ty) → CodeReadsTyped supply init → n ≡ length supply → Knows ((supply ++ types) ++ draw_types types init) new r
-started_known types init mid new n d r f g supply reads l = g (supply ++ types) (code_reads_more supply types init reads) (f supply l)
+-- further cells behind the others
+pub widened_known : (supply : List Ty) (old new : List Node) (s : Symbolic) (more cells : List ℕ) → Grows old new → cells ≡ s.cells ++ more → All (IsKnown supply new) more → Knows supply old s
+    → KnowsPlace (supply ++ []) new cells s.path s.next
+widened_known supply old new s more cells g i h a = record {
+  cells = all_known_more supply [] new cells (subst (All (IsKnown supply new)) (sym i) (All-append (IsKnown supply new) s.cells more (all_known_grow supply old new g s.cells a.cells) h));
+  path = known_later supply [] old new g s.path a.path;
+  next = none_more supply s.next a.next;
+}
+
+all_reads_more : (supply more : List Ty) (es : List Expression) → All (ReadsTyped supply) es → All (ReadsTyped (supply ++ more)) es
+all_reads_more supply more es h = All-weaker (ReadsTyped supply) (ReadsTyped (supply ++ more)) (λ e. reads_more supply more e) es h
+
+pub begun_wide_known : (types : List Ty) (further : List Expression) (mid new : List Node) (n : ℕ) (d t : Symbolic) → ((supply : List Ty) → n ≡ length supply → Knows (supply ++ types) mid d)
+    → Extends (λ supply. All (ReadsTyped supply) further) [] mid d new t → (supply : List Ty) → All (ReadsTyped supply) further → n ≡ length supply → Knows (supply ++ types) new t
+begun_wide_known types further mid new n d t f g supply reads l =
+    subst (λ ts. Knows ts new t) (append-nil (supply ++ types)) (g (supply ++ types) (all_reads_more supply types further reads) (f supply l))
+
+-- what the code of a start leaves in the cells of the state
+pub started_known : (types wide all : List Ty) (further : List Expression) (init : List Statement) (mid new : List Node) (n : ℕ) (d r : Symbolic) (xs cells : List ℕ)
+    → ((supply : List Ty) → All (ReadsTyped supply) further → n ≡ length supply → Knows (supply ++ types) mid d)
+    → CodeExtends wide init (draw_types wide init) mid d new r → wide ≡ all → xs ≡ r.cells → cells ≡ take (length types) xs
+    → (supply : List Ty) → All (ReadsTyped supply) further → CodeReadsTyped supply init → n ≡ length supply → KnowsPlace ((supply ++ types) ++ draw_types all init) new cells r.path r.next
+started_known types wide all further init mid new n d r xs cells f g i j k supply more reads l =
+    let end = g (supply ++ types) (code_reads_more supply types init reads) (f supply more l) in
+    let known_by = (supply ++ types) ++ draw_types wide init in
+    let here : KnowsPlace known_by new cells r.path r.next = record {
+      cells = subst (All (IsKnown known_by new)) (sym (k ∙ ap (take (length types)) j)) (All-take (IsKnown known_by new) (length types) r.cells end.cells);
+      path = end.path;
+      next = end.next;
+    } in
+    subst (λ ts. KnowsPlace ((supply ++ types) ++ draw_types ts init) new cells r.path r.next) i here
 
 -- what the code of a step leaves in the new cells
 pub stepped_known : (types two : List Ty) (step : List Statement) (old mid new : List Node) (before own xs cells : List ℕ) (path next : ℕ) (d r : Symbolic)
@@ -395,12 +422,13 @@ stepped_known types two step old mid new before own xs cells path next d r f g i
 
 -- Designs.
 
-pub start_of_known : (f : Flat) (types : List Ty) (init : List Statement) (new : List Node) (cells : List ℕ) (path next n : ℕ) → types ≡ cell_types f → init ≡ f.init
-    → ((supply : List Ty) → CodeReadsTyped supply init → n ≡ length supply → KnowsPlace ((supply ++ types) ++ draw_types types init) new cells path next)
-    → (supply : List Ty) → CodeReadsTyped supply f.init → n ≡ length supply → KnowsPlace ((supply ++ cell_types f) ++ draw_types (cell_types f) f.init) new cells path next
-start_of_known f types init new cells path next n i j h supply reads l =
-    subst (λ ts. KnowsPlace ((supply ++ ts) ++ draw_types ts f.init) new cells path next) i
-    (subst (λ code. KnowsPlace ((supply ++ types) ++ draw_types types code) new cells path next) j (h supply (subst (CodeReadsTyped supply) (sym j) reads) l))
+pub start_of_known : (f : Flat) (types : List Ty) (further : List Expression) (init : List Statement) (new : List Node) (cells : List ℕ) (path next n : ℕ) → types ≡ cell_types f → further ≡ f.further → init ≡ f.init
+    → ((supply : List Ty) → All (ReadsTyped supply) further → CodeReadsTyped supply init → n ≡ length supply → KnowsPlace ((supply ++ types) ++ draw_types (wider_types types further) init) new cells path next)
+    → (supply : List Ty) → All (ReadsTyped supply) f.further → CodeReadsTyped supply f.init → n ≡ length supply → KnowsPlace ((supply ++ cell_types f) ++ draw_types (init_types f) f.init) new cells path next
+start_of_known f types further init new cells path next n i w j h supply more reads l =
+    subst (λ ts. KnowsPlace ((supply ++ ts) ++ draw_types (wider_types ts f.further) f.init) new cells path next) i
+    (subst (λ es. KnowsPlace ((supply ++ types) ++ draw_types (wider_types types es) f.init) new cells path next) w
+    (subst (λ code. KnowsPlace ((supply ++ types) ++ draw_types (wider_types types further) code) new cells path next) j (h supply (subst (All (ReadsTyped supply)) (sym w) more) (subst (CodeReadsTyped supply) (sym j) reads) l)))
 
 pub step_of_known : (f : Flat) (types two : List Ty) (step : List Statement) (old new : List Node) (before cells : List ℕ) (own path next n : ℕ) → types ≡ cell_types f → two ≡ types ++ types → step ≡ f.step
     → ((supply : List Ty) → CodeReadsTyped supply step → KnowsPlace supply old before own n → KnowsPlace (supply ++ draw_types two step) new cells path next)
@@ -411,10 +439,10 @@ step_of_known f types two step old new before cells own path next n i j k h supp
     (subst (λ code. KnowsPlace (supply ++ draw_types two code) new cells path next) k (h supply (subst (CodeReadsTyped supply) (sym k) reads) b))
 
 pub init_known : (f : Flat) (new : List Node) (cells : List ℕ) (path next n : ℕ)
-    → ((supply : List Ty) → CodeReadsTyped supply f.init → n ≡ length supply → KnowsPlace ((supply ++ cell_types f) ++ draw_types (cell_types f) f.init) new cells path next)
-    → CodeReadsTyped (constants_typed f) f.init → n ≡ length f.constants → KnowsPlace (supply_after f 0) new cells path next
+    → ((supply : List Ty) → All (ReadsTyped supply) f.further → CodeReadsTyped supply f.init → n ≡ length supply → KnowsPlace ((supply ++ cell_types f) ++ draw_types (init_types f) f.init) new cells path next)
+    → All (ReadsTyped (constants_typed f)) f.further → CodeReadsTyped (constants_typed f) f.init → n ≡ length f.constants → KnowsPlace (supply_after f 0) new cells path next
 unfolding supply_after
-init_known f new cells path next n h reads l = h (constants_typed f) reads (l ∙ sym (length-map f.constants (λ c. c.ty)))
+init_known f new cells path next n h more reads l = h (constants_typed f) more reads (l ∙ sym (length-map f.constants (λ c. c.ty)))
 
 cells_known : (supply : List Ty) (nodes : List Node) (states : List SymState) → All (λ (s : SymState). All (IsKnown supply nodes) s.cells) states → All (IsKnown supply nodes) (flat_map (λ s. s.cells) states)
 cells_known supply nodes [] h = All-nil (IsKnown supply nodes)

@@ -17,7 +17,8 @@ use Rattle.uc_terms.specs.Values.{value}
 use Rattle.uc_terms.proofs.Grown.{slice_get-push}
 use Rattle.uc_flat.specs.declared.flat.Flat.{Flat}
 use Rattle.uc_flat.specs.declared.flat.Formula.{Formula}
-use Rattle.uc_flat.specs.Flats.{cell_types, repeated, IsSound, IsFormula}
+use Rattle.uc_flat.specs.declared.expression.Expression.{Expression}
+use Rattle.uc_flat.specs.Flats.{cell_types, wider_types, init_types, repeated, IsSound, IsFormula}
 use Rattle.uc_flat.specs.Fine.{IsTyped, AreFine}
 use Rattle.uc_flat.specs.Reading.{type_of, value_of}
 use Rattle.uc_flat.specs.Drawn.{Drawn}
@@ -205,18 +206,23 @@ one_state s t zero h = (refl, some_state s t h)
 one_state s t (suc k) h = cc
 
 -- the init code and the step's code of a design
-pub starts_in : (old new : List Node) (f : Flat) (types : List Ty) (xs : List Statement) (k n : ℕ) (s : SymState) → types ≡ cell_types f → xs ≡ f.init → StartsAs old new types (λ m. started m types xs k) s n
-    → StartsAs old new (cell_types f) (initial f k) s n
-starts_in old new f types xs k n s i j a =
-    subst (λ ys. StartsAs old new (cell_types f) (λ m. started m (cell_types f) ys k) s n) j (subst (λ ts. StartsAs old new ts (λ m. started m ts xs k) s n) i a)
+pub starts_in : (old new : List Node) (f : Flat) (types : List Ty) (further : List Expression) (xs : List Statement) (k n : ℕ) (s : SymState) → types ≡ cell_types f → further ≡ f.further → xs ≡ f.init
+    → StartsAs old new types (λ m. started m types further xs k) s n → StartsAs old new (cell_types f) (initial f k) s n
+starts_in old new f types further xs k n s i w j a =
+    subst (λ ys. StartsAs old new (cell_types f) (λ m. started m (cell_types f) f.further ys k) s n) j
+    (subst (λ es. StartsAs old new (cell_types f) (λ m. started m (cell_types f) es xs k) s n) w (subst (λ ts. StartsAs old new ts (λ m. started m ts further xs k) s n) i a))
 
 pub steps_in : (old new : List Node) (f : Flat) (types : List Ty) (xs : List Statement) (k n : ℕ) (s t : SymState) → types ≡ cell_types f → xs ≡ f.step → StepsAs old new types (λ m. stepped m types xs) s k t n
     → StepsAs old new (cell_types f) (after_step f) s k t n
 steps_in old new f types xs k n s t i j a =
     subst (λ ys. StepsAs old new (cell_types f) (λ m. stepped m (cell_types f) ys) s k t n) j (subst (λ ts. StepsAs old new ts (λ m. stepped m ts xs) s k t n) i a)
 
-pub init_fine : (f : Flat) (types : List Ty) (xs : List Statement) → types ≡ cell_types f → xs ≡ f.init → IsSound f → AreFine types xs
-init_fine f types xs i j s = subst (λ ts. AreFine ts xs) (sym i) (subst (AreFine (cell_types f)) (sym j) s.init)
+pub init_fine : (f : Flat) (types : List Ty) (further : List Expression) (xs : List Statement) → types ≡ cell_types f → further ≡ f.further → xs ≡ f.init → IsSound f → AreFine (wider_types types further) xs
+init_fine f types further xs i w j s =
+    subst (λ ts. AreFine (wider_types ts further) xs) (sym i) (subst (λ es. AreFine (wider_types (cell_types f) es) xs) (sym w) (subst (AreFine (init_types f)) (sym j) s.init))
+
+pub further_typed : (f : Flat) (types : List Ty) (further : List Expression) → types ≡ cell_types f → further ≡ f.further → IsSound f → All (IsTyped types) further
+further_typed f types further i w s = subst (λ ts. All (IsTyped ts) further) (sym i) (subst (All (IsTyped (cell_types f))) (sym w) s.further)
 
 pub step_fine : (f : Flat) (types two : List Ty) (xs : List Statement) → types ≡ cell_types f → two ≡ types ++ types → xs ≡ f.step → IsSound f → AreFine two xs
 step_fine f types two xs i k j s = subst (λ ts. AreFine ts xs) (sym (k ∙ ap (λ ts. ts ++ ts) i)) (subst (AreFine (cell_types f ++ cell_types f)) (sym j) s.step)

@@ -2,7 +2,8 @@
 use Rattle.std.proofs.Common.{◌≡◌, ℕ, ◌+◌, ◌<◌, List, [], ◌∷◌, ◌++◌, length, map, Some, refl, sym, ap, ◌∙◌, subst, arith, slice_get, slice_set, zero, suc, append-nil, append_assoc, get_or}
 use Rattle.std.specs.Prelude.{All, Bool as Truth, true, false, not, ◌&&◌}
 use Rattle.std.specs.List.{flat_map}
-use Rattle.std.proofs.lemmas.List.Elements.{All-head, All-tail, All-cons}
+use Rattle.std.proofs.lemmas.List.{map-append}
+use Rattle.std.proofs.lemmas.List.Elements.{All-head, All-tail, All-cons, All-append}
 use Rattle.std.proofs.lemmas.Option.{slice_get-get_or}
 use Rattle.uc_values.specs.declared.ty.Ty.{Ty}
 use Rattle.uc_values.specs.declared.ty.Ty.TheVariants.{Bool}
@@ -18,13 +19,15 @@ use Rattle.uc_flat.specs.declared.expression.Expression.{Expression}
 use Rattle.uc_flat.specs.Reading.{type_of, is_true}
 use Rattle.uc_flat.specs.Fine.{IsTest}
 use Rattle.uc_flat.specs.Drawn.{Drawn, listed_if, assigns, assumes, asserts, takes, free}
+use Rattle.uc_flat.specs.Flats.{wider_types}
+use Rattle.uc_flat.specs.Unrolled.{wider}
 use Rattle.uc_symstep.specs.declared.state.Choice.{Choice}
 use Rattle.uc_symstep.specs.declared.state.Hit.{Hit}
 use Rattle.uc_symstep.specs.declared.state.Symbolic.{Symbolic}
-use Rattle.uc_symstep.specs.Growing.{Grows, IsTerm, AreCells}
+use Rattle.uc_symstep.specs.Growing.{Grows, IsTerm, AreTerms, AreCells}
 use Rattle.uc_symstep.specs.Stands.{stands, holds, choice_in, hit_in, IsTruth, IsChoice, IsHit, IsState, Follows, IsSymbol, IsHavocked}
 use Rattle.uc_symstep.proofs.Grown.{grows_on, grows_value, grows_type, grows_values, grows_length, cells_grow, and_true_is}
-use Rattle.uc_symstep.proofs.Formulas.{Meaning}
+use Rattle.uc_symstep.proofs.Formulas.{Meaning, Meanings}
 
 abbrev pub make : List Value → Truth → Truth → List Value → List ℕ → ℕ → Drawn
 make cells goes taken chosen sites next = record { cells = cells; goes = goes; taken = taken; chosen = chosen; sites = sites; next = next }
@@ -114,6 +117,27 @@ assign_follows old new types s e k t cells h f a i =
           let r = stands_grows old new types s a.grown h m in
           same_drawn _ _ _ _ _ _ _ _ _ _ s.next
           (ap (map (value m new)) i ∙ map_set (value m new) s.cells k t ∙ ap (λ v. slice_set (map (value m new) s.cells) k v) (a.means m) ∙ ap (λ (d : Drawn). slice_set d.cells k (Meaning old types s.cells e m)) r)
+          (ap (λ (d : Drawn). d.goes) r) (ap (λ (d : Drawn). d.taken) r) (ap (λ (d : Drawn). d.chosen) r) (ap (λ (d : Drawn). d.sites) r);
+    }
+
+-- further cells behind the others, with terms of what they begin with
+pub widened_follows : (old new : List Node) (types : List Ty) (further : List Expression) (s : Symbolic) (own more cells : List ℕ)
+    → IsState old types s → own ≡ s.cells → AreTerms old new more (map (type_of types) further) (Meanings old types own further) → cells ≡ s.cells ++ more
+    → Follows old new (wider_types types further) (λ m. wider m types further) s (record { cells = cells; path = s.path; taken = s.taken; choices = s.choices; sites = s.sites; next = s.next })
+widened_follows old new types further s own more cells h o b i =
+    let a = subst (λ xs. AreTerms old new more (map (type_of types) further) (Meanings old types xs further)) o b in
+    let g = state_grows old new types s a.grown h in
+    let all : AreCells new (wider_types types further) (s.cells ++ more) = record {
+      there = All-append (λ t. t < length new) s.cells more g.cells.there a.there;
+      typed = map-append (type_at new) s.cells more ∙ ap (λ ts. ts ++ map (type_at new) more) g.cells.typed ∙ ap (λ ts. types ++ ts) a.typed;
+    } in
+    record {
+      grown = a.grown;
+      state = record { cells = subst (AreCells new (wider_types types further)) (sym i) all; path = g.path; taken = g.taken; choices = g.choices; sites = g.sites };
+      same = λ m.
+          let r = stands_grows old new types s a.grown h m in
+          same_drawn _ _ _ _ _ _ _ _ _ _ s.next
+          (ap (map (value m new)) i ∙ map-append (value m new) s.cells more ∙ ap (λ (d : Drawn). d.cells ++ map (value m new) more) r ∙ ap (λ vs. map (value m old) s.cells ++ vs) (a.means m))
           (ap (λ (d : Drawn). d.goes) r) (ap (λ (d : Drawn). d.taken) r) (ap (λ (d : Drawn). d.chosen) r) (ap (λ (d : Drawn). d.sites) r);
     }
 

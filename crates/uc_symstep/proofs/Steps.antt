@@ -1,10 +1,10 @@
 -- Initial states on terms, steps one after another, and formulas after them.
-use Rattle.std.proofs.Common.{◌≡◌, ℕ, ◌+◌, ◌<◌, ◌≤◌, List, [], ◌∷◌, ◌++◌, length, map, drop, take, refl, sym, ap, ◌∙◌, subst, arith, length-append, get_or}
+use Rattle.std.proofs.Common.{◌≡◌, ℕ, ◌+◌, ◌<◌, ◌≤◌, List, [], ◌∷◌, ◌++◌, length, map, drop, take, refl, sym, ap, ◌∙◌, subst, arith, length-append, get_or, le_refl}
 use Rattle.std.specs.Prelude.{All, true}
 use Rattle.std.specs.List.{flat_map}
-use Rattle.std.proofs.lemmas.List.{drop-map, map-append, length-map, take_more, take_all, length-take-le}
+use Rattle.std.proofs.lemmas.List.{drop-map, take-map, take-append-le, map-append, length-map, take_more, take_all, length-take-le}
 use Rattle.std.proofs.Math.Seq.{drop-append_seam}
-use Rattle.std.proofs.lemmas.List.Elements.{All-drop, All-append, All-push}
+use Rattle.std.proofs.lemmas.List.Elements.{All-take, All-drop, All-append, All-push}
 use Rattle.uc_values.specs.declared.ty.Ty.{Ty}
 use Rattle.uc_values.specs.declared.ty.Ty.TheVariants.{Bool}
 use Rattle.uc_values.specs.declared.value.Value.{Value}
@@ -14,16 +14,20 @@ use Rattle.uc_ops.specs.declared.model.Model.{Model}
 use Rattle.uc_ops.specs.declared.node.Node.{Node}
 use Rattle.uc_ops.specs.Typing.{type_at, Valid, AllValid}
 use Rattle.uc_terms.specs.Values.{value}
+use Rattle.uc_flat.specs.declared.expression.Expression.{Expression}
 use Rattle.uc_flat.specs.declared.statement.Statement.{Statement}
+use Rattle.uc_flat.specs.Reading.{type_of}
+use Rattle.uc_flat.specs.Fine.{AreFine}
+use Rattle.uc_flat.specs.Flats.{wider_types}
 use Rattle.uc_flat.specs.Drawn.{Drawn, drawn, free, listed_if}
 use Rattle.uc_symstep.specs.declared.state.Choice.{Choice}
 use Rattle.uc_symstep.specs.declared.state.Hit.{Hit}
 use Rattle.uc_symstep.specs.declared.state.Symbolic.{Symbolic}
 use Rattle.uc_symstep.specs.declared.state.SymState.{SymState}
 use Rattle.uc_symstep.specs.Growing.{Grows, IsTerm, AreCells}
-use Rattle.uc_symstep.specs.Stands.{stands, holds, choice_in, hit_in, IsTruth, IsChoice, IsHit, Follows, IsSymbol}
-use Rattle.uc_flat.specs.Unrolled.{free_values, begun, started, doubled, stepped}
-use Rattle.uc_symstep.specs.Unrolled.{Begins, Doubles, shows, StartsAs, StepsAs}
+use Rattle.uc_symstep.specs.Stands.{stands, holds, choice_in, hit_in, IsTruth, IsChoice, IsHit, IsState, Follows, IsSymbol}
+use Rattle.uc_flat.specs.Unrolled.{free_values, begun, wider, started, doubled, stepped}
+use Rattle.uc_symstep.specs.Unrolled.{Begins, BeginsWide, Doubles, shows, StartsAs, StepsAs}
 use Rattle.uc_flat.proofs.Choosing.{code_chooses}
 use Rattle.uc_symstep.proofs.Grown.{grows_on, grows_value, grows_type, grows_values, grows_types, grows_length, all_grow, cells_grow}
 use Rattle.uc_symstep.proofs.States.{make, same_drawn, same_all, truth_grows, flat_map_push, choices_grow, choices_keep}
@@ -84,20 +88,59 @@ steps_as old mid new types two step pre k d r own xs cells i e f g x c' =
           (ap (λ (x : Drawn). x.goes) ran) (sym on) (ap (λ (x : Drawn). x.chosen) ran) (ap (λ (x : Drawn). x.sites) ran) (ap (λ (x : Drawn). x.next) ran);
     }
 
-pub starts_as : (old mid new : List Node) (types : List Ty) (init : List Statement) (n : ℕ) (d r : Symbolic)
-    → Begins old mid types n d → Follows mid new types (λ m. drawn m types m.symbols init) d r
-    → StartsAs old new types (λ m. started m types init n) (record { cells = r.cells; path = r.path; sites = r.sites; choices = r.choices }) r.next
-unfolding started
-starts_as old mid new types init n d r f g = record {
+pub begins_wide : (old mid new : List Node) (types : List Ty) (further : List Expression) (n : ℕ) (d t : Symbolic) → Begins old mid types n d → Follows mid new (wider_types types further) (λ m. wider m types further) d t
+    → BeginsWide old new types further n t
+begins_wide old mid new types further n d t f g = record {
   grown = grows_on old mid new f.grown g.grown;
-  state = record { cells = g.state.cells; path = g.state.path; choices = g.state.choices; sites = g.state.sites };
-  same = λ m.
-      let end = drawn m types m.symbols init (begun m.symbols types n) in
-      let ran : stands m new r ≡ end = g.same m ∙ ap (drawn m types m.symbols init) (f.same m) in
-      let on : end.taken ≡ true = (code_chooses m types m.symbols init).keeps (begun m.symbols types n) in
-      ap (λ b. make (map (value m new) r.cells) (holds m new r.path) b (flat_map (choice_in m new) r.choices) (flat_map (hit_in m new) r.sites) r.next) (sym on ∙ sym (ap (λ (x : Drawn). x.taken) ran))
-      ∙ ran;
+  state = g.state;
+  same = λ m. g.same m ∙ ap (wider m types further) (f.same m);
 }
+
+-- the types of the terms of the cells
+pub wide_is : (nodes : List Node) (types wide ts : List Ty) (further : List Expression) (cells own : List ℕ) → AreCells nodes (wider_types types further) cells → own ≡ cells → ts ≡ map (type_at nodes) own → wide ≡ ts → wide ≡ wider_types types further
+wide_is nodes types wide ts further cells own a o t w = w ∙ t ∙ ap (map (type_at nodes)) o ∙ a.typed
+
+pub wide_state : (nodes : List Node) (types wide ts : List Ty) (further : List Expression) (own : List ℕ) (d : Symbolic) → IsState nodes (wider_types types further) d → own ≡ d.cells → ts ≡ map (type_at nodes) own → wide ≡ ts → IsState nodes wide d
+wide_state nodes types wide ts further own d h o t w = subst (λ us. IsState nodes us d) (sym (wide_is nodes types wide ts further d.cells own h.cells o t w)) h
+
+pub wide_fine : (nodes : List Node) (types wide ts : List Ty) (further : List Expression) (own : List ℕ) (d : Symbolic) (init : List Statement) → IsState nodes (wider_types types further) d → own ≡ d.cells → ts ≡ map (type_at nodes) own → wide ≡ ts
+    → AreFine (wider_types types further) init → AreFine wide init
+wide_fine nodes types wide ts further own d init h o t w fine = subst (λ us. AreFine us init) (sym (wide_is nodes types wide ts further d.cells own h.cells o t w)) fine
+
+pub own_there : (nodes : List Node) (types : List Ty) (own cells : List ℕ) → AreCells nodes types cells → own ≡ cells → All (λ t. t < length nodes) own
+own_there nodes types own cells a o = subst (All (λ t. t < length nodes)) (sym o) a.there
+
+take-seam : {A : Type 0} (xs ys : List A) → take (length xs) (xs ++ ys) ≡ xs
+take-seam xs ys = take-append-le (length xs) xs ys (le_refl (length xs)) ∙ take_all (length xs) xs (le_refl (length xs))
+
+pub long_front : (nodes : List Node) (types wide : List Ty) (further : List Expression) (cells xs : List ℕ) → AreCells nodes wide cells → wide ≡ wider_types types further → xs ≡ cells → length types ≤ length xs
+long_front nodes types wide further cells xs a i x = omega (arith, length-map cells (type_at nodes), ap length a.typed, ap length i, length-append types (map (type_of types) further), ap length x)
+
+front_cells : (nodes : List Node) (types wide : List Ty) (further : List Expression) (cells : List ℕ) → AreCells nodes wide cells → wide ≡ wider_types types further → AreCells nodes types (take (length types) cells)
+front_cells nodes types wide further cells a i = record {
+  there = All-take (λ t. t < length nodes) (length types) cells a.there;
+  typed = sym (take-map (type_at nodes) (length types) cells) ∙ ap (take (length types)) (a.typed ∙ i) ∙ take-seam types (map (type_of types) further);
+}
+
+-- the cells of the state, where the init code has run with further cells
+pub starts_as : (old mid new : List Node) (types wide : List Ty) (further : List Expression) (init : List Statement) (n : ℕ) (d r : Symbolic) (xs cells : List ℕ)
+    → wide ≡ wider_types types further → BeginsWide old mid types further n d → Follows mid new wide (λ m. drawn m wide m.symbols init) d r → xs ≡ r.cells → cells ≡ take (length types) xs
+    → StartsAs old new types (λ m. started m types further init n) (record { cells = cells; path = r.path; sites = r.sites; choices = r.choices }) r.next
+unfolding started
+starts_as old mid new types wide further init n d r xs cells i f g x c' =
+    let c : cells ≡ take (length types) r.cells = c' ∙ ap (take (length types)) x in
+    let all = wider_types types further in
+    record {
+      grown = grows_on old mid new f.grown g.grown;
+      state = record { cells = subst (AreCells new types) (sym c) (front_cells new types wide further r.cells g.state.cells i); path = g.state.path; choices = g.state.choices; sites = g.state.sites };
+      same = λ m.
+          let start = wider m types further (begun m.symbols types n) in
+          let ran : stands m new r ≡ drawn m all m.symbols init start = g.same m ∙ ap (drawn m wide m.symbols init) (f.same m) ∙ ap (λ ts. drawn m ts m.symbols init start) i in
+          let on : (drawn m all m.symbols init start).taken ≡ true = (code_chooses m all m.symbols init).keeps start in
+          same_all _ _ _ _ _ _ _ _ _ _ _ _
+          (ap (map (value m new)) c ∙ sym (take-map (value m new) (length types) r.cells) ∙ ap (λ (x : Drawn). take (length types) x.cells) ran)
+          (ap (λ (x : Drawn). x.goes) ran) (sym on) (ap (λ (x : Drawn). x.chosen) ran) (ap (λ (x : Drawn). x.sites) ran) (ap (λ (x : Drawn). x.next) ran);
+    }
 
 free_values-push : (frees : List Value) (types : List Ty) (ty : Ty) (n : ℕ) → free_values frees (types ++ ty ∷ []) n ≡ free_values frees types n ++ free frees ty (n + length types) ∷ []
 unfolding free_values

@@ -6,7 +6,6 @@ use Rattle.uc_ops.specs.declared.op.Op.TheVariants.{Symbol}
 use Rattle.uc_ops.specs.declared.node.Node.{Node}
 use Rattle.uc_ops.specs.Typing.{part_type}
 use Rattle.uc_flat.specs.declared.expression.Expression.{Expression}
-use Rattle.uc_flat.specs.declared.expression.Expression.TheVariants.{Apply}
 use Rattle.uc_flat.specs.declared.statement.Statement.{Statement}
 use Rattle.uc_flat.specs.declared.statement.Statement.TheVariants.{Assign as Assigns, Assume as Assumes, Assert as Asserts, If as Decides}
 use Rattle.uc_flat.specs.declared.statement.Statement.TheOpen.{Statement-F}
@@ -14,8 +13,8 @@ use Rattle.uc_flat.specs.declared.statement.Statement.TheOpen.Statement-F.{Assig
 use Rattle.uc_flat.specs.declared.statement.Statement.TheFolds.{fold-Statement}
 use Rattle.uc_flat.specs.declared.flat.Flat.{Flat}
 use Rattle.uc_flat.specs.declared.flat.Formula.{Formula}
-use Rattle.uc_flat.specs.Fine.{IsWithin, IsInside}
-use Rattle.uc_flat.specs.Flats.{cell_types}
+use Rattle.uc_flat.specs.Fine.{IsInside, ReadsTyped}
+use Rattle.uc_flat.specs.Flats.{cell_types, init_types}
 use Rattle.uc_symstep.specs.declared.state.Symbolic.{Symbolic}
 use Rattle.uc_symstep.specs.declared.state.SymState.{SymState}
 use Rattle.uc_symstep.specs.declared.branch.Open.{Open}
@@ -24,10 +23,6 @@ use Rattle.uc_symstep.specs.declared.branch.Open.{Open}
 pub data IsKnown (supply : List Ty) (nodes : List Node) : ℕ → Type 0 where
   known : (t : ℕ) (node : Node) → slice_get nodes t ≡ Some node → ((number : ℕ) (ty : Ty) → node.op ≡ Symbol number ty → slice_get supply number ≡ Some ty)
       → ((part : ℕ) → Contains node.parts part → IsKnown supply nodes part) → IsKnown supply nodes t
-
--- the constants that an expression reads have their types in the supply
-abbrev pub ReadsTyped : List Ty → Expression → Type 0
-ReadsTyped supply e = (number : ℕ) (ty : Ty) (parts : List Expression) → IsWithin e (Apply (Symbol number ty) parts) → slice_get supply number ≡ Some ty
 
 -- the same of each expression of the code
 pub record CodeReadsTyped (supply : List Ty) (code : List Statement) : Type 0 where
@@ -60,13 +55,14 @@ constants_typed f = map (λ c. c.ty) f.constants
 abbrev pub step_types : Flat → List Ty
 step_types f = draw_types (cell_types f ++ cell_types f) f.step
 
--- The types of the symbols of the state after n steps, by number: those of the constants, those of the cells, what the init code draws, and n times what a step draws.
+-- The types of the symbols of the state after n steps, by number: those of the constants, those of the cells of the state, what the init code draws, and n times what a step draws.
 unfoldable pub supply_after : Flat → ℕ → List Ty
-supply_after f zero = (constants_typed f ++ cell_types f) ++ draw_types (cell_types f) f.init
+supply_after f zero = (constants_typed f ++ cell_types f) ++ draw_types (init_types f) f.init
 supply_after f (suc n) = supply_after f n ++ step_types f
 
 -- every constant that the design reads is read at its own type
 pub record ReadsOwnTypes (f : Flat) : Type 0 where
+  pub further : All (ReadsTyped (constants_typed f)) f.further
   pub init : CodeReadsTyped (constants_typed f) f.init
   pub step : CodeReadsTyped (constants_typed f) f.step
   pub formulas : All (λ (x : Formula). ReadsTyped (constants_typed f) x.condition) f.formulas

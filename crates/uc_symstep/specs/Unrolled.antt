@@ -6,7 +6,9 @@ use Rattle.uc_ops.specs.declared.model.Model.{Model}
 use Rattle.uc_ops.specs.declared.node.Node.{Node}
 use Rattle.uc_terms.specs.Values.{value}
 use Rattle.uc_flat.specs.Drawn.{Drawn}
-use Rattle.uc_flat.specs.Unrolled.{begun}
+use Rattle.uc_flat.specs.declared.expression.Expression.{Expression}
+use Rattle.uc_flat.specs.Flats.{wider_types}
+use Rattle.uc_flat.specs.Unrolled.{begun, wider}
 use Rattle.uc_symstep.specs.declared.state.Symbolic.{Symbolic}
 use Rattle.uc_symstep.specs.declared.state.SymState.{SymState}
 use Rattle.uc_symstep.specs.Growing.{Grows, AreCells}
@@ -17,6 +19,12 @@ pub record Begins (old new : List Node) (types : List Ty) (n : ℕ) (t : Symboli
   pub grown : Grows old new
   pub state : IsState new types t
   pub same : (m : Model) → stands m new t ≡ begun m.symbols types n
+
+-- The same with the further cells of the init code behind the others.
+pub record BeginsWide (old new : List Node) (types : List Ty) (further : List Expression) (n : ℕ) (t : Symbolic) : Type 0 where
+  pub grown : Grows old new
+  pub state : IsState new (wider_types types further) t
+  pub same : (m : Model) → stands m new t ≡ wider m types further (begun m.symbols types n)
 
 -- The state that a step from these cells begins with.
 pub record Doubles (old new : List Node) (two : List Ty) (cells : List ℕ) (path next : ℕ) (t : Symbolic) : Type 0 where

@@ -6,11 +6,11 @@ ghost use Rattle.uc_values.specs.Values.{truth_of};
 ghost use Rattle.uc_ops.specs.Typing.{type_at};
 ghost use Rattle.uc_terms.specs.Values.{value};
 ghost use Rattle.uc_flat.specs.Drawn.{either};
-ghost use Rattle.uc_flat.specs.Fine.{IsTest};
+ghost use Rattle.uc_flat.specs.Fine.{IsTest, ReadsTyped};
 ghost use Rattle.uc_symstep.specs.Growing.{Grows, IsTerm, AreCells};
 ghost use Rattle.uc_symstep.specs.Stands.{IsState, IsTruth, Opens, Merges, Joins};
 ghost use Rattle.uc_symstep.specs.Arms.{opened};
-ghost use Rattle.uc_symstep.specs.Known.{IsKnown, ReadsTyped, Knows, KnowsArms};
+ghost use Rattle.uc_symstep.specs.Known.{IsKnown, Knows, KnowsArms};
 
 use crate::build::{both, either, negated};
 use crate::formula::sym_expression;

@@ -7,12 +7,13 @@ ghost use Rattle.uc_values.specs.declared.value.Value.TheVariants.{Bool as Truth
 ghost use Rattle.uc_values.specs.declared.ty.Ty.TheVariants.{Bool};
 ghost use Rattle.uc_terms.specs.Values.{value};
 ghost use Rattle.uc_flat.specs.declared.flat.Formula.{Formula as AFormula};
-ghost use Rattle.uc_flat.specs.Flats.{cell_types, repeated, axioms_of, IsSound, IsFormula};
+ghost use Rattle.uc_flat.specs.Flats.{cell_types, init_types, repeated, axioms_of, IsSound, IsFormula};
 ghost use Rattle.uc_flat.specs.Unrolled.{initial, after_step, formula_in, axioms_hold};
+ghost use Rattle.uc_flat.specs.Fine.{ReadsTyped};
 ghost use Rattle.uc_symstep.specs.Growing.{Grows, IsTerm, AreCells};
 ghost use Rattle.uc_symstep.specs.Unrolled.{IsSeen, StartsAs, StepsAs};
 ghost use Rattle.uc_symstep.specs.Designs.{IsInitialWhereTaken, HasEachInitial, IsStepWhereTaken};
-ghost use Rattle.uc_symstep.specs.Known.{IsKnown, ReadsTyped, CodeReadsTyped, draw_types, constants_typed, step_types, supply_after, KnowsState};
+ghost use Rattle.uc_symstep.specs.Known.{IsKnown, CodeReadsTyped, draw_types, constants_typed, step_types, supply_after, KnowsState};
 
 use crate::build::{both, literal};
 use crate::formula::sym_expression;
@@ -35,10 +36,11 @@ pub(crate) fn start_of(
     requires sound { IsSound f.now }
     requires types { types.now ≡ cell_types f.now }
     ensures ok { IfOk result (λ r. StartsAs terms.old terms.new (cell_types f.now) (initial f.now next) r.0 r.1) }
-    ensures known { IfOk result (λ r. (supply : List AType) → CodeReadsTyped supply f.now.init → next ≡ length supply → KnowsState ((supply ++ cell_types f.now) ++ draw_types (cell_types f.now) f.now.init) terms.new r.0 r.1) }
+    ensures known { IfOk result (λ r. (supply : List AType) → All (ReadsTyped supply) f.now.further → CodeReadsTyped supply f.now.init → next ≡ length supply → KnowsState ((supply ++ cell_types f.now) ++ draw_types (init_types f.now) f.now.init) terms.new r.0 r.1) }
     ensures grown { Grows terms.old terms.new }
 {
-    let started = start(terms, alloc, types, f.init.as_slice(), next)?;
+    let further = f.further.as_slice();
+    let started = start(terms, alloc, types, further, f.init.as_slice(), next)?;
     Ok(started)
 }
 
@@ -83,7 +85,7 @@ pub fn sym_init(
     ensures ok { IfOk result (λ s. StartsAs terms.old terms.new (cell_types f.now) (initial f.now fresh.old.next) s fresh.new.next) }
     ensures initial { IfOk result (λ s. IsInitialWhereTaken f.now terms.new s) }
     ensures each { IfOk result (λ s. HasEachInitial f.now fresh.old.next terms.new s) }
-    ensures known { IfOk result (λ s. CodeReadsTyped (constants_typed f.now) f.now.init → fresh.old.next ≡ length f.now.constants → KnowsState (supply_after f.now 0) terms.new s fresh.new.next) }
+    ensures known { IfOk result (λ s. All (ReadsTyped (constants_typed f.now)) f.now.further → CodeReadsTyped (constants_typed f.now) f.now.init → fresh.old.next ≡ length f.now.constants → KnowsState (supply_after f.now 0) terms.new s fresh.new.next) }
     ensures grown { Grows terms.old terms.new }
     ensures err { OnErr result (fresh.new ≡ fresh.old) }
 {

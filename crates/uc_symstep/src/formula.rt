@@ -4,9 +4,9 @@ ghost use Rattle.std.specs.Prelude.{◌≡◌, List, IfOk, map, All};
 ghost use Rattle.uc_values.specs.declared.ty.Ty.{Ty as AType};
 ghost use Rattle.uc_terms.specs.Values.{value};
 ghost use Rattle.uc_flat.specs.Reading.{type_of, value_of};
-ghost use Rattle.uc_flat.specs.Fine.{IsTyped};
+ghost use Rattle.uc_flat.specs.Fine.{IsTyped, ReadsTyped};
 ghost use Rattle.uc_symstep.specs.Growing.{Grows, IsTerm, AreTerms, AreCells};
-ghost use Rattle.uc_symstep.specs.Known.{IsKnown, ReadsTyped};
+ghost use Rattle.uc_symstep.specs.Known.{IsKnown};
 
 use std::alloc::{AllocError, Global};
 use uc_flat::Expression;
@@ -48,7 +48,7 @@ pub fn sym_expression(
 /// A term for each of the expressions.
 #[cycle(sym_expression)]
 #[tactic(auto, using(crate::proofs::Grown::grows_on))]
-fn sym_parts(
+pub(crate) fn sym_parts(
     terms: &mut Terms,
     alloc: Global,
     types: &[Ty],

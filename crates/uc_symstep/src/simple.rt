@@ -7,11 +7,11 @@ ghost use Rattle.uc_values.specs.declared.value.Value.TheVariants.{Bool as Truth
 ghost use Rattle.uc_ops.specs.Typing.{Valid, part_type};
 ghost use Rattle.uc_terms.specs.Values.{value};
 ghost use Rattle.uc_flat.specs.Reading.{type_of, is_true};
-ghost use Rattle.uc_flat.specs.Fine.{IsTyped, IsTest};
+ghost use Rattle.uc_flat.specs.Fine.{IsTyped, IsTest, ReadsTyped};
 ghost use Rattle.uc_flat.specs.Drawn.{takes, free, assigns, assumes, asserts, listed_if};
 ghost use Rattle.uc_symstep.specs.Growing.{Grows, IsTerm};
 ghost use Rattle.uc_symstep.specs.Stands.{holds, IsState, Follows, IsSymbol, IsHavocked};
-ghost use Rattle.uc_symstep.specs.Known.{IsKnown, ReadsTyped, Extends};
+ghost use Rattle.uc_symstep.specs.Known.{IsKnown, Extends};
 
 use crate::build::{both, negated};
 use crate::formula::sym_expression;

@@ -52,6 +52,8 @@ high_test = record { typed = typed_cell (Bool ∷ []) 0 (omega arith); boolean =
 pub toggle_sound : IsSound toggle
 toggle_sound = record {
   valid = one Valid Bool valid-Bool;
+  further = none (IsTyped (Bool ∷ []));
+  further_reads = none (ReadsBelow 0);
   init = fine_assign (Bool ∷ []) 0 low (low_typed (Bool ∷ [])) (ap Some (sym (type_apply (Bool ∷ []) (Const Bool (Truth false)) [])));
   init_reads = reads_assign 0 0 low low_reads;
   step = fine_assign (Bool ∷ Bool ∷ []) 1 turned turned_typed (ap Some (sym (type_apply (Bool ∷ Bool ∷ []) Not (Cell 0 ∷ []))));

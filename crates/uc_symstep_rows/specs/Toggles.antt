@@ -29,6 +29,7 @@ toggle = record {
   cells = record { path = []; name = 0; ty = Bool } ∷ [];
   constants = [];
   functions = [];
+  further = [];
   init = gives 0 low;
   step = gives 1 turned;
   sites = [];

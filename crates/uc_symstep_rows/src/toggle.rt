@@ -83,6 +83,7 @@ pub(crate) fn toggle(alloc: Global) -> Result<Flat, AllocError>
         cells,
         constants: Items::new(alloc),
         functions: Items::new(alloc),
+        further: Items::new(alloc),
         init,
         step,
         sites: Items::new(alloc),

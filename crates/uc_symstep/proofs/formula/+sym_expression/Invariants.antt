@@ -2,9 +2,10 @@ use Rattle.std.proofs.Common.{take, map, ◌+◌, ◌*◌, List}
 use Rattle.std.specs.Prelude.{All}
 use Rattle.uc_values.specs.declared.ty.Ty.{Ty}
 use Rattle.uc_flat.specs.Reading.{type_of}
+use Rattle.uc_flat.specs.Fine.{ReadsTyped}
 use Rattle.uc_symstep.specs.Cost.{cost, costs}
 use Rattle.uc_symstep.specs.Growing.{AreTerms}
-use Rattle.uc_symstep.specs.Known.{IsKnown, ReadsTyped}
+use Rattle.uc_symstep.specs.Known.{IsKnown}
 use Rattle.uc_symstep.proofs.Formulas.{Meanings}
 use Rattle.uc_symstep.proofs.formula.+sym_expression.Given as goal
 
