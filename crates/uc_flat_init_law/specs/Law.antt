@@ -1,6 +1,5 @@
 -- Init code and its code over cells.
 use Rattle.std.specs.Prelude.{◌≡◌, Option, Some, None, List, [], length, take}
-use Rattle.uc_syntax.specs.declared.type_expression.TypeExpr.{TypeExpr}
 use Rattle.uc_syntax.specs.declared.declaration.Module.{Module}
 use Rattle.uc_syntax.specs.declared.statement.Stmt.{Stmt}
 use Rattle.uc_values.specs.declared.ty.Ty.{Ty}
@@ -8,19 +7,20 @@ use Rattle.uc_values.specs.declared.value.Value.{Value}
 use Rattle.uc_meaning.specs.declared.scope.Interp.{Interp}
 use Rattle.uc_meaning.specs.declared.scope.Scope.{Scope}
 use Rattle.uc_meaning.specs.Lookup.{System}
-use Rattle.uc_meaning.specs.Types.{type_of_written}
 use Rattle.uc_meaning.specs.Cells.{cells_of}
 use Rattle.uc_meaning.specs.Code.{Running, Ending, Goes, Bodies, run_by}
 use Rattle.uc_meaning.specs.Steps.{scope_of, state_of}
 use Rattle.uc_ops.specs.declared.model.Model.{Model}
-use Rattle.uc_ops.specs.Typing.{Valid, AllValid}
+use Rattle.uc_ops.specs.Typing.{AllValid}
 use Rattle.uc_flat.specs.Flats.{wider_types}
 use Rattle.uc_flat.specs.Unrolled.{widened}
 use Rattle.uc_flat.specs.Executions.{FitAll}
 use Rattle.uc_flat.specs.Running.{Placed, run_all}
 use Rattle.uc_flat_names.specs.Names.{StandsAlone, names_over_cells, types_of, constant_types}
 use Rattle.uc_flat_names.specs.Constants.{SharesConstants}
-use Rattle.uc_flat_init.specs.Init.{Made, Types, init_code}
+use Rattle.uc_flat_init.specs.declared.made.MadeCode.{MadeCode}
+use Rattle.uc_flat_init.specs.CellTypes.{cell_type_of}
+use Rattle.uc_flat_init.specs.Init.{init_code}
 
 -- in main, with one state
 abbrev pub now : Interp → List Value → Scope
@@ -50,19 +50,11 @@ EndAlike types others (Goes r) None = ⊥
 EndAlike types others other (Some p) = ⊥
 EndAlike types others other None = Unit {0}
 
--- what is read of a written type is the type that it stands for in the module, a valid one
-pub record IsRead (system : System) (code : Module) (type : TypeExpr) (ty : Ty) : Type 0 where
-  pub same : type_of_written system code type ≡ ty
-  pub valid : Valid ty
-
-abbrev pub ReadsTypes : System → Module → Types → Type 0
-ReadsTypes system code types = (type : TypeExpr) (ty : Ty) → types type ≡ Some ty → IsRead system code type ty
-
 -- In a design of one module, init code and the code over cells that stands for it end alike from the same cells, on the same choices, where the constants have the same values: the further cells stand behind those of the state, and begin with what is listed for them.
 abbrev pub InitCodeLaw : Type 0
 InitCodeLaw =
-    (system : System) (main : Module) (i : Interp) (m : Model) (bodies : Bodies) (types : Types) (code : List Stmt) (made : Made) (others cells left : List Value)
-    → StandsAlone system main → SharesConstants system i m → AllValid (constant_types system) → AllValid (types_of system) → ReadsTypes system main types
-    → init_code types code (names_over_cells system main) (length (cells_of system)) ≡ Some made → FitAll (types_of system) cells
+    (system : System) (main : Module) (i : Interp) (m : Model) (bodies : Bodies) (code : List Stmt) (made : MadeCode) (others cells left : List Value)
+    → StandsAlone system main → SharesConstants system i m → AllValid (constant_types system) → AllValid (types_of system)
+    → init_code (cell_type_of system main) (names_over_cells system main) (length (cells_of system)) code ≡ Some made → FitAll (types_of system) cells
     → EndAlike (types_of system) others (run_by system bodies code (running i cells left))
     (run_all m (wider_types (types_of system) made.further) made.code (placed others (widened m (types_of system) made.further cells) left))
