@@ -47,11 +47,11 @@ use Rattle.uc_flat_code.specs.declared.writing.FlatArm.{FlatArm}
 use Rattle.uc_flat_code.specs.Code.{MayBe, may_write, may_havoc, written_as, written, havocked, assume_of, havoc_of, replaced_in, assigned, spares, one_assigned, with_cell, each_assigned, assign_of, in_order, arm_with, arm_of, joined_arms, else_of, if_of, code_form, statement_of, code_of}
 use Rattle.uc_flat_design.specs.Tables.{IsSaid, IsVariable, IsTable}
 use Rattle.uc_flat_design.specs.Sequential.{now, plainly, running, placed as placed_with, AreAt, EndAlike, SequentialLaw}
-use Rattle.uc_flat_design.proofs.Options.{then_some, map_some, if_some, some_same}
-use Rattle.uc_flat_design.proofs.Fields.{placed, placed_fits, path_part}
-use Rattle.uc_flat_design.proofs.Replacing.{Replaces, replaced_known, replaced_placed}
+use Rattle.uc_flat_init_law.proofs.Options.{then_some, map_some, if_some, some_same}
+use Rattle.uc_flat_init_law.proofs.Fields.{placed, placed_fits, path_part}
+use Rattle.uc_flat_init_law.proofs.Replacing.{Replaces, replaced_known, replaced_placed}
 use Rattle.uc_flat_design.proofs.Sparing.{AlikeOff, still_value}
-use Rattle.uc_flat_design.proofs.Turns.{run_append, run_none, run_one, run_is, fit_set, fit_part}
+use Rattle.uc_flat_init_law.proofs.Turns.{run_append, run_none, run_one, run_is, fit_set, fit_part}
 
 pub truth_holds : (v : Value) → holds v ≡ truth_of v
 truth_holds v = refl
