@@ -45,7 +45,7 @@ use Rattle.uc_flat_init.specs.CellTypes.{Types, is_cell_type}
 use Rattle.uc_flat_init.specs.Zero.{zero_of}
 use Rattle.uc_flat_init.specs.declared.made.MadeCode.{MadeCode}
 use Rattle.uc_flat_init.specs.declared.made.MadeArms.{MadeArms}
-use Rattle.uc_flat_init.specs.Init.{Made, Making, alone, then_made, in_order, in_block, plainly, declared, kept, given, kept_in, each_given, through_kept, assigned_by, arm_by, arm_with, arm_made, then_arms, arms_made, else_of, joined, if_of, making_form, making_of, made_code, init_code}
+use Rattle.uc_flat_init.specs.Init.{Made, Making, alone, then_made, in_order, ended, in_block, plainly, declared, kept, given, kept_in, each_given, through_kept, assigned_by, arm_by, arm_with, arm_made, then_arms, arms_made, else_of, joined, if_of, making_form, making_of, made_code, init_code}
 use Rattle.uc_flat_fits.specs.Fits.{AreCellsOf, ExpressionsFit, ExpressionsReadTyped, ReadsCellTypes, HasLocals, without, passed, with_local, InitLaw, InitTypedLaw}
 use Rattle.uc_flat_fits.proofs.Conditions.{boolean_is}
 use Rattle.uc_flat_fits.proofs.Fielded.{IsPart, replaced_part, replaced_reads, replaced_type}
@@ -222,8 +222,7 @@ module _ (base : List Meant) (wide : List Ty) (n : ℕ) where
 
     block_good : (xs : List Making) → AllGood xs → Good (in_block xs)
     block_good xs all names k a d h at =
-        let back : Made → Made = λ b. record b { names = names } in
-        let p = map_parts back (in_order xs names k) a h in
+        let p = map_parts (ended names) (in_order xs names k) a h in
         let f = order_good xs all names k p.0 d p.1 (subst (λ (z : Made). AllAt k z.further) (sym p.2) at) in
         subst (Gives k) p.2 (record { code = f.code; further = f.further; names = passed_by names k (length p.0.further) d })
 

@@ -27,7 +27,7 @@ use Rattle.uc_flat_meaning.proofs.OnlyReads.{ReadsOnly, apply_reads}
 use Rattle.uc_flat_init.specs.CellTypes.{is_finite, is_cell_type}
 use Rattle.uc_flat_init.specs.Zero.{Zero, parts_form, type_form, zero_form, zero_of}
 use Rattle.uc_flat_init.proofs.CellTypes.{open_is, record_is, array_is}
-use Rattle.uc_flat_init.proofs.Zero.{zero_type}
+use Rattle.uc_flat_init.proofs.Zeros.{zero_type}
 
 abbrev zeroed : Ty → Zero
 zeroed = fold-Ty Zero zero_form
@@ -122,19 +122,22 @@ module _ (types : List Ty) where
   false_true : (b : Ty) → is_cell_type b ≡ true → is_cell_type b ≡ false → ⊥
   false_true b h g = cc
 
-  fit_cases : (y : Ty-F Fit) → Fits (roll-Ty (map-Ty Fit Ty (λ e. e.0) y))
-  fit_cases boolean_type = constant_fits boolean_type refl (ap is_constant (sym rolls-Bool))
-  fit_cases integer_type = constant_fits integer_type refl (ap is_constant (sym rolls-Int))
-  fit_cases (bits_type w) = constant_fits (bits_type w) refl (ap is_constant (sym (rolls-Bv w)))
-  fit_cases (enum_type n k) = constant_fits (enum_type n k) refl (ap is_constant (sym (rolls-Enum n k)))
-  fit_cases (open_type n) h = absurd (false_true (roll-Ty (open_type n)) h (open_is (roll-Ty (open_type n)) n (sym (rolls-Un n))))
-  fit_cases (array_type i e) h = absurd (false_true (roll-Ty (array_type i.0 e.0)) h (array_is (roll-Ty (array_type i.0 e.0)) i.0 e.0 (sym (rolls-Arr i.0 e.0))))
-  fit_cases (record_type ps) h =
+  record_fits : (ps : List (Field Fit)) → Fits (roll-Ty (record_type (map (with_test (λ (e : Fit). e.0)) ps)))
+  record_fits ps h =
       let fs = map (with_test (λ (e : Fit). e.0)) ps in
       let t = roll-Ty (record_type fs) in
-      let is : t ≡ Rec fs = sym (rolls-Rec fs) in
+      let is : t ≡ Rec fs = rolls-Rec fs in
       subst (IsTyped types) (sym (zero_is (record_type fs)))
       (typed_apply types (MkRec t) (field_zeros fs) (fs, is, field_types_are fs, (and_true h).0) (fields_fit ps (sym (record_is t fs is) ∙ h)))
+
+  fit_cases : (y : Ty-F Fit) → Fits (roll-Ty (map-Ty Fit Ty (λ e. e.0) y))
+  fit_cases boolean_type = constant_fits boolean_type refl (ap is_constant rolls-Bool)
+  fit_cases integer_type = constant_fits integer_type refl (ap is_constant rolls-Int)
+  fit_cases (bits_type w) = constant_fits (bits_type w) refl (ap is_constant (rolls-Bv w))
+  fit_cases (enum_type n k) = constant_fits (enum_type n k) refl (ap is_constant (rolls-Enum n k))
+  fit_cases (open_type n) = λ h. absurd (false_true (roll-Ty (open_type n)) h (open_is (roll-Ty (open_type n)) n (rolls-Un n)))
+  fit_cases (array_type i e) = λ h. absurd (false_true (roll-Ty (array_type i.0 e.0)) h (array_is (roll-Ty (array_type i.0 e.0)) i.0 e.0 (rolls-Arr i.0 e.0)))
+  fit_cases (record_type ps) = record_fits ps
 
   pub zero_typed : (ty : Ty) → is_cell_type ty ≡ true → IsTyped types (zero_of ty)
   zero_typed = ind-Ty Fits (λ x y is. subst (λ z. Fits (roll-Ty z)) is (fit_cases y))
