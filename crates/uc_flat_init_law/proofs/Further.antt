@@ -31,10 +31,11 @@ pub cells_there : (first front : List Ty) (es : List Expression) → AreCells fi
 cells_there first front [] = tt
 cells_there first front (e ∷ es) =
     let rest = map (type_of first) es in
-    let ty = type_of first e in
-    (ap (slice_get (front ++ ty ∷ rest)) (none (length front)) ∙ slice_get-back front (ty ∷ rest) 0,
+    let ty = type_of first e in (
+      ap (slice_get (front ++ ty ∷ rest)) (none (length front)) ∙ slice_get-back front (ty ∷ rest) 0,
       subst (λ ts. AreCells first ts (length front + 1) es) (append_assoc front (ty ∷ []) rest)
-      (subst (λ k. AreCells first ((front ++ ty ∷ []) ++ rest) k es) (longer front ty) (cells_there first (front ++ ty ∷ []) es)))
+          (subst (λ k. AreCells first ((front ++ ty ∷ []) ++ rest) k es) (longer front ty) (cells_there first (front ++ ty ∷ []) es)),
+    )
   where
     none : (a : ℕ) → a ≡ a + 0
     none a = omega arith

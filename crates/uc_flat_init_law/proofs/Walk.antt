@@ -727,7 +727,7 @@ begins_fine m first further cells fit = record {
     length-append cells (map (value_of m first cells) further),
     length-append first (map (type_of first) further),
     length-map further (value_of m first cells),
-    length-map further (type_of first)
+    length-map further (type_of first),
   );
   held = tt;
 }
