@@ -4,9 +4,6 @@ use Rattle.std.specs.Prelude.{◌&&◌, nat_lt, if◌then◌else◌, slice_get, 
 use Rattle.std.specs.List.{list_all, filter_map}
 use Rattle.std.proofs.lemmas.List.Elements.{All-cons, All-nil}
 use Rattle.uc_syntax.specs.declared.expression.Expr.{Expr}
-use Rattle.uc_syntax.specs.declared.type_expression.TypeExpr.{TypeExpr}
-use Rattle.uc_syntax.specs.declared.declaration.VariableKind.{VariableKind}
-use Rattle.uc_syntax.specs.declared.declaration.VariableKind.TheVariants.{Variable, Input, Output, Constant as constant_kind}
 use Rattle.uc_syntax.specs.declared.declaration.Decl.{Decl}
 use Rattle.uc_syntax.specs.declared.declaration.Decl.TheVariants.{Instance}
 use Rattle.uc_syntax.specs.declared.declaration.Module.{Module}
@@ -23,31 +20,28 @@ use Rattle.uc_values.proofs.Shapes.{and_true, all_mapped}
 use Rattle.uc_values.proofs.Fitting.{zero-fits}
 use Rattle.uc_meaning.specs.declared.scope.Interp.{Interp}
 use Rattle.uc_meaning.specs.declared.scope.Scope.{Scope}
-use Rattle.uc_meaning.specs.Lookup.{System, instance_in, variable_of}
-use Rattle.uc_meaning.specs.Types.{label_of, type_of_written}
-use Rattle.uc_meaning.specs.Cells.{cell_of, FitAll as FitTypes}
-use Rattle.uc_meaning.specs.Expressions.{reads, reading, label_count}
+use Rattle.uc_meaning.specs.Lookup.{System, instance_in}
+use Rattle.uc_meaning.specs.Cells.{FitAll as FitTypes}
+use Rattle.uc_meaning.specs.Expressions.{reading}
 use Rattle.uc_meaning.specs.Plain.{IsTop}
 use Rattle.uc_meaning.specs.Steps.{state_of}
 use Rattle.uc_ops.specs.declared.model.Model.{Model}
 use Rattle.uc_ops.specs.Typing.{Valid, AllValid}
-use Rattle.uc_ops.specs.Meaning.{part}
 use Rattle.uc_flat.specs.Executions.{FitAll}
 use Rattle.uc_flat_expressions.specs.declared.typed.TypedExpression.{TypedExpression}
-use Rattle.uc_flat_expressions.specs.declared.typed.Meant.TheVariants.{Unknown, Cell, Label, Constant}
 use Rattle.uc_flat_expressions.specs.Expressions.{flat_of}
 use Rattle.uc_flat_meaning.specs.Sayings.{Says}
 use Rattle.uc_flat_meaning.proofs.Telling.{flat_says}
-use Rattle.uc_flat_names.specs.Names.{StandsAlone, of_label, of_cell_number, of_kind, of_variable, by_label, meant_in, counted, names_over_cells, types_of, names_of_constants, constant_types}
+use Rattle.uc_flat_names.specs.Names.{StandsAlone, names_over_cells, types_of, names_of_constants, constant_types}
 use Rattle.uc_flat_names.specs.Constants.{SharesConstants}
-use Rattle.uc_flat_names.proofs.Cells.{HasCells, cell_type}
-use Rattle.uc_flat_names.proofs.Meaning.{counted_at, mapped_at, name_in_cell, names_hold, constants_hold}
+use Rattle.uc_flat_names.proofs.Meaning.{names_hold, constants_hold}
 use Rattle.uc_flat_names.proofs.Sharing.{shares_first}
-use Rattle.uc_flat_design.specs.Tables.{IsSaid, IsTable}
-use Rattle.uc_flat_design.specs.Sequential.{now}
+use Rattle.uc_flat_design.specs.Tables.{IsSaid}
+use Rattle.uc_flat_init_law.specs.Law.{now}
 use Rattle.uc_same_values.specs.Same.{has_no_array, no_array_form}
 use Rattle.uc_same_values.proofs.Same.{no_array-Rec}
-use Rattle.uc_flat_design.specs.Design.{is_finite, is_finite_form, is_cell_type, is_built}
+use Rattle.uc_flat_init.specs.CellTypes.{is_finite, is_finite_form, is_cell_type}
+use Rattle.uc_flat_design.specs.Design.{is_built}
 
 -- ---- fitting values, by the definitions of designs and of cells
 
@@ -129,9 +123,6 @@ no_instances (d ∷ decls) h = let b = and_true h in rw (no_instance d b.0) (no_
 
 -- ---- tables
 
-some_same : {A : Type 0} (x y : A) → Some x ≡ Some y → x ≡ y
-some_same x y h = cc
-
 -- Where all constants have the values that count as 0: an interpretation, and a model.
 abbrev pub zero_interpretation : System → Interp
 zero_interpretation system = record { consts = map zero_of (constant_types system); tables = [] }
@@ -164,28 +155,12 @@ module _ (system : System) (code : Module) (alone : StandsAlone system code) (m 
       flat_says system s (constant_types system) m (types_of system) cells (names_over_cells system code) e t
       (names_hold system code s m cells alone top shared (all_valid (constant_types system) constants_fit) before (all_valid (types_of system) cell_types) fit) h
 
-  said : (s : Scope) (cells : List Value) (top : IsTop s) → SharesConstants system s.interp m → s.before ≡ state_of cells → FitAll (types_of system) cells → (e : Expr) (t : TypedExpression) → flat_of (names_over_cells system code) e ≡ Some t
-      → IsSaid system m (types_of system) s cells e t
-  said s cells top shared before fit e t h =
-      let x = says s cells top shared before fit e t h in
+  -- the same in main, with one state
+  pub init_said : (i : Interp) → SharesConstants system i m → (cells : List Value) → FitAll (types_of system) cells → (e : Expr) (t : TypedExpression) → flat_of (names_over_cells system code) e ≡ Some t
+      → IsSaid system m (types_of system) (now i cells) cells e t
+  init_said i shared cells fit e t h =
+      let x = says (now i cells) cells (record { path = refl; locals = refl }) shared refl fit e t h in
       record { same = x.value; fit = ap (fits t.ty) (sym x.value) ∙ x.fit }
-
-  -- the table in main, with one state
-  pub init_table : (i : Interp) → SharesConstants system i m → IsTable system m (types_of system) (names_over_cells system code) (now i)
-  init_table i shared = record {
-    expressions = λ cells fit e t h. said (now i cells) cells (top cells) shared refl fit e t h;
-    cells = λ x k p ty h.
-        let a = entry system code x k p ty h in
-        record {
-          cell = a.cell;
-          typed = cell_type system code x k a.kind a.type alone a.has_cells a.variable a.cell ∙ ap Some a.own;
-          read = λ cells fit.
-              name_in_cell system code alone (now i cells) (top cells) (reading system) x k false a.kind a.type a.no_label a.variable a.has_cells a.cell ∙ ap (λ t. reads t (part cells k)) a.own;
-        };
-  }
-    where
-      top : (cells : List Value) → IsTop (now i cells)
-      top cells = record { path = refl; locals = refl }
 
 -- what stands for an expression says it where all cells and constants have the values that count as 0
 pub says_at_zeros : (system : System) (code : Module) → StandsAlone system code → list_all is_cell_type (types_of system) ≡ true → list_all is_cell_type (constant_types system) ≡ true

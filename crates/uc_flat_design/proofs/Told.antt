@@ -46,7 +46,7 @@ use Rattle.uc_flat_code.specs.Code.{MayBe, may_write, may_havoc, written_as, wri
 use Rattle.uc_flat_design.specs.Tables.{IsSaid}
 use Rattle.uc_flat_init_law.proofs.Options.{then_some, map_some, if_some, some_same}
 use Rattle.uc_flat_init_law.proofs.Turns.{run_append, run_none, run_one, run_is}
-use Rattle.uc_flat_design.proofs.Sequential.{truth_holds, is_written_as, arms_in, else_in}
+use Rattle.uc_flat_init_law.proofs.Forms.{truth_holds, is_written_as, arms_in, else_in}
 use Rattle.uc_flat_init_law.proofs.Fields.{placed, IsPath}
 use Rattle.uc_flat_init_law.proofs.Replacing.{Replaces, replaced_known}
 use Rattle.uc_flat_once.specs.declared.once.Part.{Part}

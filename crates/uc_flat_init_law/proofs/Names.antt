@@ -171,18 +171,18 @@ module _ (system : System) (code : Module) (i : Interp) (m : Model) (more : List
       (cell_says (constant_types system) m types cells h.cell h.ty (name system (elsewhere system) (here cells hs) x false) one.valid one.typed (fit_one cells hs x h e f)
       (name_of_local system (here cells hs) (elsewhere system) x false (local_in cells h) (own_local cells hs x h e)))
 
+  abbrev IsToldAs : List Held → List Value → ℕ → Bool → TypedExpression → Type 0
+  IsToldAs hs cells x primed t = Says (constant_types system) m types cells (name system (elsewhere system) (here cells hs) x primed) t
+
   -- each name that stands for something says what it means
   pub held_meant : (hs : List Held) (k : ℕ) (cells : List Value) → Stands types n hs k → FitAll first (take n cells) → FitHeld cells hs → AreMeant system (here cells hs) (constant_types system) m types cells (names_with base hs)
   held_meant hs k cells s fit held x primed t h = record { alone = no_instance system code alone (plain cells) (top cells) x; says = by_local (held_at hs x) refl }
     where
-      abbrev Goal : Type 0
-      Goal = Says (constant_types system) m types cells (name system (elsewhere system) (here cells hs) x primed) t
-
-      by_entry : (g : Held) → held_at hs x ≡ Some g → (o : Option Meant) → slice_get (names_with base hs) x ≡ o → meant_as primed o ≡ Some t → Goal
+      by_entry : (g : Held) → held_at hs x ≡ Some g → (o : Option Meant) → slice_get (names_with base hs) x ≡ o → meant_as primed o ≡ Some t → IsToldAs hs cells x primed t
       by_entry g e None a q = absurd (none_some t q)
       by_entry g e (Some z) a q = held_says cells hs k x primed t g s held e (ap (λ y. meant_as primed (Some y)) (name_held base hs x g z e a) ∙ q)
 
-      by_local : (o : Option Held) → held_at hs x ≡ o → Goal
+      by_local : (o : Option Held) → held_at hs x ≡ o → IsToldAs hs cells x primed t
       by_local None e =
           let a = names_hold system code (plain cells) m (take n cells) alone (top cells) shared constants_valid refl cells_valid fit x primed t (ap (meant_as primed) (sym (name_free base hs x e)) ∙ h) in
           let r = name system (elsewhere system) (plain cells) x primed in

@@ -41,7 +41,7 @@ pub record AreAt (types : List Ty) (others : List Value) (r : Running) (p : Plac
   pub left : r.left ≡ p.left
   pub no_sites : r.sites ≡ []
   pub none : p.sites ≡ []
-  pub others : p.others ≡ others
+  pub untaken : p.others ≡ others
 
 -- both go on from the same cells, or neither goes on
 abbrev pub EndAlike : List Ty → List Value → Ending → Option Placed → Type 0
