@@ -17,7 +17,7 @@ use Rattle.uc_flat_expressions.specs.Expressions.{flat_of}
 use Rattle.uc_flat_init.specs.declared.made.MadeCode.{MadeCode}
 use Rattle.uc_flat_init.specs.declared.made.MadeArms.{MadeArms}
 use Rattle.uc_flat_init.specs.CellTypes.{Types}
-use Rattle.uc_flat_init.specs.Init.{Made, Making, then_made, in_order, in_block, arm_by, arm_with, arm_made, then_arms, arms_made, else_of, joined, if_of, making_form, making_of, made_code, init_code}
+use Rattle.uc_flat_init.specs.Init.{Made, Making, then_made, in_order, ended, in_block, arm_by, arm_with, arm_made, then_arms, arms_made, else_of, joined, if_of, making_form, making_of, made_code, init_code}
 use Rattle.uc_flat_init_law.proofs.Options.{then_some, map_some, if_some}
 use Rattle.uc_flat_init_law.proofs.Forms.{arms_in, else_in}
 use Rattle.uc_flat_init_law.proofs.Locals.{none_some}
@@ -55,7 +55,7 @@ each_plain (b ∷ bs) (o ∷ os) h names k a e =
 
 block_plain : (bs : List Bool) (os : List Making) → AllPlain bs os → Plain (all_true bs) (in_block os)
 block_plain bs os h names k a e =
-    let x = map_some (λ (c : Made). record c { names = names }) (in_order os names k) a e in
+    let x = map_some (ended names) (in_order os names k) a e in
     each_plain bs os h names k x.0 x.1
 
 else_plain : (z : Option (List Bool)) (o : Option (List Making)) → ElsePlain z o → Plain (all_true (else_block z)) (else_of o)

@@ -1,5 +1,5 @@
 -- Names of a design that stand for cells are those of its variables.
-use Rattle.std.proofs.Common.{◌≡◌, ℕ, ◌+◌, [], length, refl, sym, ap, ◌∙◌, true, false, Bool, Option, Some, None, arith}
+use Rattle.std.proofs.Common.{◌≡◌, ℕ, [], length, refl, sym, ap, ◌∙◌, true, false, Bool, Option, Some, None, arith}
 use Rattle.std.specs.Prelude.{nat_lt, if◌then◌else◌, slice_get}
 use Rattle.uc_syntax.specs.declared.type_expression.TypeExpr.{TypeExpr}
 use Rattle.uc_syntax.specs.declared.declaration.VariableKind.{VariableKind}
@@ -10,7 +10,6 @@ use Rattle.uc_meaning.specs.Lookup.{System, variable_of}
 use Rattle.uc_meaning.specs.Types.{label_of, type_of_written}
 use Rattle.uc_meaning.specs.Cells.{cell_of}
 use Rattle.uc_meaning.specs.Expressions.{label_count}
-use Rattle.uc_flat_expressions.specs.declared.typed.Meant.{Meant}
 use Rattle.uc_flat_expressions.specs.declared.typed.Meant.TheVariants.{Unknown, Cell, Label, Constant}
 use Rattle.uc_flat_names.specs.Names.{of_label, of_cell_number, of_kind, of_variable, by_label, meant_in, counted, names_over_cells}
 use Rattle.uc_flat_names.proofs.Cells.{HasCells}

@@ -1,6 +1,6 @@
 -- Forms of statements, and the cells that names write.
-use Rattle.std.proofs.Common.{◌≡◌, ℕ, ◌+◌, List, [], refl, sym, ap, ◌∙◌, Bool, true, false, Option, Some, None, arith}
-use Rattle.std.specs.Prelude.{slice_get, if◌then◌else◌}
+use Rattle.std.proofs.Common.{◌≡◌, ℕ, ◌+◌, List, [], refl, sym, ap, ◌∙◌, Bool, false, Option, Some, None, arith}
+use Rattle.std.specs.Prelude.{slice_get}
 use Rattle.uc_syntax.specs.declared.statement.Arm.{Arm}
 use Rattle.uc_syntax.specs.declared.statement.Stmt.TheOpen.{Stmt-F}
 use Rattle.uc_syntax.specs.declared.statement.Stmt.TheOpen.Stmt-F.{If, Case}

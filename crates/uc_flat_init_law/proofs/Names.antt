@@ -1,9 +1,8 @@
 -- Names stand for what they mean in main where locals are in scope, and are set there.
-use Rattle.std.proofs.Common.{◌≡◌, ℕ, zero, suc, ◌+◌, ◌<◌, ◌≤◌, List, [], ◌∷◌, ◌++◌, length, take, drop, refl, sym, ap, ◌∙◌, subst, true, false, Bool, Option, Some, None, arith}
-use Rattle.std.specs.Prelude.{nat_eq, slice_get, slice_set}
+use Rattle.std.proofs.Common.{◌≡◌, ℕ, zero, suc, ◌<◌, ◌≤◌, List, [], ◌∷◌, ◌++◌, length, take, drop, refl, sym, ap, ◌∙◌, subst, true, false, Bool, Option, Some, None, arith}
+use Rattle.std.specs.Prelude.{slice_get, slice_set}
 use Rattle.std.specs.Option.{option_map}
-use Rattle.std.specs.List.{find}
-use Rattle.std.proofs.lemmas.List.{get_or-take, length-set, length-map, take-append-drop, take-set-le}
+use Rattle.std.proofs.lemmas.List.{get_or-take, length-set, take-append-drop, take-set-le}
 use Rattle.uc_syntax.specs.declared.type_expression.TypeExpr.{TypeExpr}
 use Rattle.uc_syntax.specs.declared.expression.Expr.{Expr}
 use Rattle.uc_syntax.specs.declared.declaration.VariableKind.{VariableKind}
@@ -19,7 +18,7 @@ use Rattle.uc_meaning.specs.Lookup.{System, module_at, variable_of}
 use Rattle.uc_meaning.specs.Types.{label_of}
 use Rattle.uc_meaning.specs.Cells.{cell_of}
 use Rattle.uc_meaning.specs.Expressions.{Elsewhere, Reading, reads, reading, elsewhere, name, OfCell, OfBinding, meaning_of, meant_reading, name_meaning, global_meaning, module_meaning, declared_meaning, means, variable_source, cell_source, binding_of, state_in, local_of, at_path, at_state}
-use Rattle.uc_meaning.specs.Code.{written_cell, set_cell, set_local, set_found, set_name}
+use Rattle.uc_meaning.specs.Code.{set_cell, set_found, set_name}
 use Rattle.uc_meaning.specs.Plain.{IsTop}
 use Rattle.uc_meaning.specs.Steps.{state_of}
 use Rattle.uc_meaning.proofs.Writes.{written_at_top}
@@ -36,7 +35,7 @@ use Rattle.uc_flat_expressions.specs.declared.typed.Meant.{Meant}
 use Rattle.uc_flat_expressions.specs.declared.typed.Meant.TheVariants.{Cell}
 use Rattle.uc_flat_expressions.specs.Names.{of_cell, meant_as}
 use Rattle.uc_flat_expressions.specs.Expressions.{flat_of}
-use Rattle.uc_flat_meaning.specs.Sayings.{Says, IsMeant, AreMeant}
+use Rattle.uc_flat_meaning.specs.Sayings.{Says, AreMeant}
 use Rattle.uc_flat_meaning.proofs.OnlyReads.{cell_reads}
 use Rattle.uc_flat_meaning.proofs.Telling.{flat_says}
 use Rattle.uc_flat_names.specs.Names.{StandsAlone, names_over_cells, types_of, constant_types}
@@ -46,7 +45,7 @@ use Rattle.uc_flat_names.proofs.Meaning.{name_in_cell, no_instance, names_hold}
 use Rattle.uc_flat_init_law.specs.Law.{now}
 use Rattle.uc_flat_init_law.proofs.Options.{some_same}
 use Rattle.uc_flat_init_law.proofs.Turns.{fit_set, fit_part}
-use Rattle.uc_flat_init_law.proofs.Entries.{IsEntry, entry}
+use Rattle.uc_flat_init_law.proofs.Entries.{entry}
 use Rattle.uc_flat_init_law.proofs.Locals.{Held, entry_of, names_with, local_in, locals_in, scope_with, held_at, Stands, FitHeld, Fine, none_some, take_set_front, part_set_same, floor, one_of, off_front, off_behind, locals_off, fit_off, local_at, fit_one, name_free, name_held, set_held, fit_set_held}
 
 pub there_below : {A : Type 0} (xs : List A) (k : ℕ) (x : A) → slice_get xs k ≡ Some x → k < length xs

@@ -1,5 +1,5 @@
 -- Init code and the code over cells that stands for it end alike.
-use Rattle.std.proofs.Common.{◌≡◌, ℕ, suc, ◌+◌, ◌<◌, ◌≤◌, List, [], ◌∷◌, ◌++◌, map, length, take, drop, refl, sym, ap, ◌∙◌, subst, true, false, Bool, Option, Some, None, arith, append_assoc}
+use Rattle.std.proofs.Common.{◌≡◌, ℕ, ◌+◌, ◌<◌, ◌≤◌, List, [], ◌∷◌, ◌++◌, map, length, take, refl, sym, ap, ◌∙◌, subst, true, false, Bool, Option, Some, None, arith, append_assoc}
 use Rattle.std.specs.Prelude.{if◌then◌else◌, slice_get, slice_set}
 use Rattle.std.specs.Option.{option_map, option_and_then}
 use Rattle.std.proofs.lemmas.List.{take_at, length-map, length-append}
@@ -20,13 +20,10 @@ use Rattle.uc_values.specs.declared.value.Value.{Value}
 use Rattle.uc_values.specs.Values.{fits, truth_of}
 use Rattle.uc_meaning.specs.declared.scope.Interp.{Interp}
 use Rattle.uc_meaning.specs.declared.scope.Scope.{Scope}
-use Rattle.uc_meaning.specs.declared.scope.Local.{Local}
-use Rattle.uc_meaning.specs.declared.scope.State.{State}
 use Rattle.uc_meaning.specs.Lookup.{System, module_at, module_from}
 use Rattle.uc_meaning.specs.Types.{type_of_written}
 use Rattle.uc_meaning.specs.Cells.{Cell, cells_of}
-use Rattle.uc_meaning.specs.Operators.{holds}
-use Rattle.uc_meaning.specs.Expressions.{Reading, reads, reading, name, value, is_true as is_true_in}
+use Rattle.uc_meaning.specs.Expressions.{Reading, reads, value, is_true as is_true_in}
 use Rattle.uc_meaning.specs.Code.{Running, Ending, Goes, Stopped, Unfit, Bodies, Execution as Run, then_run, run_each, run_block, run_form, run_statement, run_by, in_scope, keep_locals, else_block, taken, take_choice, choose, name_now, set_name, write, write_all, replaced, push_local, declare, declare_at}
 use Rattle.uc_meaning.specs.Steps.{part_reading, fields_before, state_of}
 use Rattle.uc_ops.specs.declared.model.Model.{Model}
@@ -44,20 +41,19 @@ use Rattle.uc_flat.specs.Executions.{FitAll}
 use Rattle.uc_flat.proofs.Forms.{value_cell, runs_assign, runs_havoc, runs_assume, runs_if}
 use Rattle.uc_flat_expressions.specs.declared.typed.TypedExpression.{TypedExpression}
 use Rattle.uc_flat_expressions.specs.declared.typed.Meant.{Meant}
-use Rattle.uc_flat_expressions.specs.declared.typed.Meant.TheVariants.{Unknown, Cell as CellOf, Label, Constant}
+use Rattle.uc_flat_expressions.specs.declared.typed.Meant.TheVariants.{Cell as CellOf}
 use Rattle.uc_flat_expressions.specs.Types.{is_boolean}
 use Rattle.uc_flat_expressions.specs.Expressions.{flat_of, all_of}
 use Rattle.uc_flat_code.specs.declared.writing.Written.{Written}
-use Rattle.uc_flat_code.specs.declared.writing.FlatArm.{FlatArm}
-use Rattle.uc_flat_code.specs.Code.{MayBe, may_write, may_havoc, written_as, written, havocked, assume_of, havoc_of, replaced_in, assigned, joined_arms, in_order as all_in_order}
+use Rattle.uc_flat_code.specs.Code.{written, havocked, assume_of, havoc_of, replaced_in, assigned, joined_arms, in_order as all_in_order}
 use Rattle.uc_flat_names.specs.Names.{StandsAlone, names_over_cells, types_of, constant_types}
 use Rattle.uc_flat_names.specs.Constants.{SharesConstants}
 use Rattle.uc_flat_init.specs.declared.made.MadeCode.{MadeCode}
 use Rattle.uc_flat_init.specs.declared.made.MadeArms.{MadeArms}
-use Rattle.uc_flat_init.specs.CellTypes.{is_cell_type, cell_type_of}
+use Rattle.uc_flat_init.specs.CellTypes.{cell_type_of}
 use Rattle.uc_flat_init.specs.Zero.{zero_of}
-use Rattle.uc_flat_init.specs.Init.{Made, Making, alone as code_alone, then_made, in_order, in_block, plainly, declared, kept, given, kept_in, each_given, through_kept, assigned_by, arm_by, arm_with, arm_made, then_arms, arms_made, else_of, joined, if_of, making_form, making_of, made_code, init_code}
-use Rattle.uc_flat_init_law.specs.Law.{now, running, placed as placed_with, AreAt, EndAlike, InitCodeLaw}
+use Rattle.uc_flat_init.specs.Init.{Made, Making, alone as code_alone, then_made, in_order, ended as closed_with, in_block, plainly, declared, kept, given, kept_in, each_given, through_kept, assigned_by, arm_by, arm_with, arm_made, then_arms, arms_made, else_of, joined, if_of, making_form, making_of, made_code}
+use Rattle.uc_flat_init_law.specs.Law.{now, running, placed as placed_with, EndAlike, InitCodeLaw}
 use Rattle.uc_flat_init_law.proofs.Options.{then_some, map_some, if_some, some_same}
 use Rattle.uc_flat_init_law.proofs.Forms.{truth_holds, arms_in, else_in, IsWritten, is_written, is_havocked}
 use Rattle.uc_flat_init_law.proofs.Turns.{run_append, run_none, run_one, run_is}
@@ -65,7 +61,7 @@ use Rattle.uc_flat_init_law.proofs.Fields.{placed, placed_fits, path_part}
 use Rattle.uc_flat_init_law.proofs.Replacing.{Replaces, replaced_known, replaced_placed}
 use Rattle.uc_flat_init_law.proofs.Zeros.{zero_type, cell_type_read}
 use Rattle.uc_flat_init_law.proofs.Further.{AreCells, cells_before, cells_behind, cells_there}
-use Rattle.uc_flat_init_law.proofs.Locals.{Held, names_with, locals_in, scope_with, Stands, FitHeld, Fine, none_some, part_set_same, part_set_other, later, fit_outer, keep_outer}
+use Rattle.uc_flat_init_law.proofs.Locals.{Held, names_with, locals_in, scope_with, Stands, Fine, none_some, part_set_same, part_set_other, later, fit_outer, keep_outer}
 use Rattle.uc_flat_init_law.proofs.Names.{there_below, fit_length, IsPlace, held_said, place_of, pushed, fine_pushed, aside, fine_aside}
 
 -- further cells from number k on have these values
@@ -240,7 +236,7 @@ module _ (system : System) (main : Module) (i : Interp) (m : Model) (more : List
 
   block_closed : (xs : List Run) (os : List Making) → AllGive xs os → (hs : List Held) (k : ℕ) (a : Made) → Stands types n hs k → in_block os (names_with base hs) k ≡ Some a → AreCells first types k a.further → Closed hs (run_block xs) a
   block_closed xs os h hs k a s e t =
-      let f = map_some (λ (b : Made). record b { names = names_with base hs }) (in_order os (names_with base hs) k) a e in
+      let f = map_some (closed_with (names_with base hs)) (in_order os (names_with base hs) k) a e in
       let there = subst (λ (z : Made). AreCells first types k z.further) (sym f.2) t in
       let inside = each_gives xs os h hs k f.0 s f.1 there in
       subst (Closed hs (run_block xs)) f.2 (record { names = refl; alike = block_alike hs inside.after inside.inner xs f.0.code inside.is inside.alike })

@@ -1,13 +1,12 @@
 -- The types of further cells are those that are read of locals, and those of kept sources.
-use Rattle.std.proofs.Common.{◌≡◌, List, map, refl, sym, ap, ◌∙◌, subst, true, Some, None}
-use Rattle.std.specs.Prelude.{if◌then◌else◌}
+use Rattle.std.proofs.Common.{◌≡◌, List, sym, ◌∙◌, subst, Some}
 use Rattle.uc_syntax.specs.declared.type_expression.TypeExpr.{TypeExpr}
 use Rattle.uc_syntax.specs.declared.declaration.Module.{Module}
 use Rattle.uc_values.specs.declared.ty.Ty.{Ty}
-use Rattle.uc_values.specs.declared.ty.Ty.TheViews.{out-Ty, roll-Ty}
+use Rattle.uc_values.specs.declared.ty.Ty.TheViews.{out-Ty}
 use Rattle.uc_values.specs.declared.ty.Ty.TheOpen.{Ty-F}
 use Rattle.uc_values.specs.declared.ty.Ty.TheOpen.Ty-F.{Bool as boolean_type, Int as integer_type, Bv as bits_type, Rec as record_type, Arr as array_type, Enum as enum_type, Un as open_type}
-use Rattle.uc_values.specs.declared.ty.Ty.TheFolds.{fold-Ty, map-Ty, fold-roll-Ty, ind-Ty}
+use Rattle.uc_values.specs.declared.ty.Ty.TheFolds.{fold-Ty, map-Ty, fold-roll-Ty}
 use Rattle.uc_values.specs.Values.{zero_of as zero_value}
 use Rattle.uc_values.proofs.Shapes.{and_true}
 use Rattle.uc_meaning.specs.Lookup.{System}
