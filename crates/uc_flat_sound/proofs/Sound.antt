@@ -57,7 +57,7 @@ use Rattle.uc_flat_design.specs.Design.{next_names, next_arranged, IsFlatOf}
 use Rattle.uc_flat_design.proofs.Formulas.{axioms_read, invariants_read}
 use Rattle.uc_flat_design.proofs.Tables.{all_valid, zero_interpretation, zero_model, zeros_fit, zero_shared, says_at_zeros, axiom_says_at_zeros}
 use Rattle.uc_flat_design.proofs.NextTable.{next_table, next_says_at_zeros}
-use Rattle.uc_flat_design.proofs.Laws.{alone_of, flat_types, flat_constant_types}
+use Rattle.uc_flat_design.proofs.Laws.{alone_of, flat_types, flat_further, flat_init_types, flat_constant_types}
 use Rattle.uc_flat_sound.specs.Law.{SoundLaw, OwnTypesLaw}
 
 valid_append : (xs ys : List Ty) → AllValid xs → AllValid ys → AllValid (xs ++ ys)
@@ -290,13 +290,10 @@ module _ (system : System) (code : Module) (f : Flat) (d : IsFlatOf system code 
   typed = flat_constant_types system code f d
 
   further_is : f.further ≡ further
-  further_is = ap (λ (g : Flat). g.further) d.is
+  further_is = flat_further system code f d
 
   init_code_is : f.init ≡ d.init.code
   init_code_is = ap (λ (g : Flat). g.init) d.is
-
-  init_types_are : init_types f ≡ wide
-  init_types_are = ap (λ ts. wider_types ts f.further) (flat_types system code f d) ∙ ap (wider_types types) further_is
 
   own_types : ReadsOwnTypes f
   own_types = record {
@@ -320,7 +317,7 @@ module _ (system : System) (code : Module) (f : Flat) (d : IsFlatOf system code 
     valid = subst AllValid (sym (flat_types system code f d)) valid;
     further = subst (λ ts. All (IsTyped ts) f.further) (sym (flat_types system code f d)) (subst (All (IsTyped types)) (sym further_is) init_fine.1);
     further_reads = All-weaker (ReadsTyped (constants_typed f)) (ReadsBelow (length f.constants)) (λ e h. subst (λ n. ReadsBelow n e) counted (below (constants_typed f) e h)) f.further own_types.further;
-    init = subst (λ ts. AreFine ts f.init) (sym init_types_are) (subst (AreFine wide) (sym init_code_is) init_fine.0);
+    init = subst (λ ts. AreFine ts f.init) (sym (flat_init_types system code f d)) (subst (AreFine wide) (sym init_code_is) init_fine.0);
     init_reads = subst (λ n. CodeReadsBelow n f.init) counted (code_below (constants_typed f) f.init own_types.init);
     step = subst (λ (g : Flat). AreFine (cell_types f ++ cell_types f) g.step) (sym d.is)
         (subst (λ ts. AreFine (ts ++ ts) (step_code (cells_of system) d.next)) (sym (flat_types system code f d)) (fine_alone (types ++ types) (step_code (cells_of system) d.next) step_fine.at));
