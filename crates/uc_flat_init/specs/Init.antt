@@ -48,9 +48,12 @@ unfoldable pub in_order : List Making → Making
 in_order [] names n = Some (alone names [])
 in_order (x ∷ xs) names n = option_and_then (λ a. option_map (then_made a) (in_order xs a.names (n + length a.further))) (x names n)
 
+abbrev pub ended : List Meant → Made → Made
+ended names a = record { code = a.code; further = a.further; names = names }
+
 -- the names that a block declares end with it
 abbrev pub in_block : List Making → Making
-in_block xs names n = option_map (λ a. record a { names = names }) (in_order xs names n)
+in_block xs names n = option_map (ended names) (in_order xs names n)
 
 -- targets have no prime, and write the cells themselves
 abbrev pub plainly : Writing
