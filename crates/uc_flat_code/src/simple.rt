@@ -95,11 +95,7 @@ fn havocked(
 }
 
 /// A condition is assumed.
-pub fn assume(
-    alloc: Global,
-    names: &[Meant],
-    e: &Expr,
-) -> Result<Items<Statement>, FlatError>
+pub fn assume(alloc: Global, names: &[Meant], e: &Expr) -> Result<Items<Statement>, FlatError>
     ensures { IsAnswer (option_and_then assume_of (flat_of names.now e.now)) result }
 {
     let t = flat_expression(alloc, names, e)?;
