@@ -124,7 +124,11 @@ fn beginnings(alloc: Global, values: &[TypedExpression]) -> Result<Items<Express
 
 /// Values in further cells from a number on.
 #[tactic(auto, unfolding(crate::specs::Init::kept))]
-fn keep(alloc: Global, first: u32, values: Items<TypedExpression>) -> Result<Items<Statement>, AllocError>
+fn keep(
+    alloc: Global,
+    first: u32,
+    values: Items<TypedExpression>,
+) -> Result<Items<Statement>, AllocError>
     ensures { IfOk result (λ code. code ≡ kept first values) }
 {
     let mut all = Items::new(alloc);

@@ -41,7 +41,7 @@ fn copy_meant(alloc: Global, meant: &Meant) -> Result<Meant, AllocError>
 }
 
 /// What names stand for, to be changed by locals.
-pub(crate) fn copy_names(alloc: Global, names: &[Meant]) -> Result<Items<Meant>, AllocError>
+pub fn copy_names(alloc: Global, names: &[Meant]) -> Result<Items<Meant>, AllocError>
     ensures { IfOk result (λ all. all ≡ names.now) }
 {
     let mut all = Items::new(alloc);

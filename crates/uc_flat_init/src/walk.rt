@@ -1,11 +1,11 @@
 //! The walk over init code.
 
-ghost use Rattle.std.specs.Prelude.{◌≡◌, ◌++◌, [], map, IfOk, OnOk};
+ghost use Rattle.std.specs.Prelude.{◌≡◌, ◌+◌, ◌++◌, [], map, length, IfOk, OnOk};
 ghost use Rattle.std.specs.Option.{option_map};
 ghost use Rattle.uc_flat_expressions.specs.Answers.{IsAnswer};
 ghost use Rattle.uc_flat_code.specs.Code.{each_arm, joined_arms};
 ghost use Rattle.uc_flat_init.specs.CellTypes.{cell_type_of};
-ghost use Rattle.uc_flat_init.specs.Init.{making_of, in_order, in_block, arm_by, arm_made, arms_made, else_of, if_of, init_code};
+ghost use Rattle.uc_flat_init.specs.Init.{making_of, in_order, in_block, arm_by, arm_made, arms_made, else_of, joined, init_code};
 ghost use Rattle.uc_flat_init.specs.Walk.{with_names, IsWalked, undone};
 
 use crate::assigning::assign;
@@ -41,6 +41,21 @@ pub fn init_code(
     walk(alloc, tables, code, &mut names, &mut shadowed, first, block)
 }
 
+/// The same of one statement, which may change what names stand for.
+pub fn statement_code(
+    alloc: Global,
+    tables: &Tables,
+    code: &Module,
+    names: &mut Items<Meant>,
+    first: u32,
+    statement: &Stmt,
+) -> Result<MadeCode, FlatError>
+    ensures { IsWalked (making_of (cell_type_of tables.now code.now) statement.now names.old first) names.new result }
+{
+    let mut shadowed = Items::new(alloc);
+    walk_statement(alloc, tables, code, names, &mut shadowed, first, statement)
+}
+
 /// Statements one after another.
 #[cycle(walk)]
 fn walk(
@@ -67,6 +82,7 @@ fn walk(
 }
 
 #[cycle(walk)]
+#[tactic(auto, using(crate::proofs::Forms::local_made, crate::proofs::Forms::skip_made, crate::proofs::Forms::block_answer, crate::proofs::Forms::assume_answer, crate::proofs::Forms::assert_none, crate::proofs::Forms::for_none, crate::proofs::Forms::call_none, crate::proofs::Forms::next_none))]
 fn walk_statement(
     alloc: Global,
     tables: &Tables,
@@ -94,10 +110,12 @@ fn walk_statement(
             assign(alloc, names.as_slice(), first, targets, sources.as_slice())
         }
         Stmt::If(_, arms, otherwise) => {
-            walk_choice(alloc, tables, code, names, first, arms.as_slice(), otherwise)
+            let arms = walk_arms(alloc, tables, code, names, first, arms.as_slice())?;
+            walk_behind(alloc, tables, code, names, first, arms, otherwise)
         }
         Stmt::Case(_, arms, otherwise) => {
-            walk_choice(alloc, tables, code, names, first, arms.as_slice(), otherwise)
+            let arms = walk_arms(alloc, tables, code, names, first, arms.as_slice())?;
+            walk_behind(alloc, tables, code, names, first, arms, otherwise)
         }
         Stmt::Assert(..) => Err(FlatError::NotBuilt),
         Stmt::For(..) => Err(FlatError::NotBuilt),
@@ -128,19 +146,18 @@ fn walk_block(
 
 /// The arms of a conditional, and what stands behind them.
 #[cycle(walk)]
-fn walk_choice(
+fn walk_behind(
     alloc: Global,
     tables: &Tables,
     code: &Module,
     names: &mut Items<Meant>,
     first: u32,
-    arms: &[Arm<Stmt>],
+    arms: MadeArms,
     otherwise: &Option<Items<Stmt>>,
 ) -> Result<MadeCode, FlatError>
-    ensures made { IsWalked (if_of (map (each_arm (making_of (cell_type_of tables.now code.now))) arms.now) (option_map (map (making_of (cell_type_of tables.now code.now))) otherwise.now) names.old first) names.new result }
+    ensures made { IsWalked (option_map (joined arms) (else_of (option_map (map (making_of (cell_type_of tables.now code.now))) otherwise.now) names.old (first + length arms.further))) names.new result }
     ensures kept { OnOk result (names.new ≡ names.old) }
 {
-    let arms = walk_arms(alloc, tables, code, names, first, arms)?;
     let next = behind(first, arms.further.len());
     let (arms, next) = beside(arms, next)?;
     let rest = walk_else(alloc, tables, code, names, next, otherwise);
@@ -239,7 +256,10 @@ fn joined(alloc: Global, arms: MadeArms, rest: MadeCode) -> Result<MadeCode, All
     Ok(MadeCode { code, further })
 }
 
-fn both(first: Items<Expression>, second: Items<Expression>) -> Result<Items<Expression>, AllocError>
+fn both(
+    first: Items<Expression>,
+    second: Items<Expression>,
+) -> Result<Items<Expression>, AllocError>
     ensures { IfOk result (λ all. all ≡ first ++ second) }
 {
     let mut all = first;

@@ -1,4 +1,3 @@
-use Rattle.std.proofs.Common.{rules, arith}
 use Rattle.uc_flat_init.proofs.Targets.{one_answer, several_answer}
 use Rattle.uc_flat_init.proofs.assigning.assign.Goals as goal
 use Rattle.uc_flat_init.proofs.assigning.assign.Goals.{else-targets-eq1-via-then-targets-eq1+else-sources-eq1, else-targets-eq1-via-else-targets-eq1}

@@ -1,4 +1,4 @@
-use Rattle.std.proofs.Common.{◌≡◌, List, sym, ap, ◌∙◌}
+use Rattle.std.proofs.Common.{sym, ap, ◌∙◌}
 use Rattle.uc_flat_init.specs.Walk.{undone}
 use Rattle.uc_flat_init.proofs.Names.{undone_none}
 use Rattle.uc_flat_init.proofs.locals.undo.Goals as goal
