@@ -1,5 +1,5 @@
 -- What each form of type comes to.
-use Rattle.std.specs.Prelude.{ℕ, ◌≡◌, Bool, true, false, ◌&&◌, nat_le, nat_lt, List, [], ◌∷◌, map}
+use Rattle.std.specs.Prelude.{ℕ, ◌≡◌, Bool, true, false, ◌&&◌, nat_le, nat_lt, List, [], ◌∷◌}
 use Rattle.std.specs.List.{list_all}
 use Rattle.std.proofs.Common.{refl, sym, ap, ◌∙◌}
 use Rattle.uc_values.specs.declared.ty.Field.{Field}
@@ -8,7 +8,7 @@ use Rattle.uc_values.specs.declared.ty.Ty.TheVariants.{Bool as Boolean, Int as I
 use Rattle.uc_values.specs.declared.ty.Ty.TheFolds.{fold-roll-Ty}
 use Rattle.uc_values.specs.declared.ty.Ty.TheOpen.Ty-F.{Bool as boolean_type, Int as integer_type, Bv as bits_type, Rec as record_type, Arr as array_type, Enum as enum_type, Un as open_type}
 use Rattle.uc_values.specs.Types.{is_valid}
-use Rattle.uc_values.proofs.Shapes.{all_mapped, valid-Bool, valid-Int, valid-Bv, valid-Enum, valid-Un, valid-Rec, valid-Arr}
+use Rattle.uc_values.proofs.Shapes.{all_mapped, valid-Bool, valid-Bv, valid-Enum, valid-Rec}
 use Rattle.uc_flat_init.specs.CellTypes.{is_finite_form, is_finite, is_cell_type}
 
 and_true : (b : Bool) → (b && true) ≡ b

@@ -1,6 +1,6 @@
 -- What the walk makes of each form of statement, by what it makes of the parts.
-use Rattle.std.proofs.Common.{◌≡◌, ℕ, ◌+◌, Bool as Truth, ◌++◌, List, [], ◌∷◌, length, map, refl, sym, ap, ◌∙◌, subst, Option, Some, None}
-use Rattle.std.specs.Prelude.{if◌then◌else◌, Result, Ok, Err}
+use Rattle.std.proofs.Common.{◌≡◌, ℕ, ◌+◌, Bool as Truth, List, [], ◌∷◌, length, map, refl, sym, ap, ◌∙◌, subst, Option, Some, None}
+use Rattle.std.specs.Prelude.{Result, Err}
 use Rattle.std.specs.Option.{option_map, option_and_then}
 use Rattle.uc_lexer.specs.declared.place.Place.{Place}
 use Rattle.uc_syntax.specs.declared.place.Identifier.{Identifier}
@@ -16,15 +16,18 @@ use Rattle.uc_syntax.specs.declared.statement.Stmt.TheViews.{roll-Stmt, Block, I
 use Rattle.uc_syntax.specs.declared.statement.Stmt.TheVariants.{Local, Skip, Assert, Assume, Havoc, Assign, Call, Next}
 use Rattle.uc_syntax.specs.declared.statement.Stmt.TheFolds.{map-Stmt, fold-roll-Stmt}
 use Rattle.uc_values.specs.declared.ty.Ty.{Ty}
+use Rattle.uc_flat.specs.declared.statement.Statement.{Statement}
 use Rattle.uc_flat_expressions.specs.declared.typed.Meant.{Meant}
 use Rattle.uc_flat_expressions.specs.declared.typed.FlatError.{FlatError}
 use Rattle.uc_flat_expressions.specs.declared.typed.FlatError.TheVariants.{NoMemory, NotBuilt}
+use Rattle.uc_flat_expressions.specs.Answers.{IsAnswer}
 use Rattle.uc_flat_expressions.specs.Expressions.{flat_of, all_of}
 use Rattle.uc_flat_code.specs.Code.{havocked, assume_of, havoc_of, each_arm}
 use Rattle.uc_flat_init.specs.declared.made.MadeCode.{MadeCode}
+use Rattle.uc_flat_init.specs.declared.made.MadeArms.{MadeArms}
 use Rattle.uc_flat_init.specs.CellTypes.{Types}
-use Rattle.uc_flat_init.specs.Init.{Made, Making, alone, plainly, in_order, in_block, declared, assigned_by, if_of, making_form, making_of}
-use Rattle.uc_flat_init.specs.Walk.{IsWalked}
+use Rattle.uc_flat_init.specs.Init.{Made, Making, alone, plainly, in_block, declared, assigned_by, arms_made, else_of, joined, if_of, making_form, making_of}
+use Rattle.uc_flat_init.specs.Walk.{with_names, IsWalked}
 
 by_form : (types : Types) (s t : Stmt) (names after : List Meant) (n : ℕ) (o : Option Made) (r : Result MadeCode FlatError) → s ≡ t → making_of types t names n ≡ o → IsWalked o after r → IsWalked (making_of types s names n) after r
 by_form types s t names after n o r is e h = subst (λ p. IsWalked p after r) (sym (ap (λ x. making_of types x names n) is ∙ e)) h
@@ -101,11 +104,18 @@ making_case types p arms z names n =
 
 -- ---- answers of statements
 
-pub local_answer : (types : Types) (s : Stmt) (p : Place) (xs : List Identifier) (ty : TypeExpr) (names after : List Meant) (n : ℕ) (r : Result MadeCode FlatError) → s ≡ Local p xs ty → IsWalked (option_and_then (λ t. declared t xs names n) (types ty)) after r → IsWalked (making_of types s names n) after r
-local_answer types s p xs ty names after n r is h = by_form types s (Local p xs ty) names after n (option_and_then (λ t. declared t xs names n) (types ty)) r is (making_local types p xs ty names n) h
+pub local_err : (types : Types) (s : Stmt) (p : Place) (xs : List Identifier) (ty : TypeExpr) (names after : List Meant) (n : ℕ) (err : FlatError) → s ≡ Local p xs ty → IsAnswer {A = Ty} (types ty) (Err err) → IsWalked (making_of types s names n) after (Err err)
+local_err types s p xs ty names after n NoMemory is h = tt
+local_err types s p xs ty names after n NotBuilt is h = ap (λ x. making_of types x names n) is ∙ making_local types p xs ty names n ∙ ap (option_and_then (λ t. declared t xs names n)) h
 
-pub skip_answer : (types : Types) (s : Stmt) (p : Place) (names after : List Meant) (n : ℕ) (r : Result MadeCode FlatError) → s ≡ Skip p → IsWalked (Some (alone names [])) after r → IsWalked (making_of types s names n) after r
-skip_answer types s p names after n r is h = by_form types s (Skip p) names after n (Some (alone names [])) r is (making_skip types p names n) h
+pub local_made : (types : Types) (s : Stmt) (p : Place) (xs : List Identifier) (ty : TypeExpr) (t : Ty) (made : MadeCode) (names after : List Meant) (n : ℕ) → s ≡ Local p xs ty → types ty ≡ Some t → declared t xs names n ≡ Some (with_names made after)
+    → making_of types s names n ≡ Some (with_names made after)
+local_made types s p xs ty t made names after n is h d =
+    ap (λ x. making_of types x names n) is ∙ making_local types p xs ty names n ∙ ap (option_and_then (λ u. declared u xs names n)) h ∙ d
+
+pub skip_made : (types : Types) (s : Stmt) (p : Place) (code : List Statement) (made : MadeCode) (names : List Meant) (n : ℕ) → s ≡ Skip p → made ≡ record { code = code; further = [] } → code ≡ [] → making_of types s names n ≡ Some (with_names made names)
+skip_made types s p code made names n is m c =
+    ap (λ x. making_of types x names n) is ∙ making_skip types p names n ∙ ap (λ xs. Some (record { code = xs; further = []; names = names })) (sym c) ∙ ap (λ x. Some (with_names x names)) (sym m)
 
 pub block_answer : (types : Types) (s : Stmt) (p : Place) (block : List Stmt) (names after : List Meant) (n : ℕ) (r : Result MadeCode FlatError) → s ≡ Block p block → IsWalked (in_block (map (making_of types) block) names n) after r → IsWalked (making_of types s names n) after r
 block_answer types s p block names after n r is h = by_form types s (Block p block) names after n (in_block (map (making_of types) block) names n) r is (making_block types p block names n) h
@@ -119,11 +129,37 @@ havoc_answer types s p x primed names after n r is h = by_form types s (Havoc p 
 pub assign_answer : (types : Types) (s : Stmt) (p : Place) (ts : List Target) (es : List Expr) (names after : List Meant) (n : ℕ) (r : Result MadeCode FlatError) → s ≡ Assign p ts es → IsWalked (option_and_then (λ xs. assigned_by ts xs names n) (all_of (map (flat_of names) es))) after r → IsWalked (making_of types s names n) after r
 assign_answer types s p ts es names after n r is h = by_form types s (Assign p ts es) names after n (option_and_then (λ xs. assigned_by ts xs names n) (all_of (map (flat_of names) es))) r is (making_assign types p ts es names n) h
 
-pub if_answer : (types : Types) (s : Stmt) (p : Place) (arms : List (Arm Stmt)) (z : Option (List Stmt)) (names after : List Meant) (n : ℕ) (r : Result MadeCode FlatError) → s ≡ If p arms z → IsWalked (if_of (map (each_arm (making_of types)) arms) (option_map (map (making_of types)) z) names n) after r → IsWalked (making_of types s names n) after r
-if_answer types s p arms z names after n r is h = by_form types s (If p arms z) names after n (if_of (map (each_arm (making_of types)) arms) (option_map (map (making_of types)) z) names n) r is (making_if types p arms z names n) h
+abbrev Choice : Types → Stmt → List (Arm Stmt) → Option (List Stmt) → List Meant → ℕ → Type 0
+Choice types s arms z names n = making_of types s names n ≡ if_of (map (each_arm (making_of types)) arms) (option_map (map (making_of types)) z) names n
 
-pub case_answer : (types : Types) (s : Stmt) (p : Place) (arms : List (Arm Stmt)) (z : Option (List Stmt)) (names after : List Meant) (n : ℕ) (r : Result MadeCode FlatError) → s ≡ Case p arms z → IsWalked (if_of (map (each_arm (making_of types)) arms) (option_map (map (making_of types)) z) names n) after r → IsWalked (making_of types s names n) after r
-case_answer types s p arms z names after n r is h = by_form types s (Case p arms z) names after n (if_of (map (each_arm (making_of types)) arms) (option_map (map (making_of types)) z) names n) r is (making_case types p arms z names n) h
+by_arms_err : (types : Types) (s : Stmt) (arms : List (Arm Stmt)) (z : Option (List Stmt)) (names after : List Meant) (n : ℕ) (err : FlatError) → Choice types s arms z names n
+    → IsAnswer {A = MadeArms} (arms_made names n (map (each_arm (making_of types)) arms)) (Err err) → IsWalked (making_of types s names n) after (Err err)
+by_arms_err types s arms z names after n NoMemory is h = tt
+by_arms_err types s arms z names after n NotBuilt is h =
+    is ∙ ap (option_and_then (λ a. option_map (joined a) (else_of (option_map (map (making_of types)) z) names (n + length a.further)))) h
+
+by_arms : (types : Types) (s : Stmt) (arms : List (Arm Stmt)) (z : Option (List Stmt)) (cs : MadeArms) (names now after : List Meant) (n : ℕ) (r : Result MadeCode FlatError) → Choice types s arms z names n
+    → arms_made names n (map (each_arm (making_of types)) arms) ≡ Some cs → now ≡ names → IsWalked (option_map (joined cs) (else_of (option_map (map (making_of types)) z) now (n + length cs.further))) after r → IsWalked (making_of types s names n) after r
+by_arms types s arms z cs names now after n r is h same w =
+    subst (λ o. IsWalked o after r)
+    (sym (is ∙ ap (option_and_then (λ a. option_map (joined a) (else_of (option_map (map (making_of types)) z) names (n + length a.further)))) h))
+    (subst (λ ns. IsWalked (option_map (joined cs) (else_of (option_map (map (making_of types)) z) ns (n + length cs.further))) after r) same w)
+
+pub if_err : (types : Types) (s : Stmt) (p : Place) (arms : List (Arm Stmt)) (z : Option (List Stmt)) (names after : List Meant) (n : ℕ) (err : FlatError) → s ≡ If p arms z
+    → IsAnswer {A = MadeArms} (arms_made names n (map (each_arm (making_of types)) arms)) (Err err) → IsWalked (making_of types s names n) after (Err err)
+if_err types s p arms z names after n err is h = by_arms_err types s arms z names after n err (ap (λ x. making_of types x names n) is ∙ making_if types p arms z names n) h
+
+pub if_made : (types : Types) (s : Stmt) (p : Place) (arms : List (Arm Stmt)) (z : Option (List Stmt)) (cs : MadeArms) (names now after : List Meant) (n : ℕ) (r : Result MadeCode FlatError) → s ≡ If p arms z
+    → arms_made names n (map (each_arm (making_of types)) arms) ≡ Some cs → now ≡ names → IsWalked (option_map (joined cs) (else_of (option_map (map (making_of types)) z) now (n + length cs.further))) after r → IsWalked (making_of types s names n) after r
+if_made types s p arms z cs names now after n r is h same w = by_arms types s arms z cs names now after n r (ap (λ x. making_of types x names n) is ∙ making_if types p arms z names n) h same w
+
+pub case_err : (types : Types) (s : Stmt) (p : Place) (arms : List (Arm Stmt)) (z : Option (List Stmt)) (names after : List Meant) (n : ℕ) (err : FlatError) → s ≡ Case p arms z
+    → IsAnswer {A = MadeArms} (arms_made names n (map (each_arm (making_of types)) arms)) (Err err) → IsWalked (making_of types s names n) after (Err err)
+case_err types s p arms z names after n err is h = by_arms_err types s arms z names after n err (ap (λ x. making_of types x names n) is ∙ making_case types p arms z names n) h
+
+pub case_made : (types : Types) (s : Stmt) (p : Place) (arms : List (Arm Stmt)) (z : Option (List Stmt)) (cs : MadeArms) (names now after : List Meant) (n : ℕ) (r : Result MadeCode FlatError) → s ≡ Case p arms z
+    → arms_made names n (map (each_arm (making_of types)) arms) ≡ Some cs → now ≡ names → IsWalked (option_map (joined cs) (else_of (option_map (map (making_of types)) z) now (n + length cs.further))) after r → IsWalked (making_of types s names n) after r
+case_made types s p arms z cs names now after n r is h same w = by_arms types s arms z cs names now after n r (ap (λ x. making_of types x names n) is ∙ making_case types p arms z names n) h same w
 
 pub assert_none : (types : Types) (s : Stmt) (p : Place) (label : Option Identifier) (e : Expr) (names : List Meant) (n : ℕ) → s ≡ Assert p label e → making_of types s names n ≡ None
 unfolding making_of roll-Stmt denote.Hole.Carrier.roll

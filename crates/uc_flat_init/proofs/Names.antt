@@ -1,9 +1,9 @@
 -- Names that get back what they stood for before.
-use Rattle.std.proofs.Common.{◌≡◌, ℕ, zero, suc, ◌<◌, ◌≤◌, List, [], ◌∷◌, ◌++◌, length, refl, sym, ap, ◌∙◌, Option, Some, None, arith}
+use Rattle.std.proofs.Common.{◌≡◌, ℕ, zero, suc, ◌≤◌, List, [], ◌∷◌, ◌++◌, length, refl, sym, ap, ◌∙◌, Option, Some, None, arith}
 use Rattle.std.specs.Prelude.{slice_get, slice_set}
 use Rattle.uc_flat_expressions.specs.declared.typed.Meant.{Meant}
 use Rattle.uc_flat_init.specs.declared.locals.Shadowed.{Shadowed}
-use Rattle.uc_flat_init.specs.Walk.{undone}
+use Rattle.uc_flat_init.specs.Walk.{aside, undone}
 
 pub set_past : (xs : List Meant) (k : ℕ) (v : Meant) → length xs ≤ k → xs ≡ slice_set xs k v
 set_past [] k v h = refl
@@ -33,11 +33,17 @@ pub undone_none : (names : List Meant) → undone [] names ≡ names
 unfolding undone
 undone_none names = refl
 
+nil : (ss : List Shadowed) → ss ++ [] ≡ ss
+nil [] = refl
+nil (s ∷ ss) = ap (λ ts. s ∷ ts) (nil ss)
+
+undone_aside : (names : List Meant) (shadowed : List Shadowed) (name : ℕ) (meant : Meant) (o : Option Meant) → slice_get names name ≡ o → undone (shadowed ++ aside name o) (slice_set names name meant) ≡ undone shadowed names
+undone_aside names shadowed name meant None h =
+    ap (λ ss. undone ss (slice_set names name meant)) (nil shadowed) ∙ ap (undone shadowed) (sym (set_nowhere names name meant h))
+undone_aside names shadowed name meant (Some before) h =
+    undone_last shadowed (record { name = name; meant = before }) (slice_set names name meant) ∙ ap (undone shadowed) (set_back names name meant before h)
+
 -- what a name stood for is put aside, and the name is set
-pub undone_more : (names after : List Meant) (shadowed more : List Shadowed) (name : ℕ) (meant before : Meant) → slice_get names name ≡ Some before → more ≡ shadowed ++ record { name = name; meant = before } ∷ [] → after ≡ slice_set names name meant
-    → undone more after ≡ undone shadowed names
-undone_more names after shadowed more name meant before h m a =
-    ap (λ ss. undone ss after) m
-    ∙ undone_last shadowed (record { name = name; meant = before }) after
-    ∙ ap (λ ns. undone shadowed (slice_set ns name before)) a
-    ∙ ap (undone shadowed) (set_back names name meant before h)
+pub undone_more : (names after : List Meant) (shadowed more : List Shadowed) (name : ℕ) (meant : Meant) → more ≡ shadowed ++ aside name (slice_get names name) → after ≡ slice_set names name meant → undone more after ≡ undone shadowed names
+undone_more names after shadowed more name meant m a =
+    ap (λ ss. undone ss after) m ∙ ap (undone (shadowed ++ aside name (slice_get names name))) a ∙ undone_aside names shadowed name meant (slice_get names name) refl

@@ -1,19 +1,20 @@
 -- Targets from left to right, as far as a loop has come, and the forms of assignments.
-use Rattle.std.proofs.Common.{◌≡◌, ℕ, zero, suc, ◌+◌, ◌<◌, ◌≤◌, List, [], ◌∷◌, ◌++◌, length, drop, map, get_or, refl, sym, ap, ◌∙◌, Option, Some, None, arith, append_assoc, drop-cons, add-one}
-use Rattle.std.specs.Prelude.{Result, Ok, Err}
+use Rattle.std.proofs.Common.{◌≡◌, ℕ, suc, ◌+◌, ◌<◌, ◌≤◌, List, [], ◌∷◌, ◌++◌, length, drop, map, get_or, refl, sym, ap, ◌∙◌, subst, Option, Some, None, arith, append_assoc, drop-cons, add-one}
+use Rattle.std.specs.Prelude.{Result, Err}
 use Rattle.std.specs.Option.{option_map, option_and_then}
 use Rattle.std.proofs.lemmas.List.{drop_all}
+use Rattle.uc_syntax.specs.declared.expression.Expr.{Expr}
 use Rattle.uc_syntax.specs.declared.statement.Target.{Target}
 use Rattle.uc_flat.specs.declared.statement.Statement.{Statement}
-use Rattle.uc_flat.specs.declared.statement.Statement.TheVariants.{Assign as AssignCell}
 use Rattle.uc_flat_expressions.specs.declared.typed.TypedExpression.{TypedExpression}
 use Rattle.uc_flat_expressions.specs.declared.typed.Meant.{Meant}
 use Rattle.uc_flat_expressions.specs.declared.typed.FlatError.{FlatError}
 use Rattle.uc_flat_expressions.specs.declared.typed.FlatError.TheVariants.{NoMemory, NotBuilt}
 use Rattle.uc_flat_expressions.specs.Answers.{IsAnswer}
+use Rattle.uc_flat_expressions.specs.Expressions.{flat_of, all_of}
 use Rattle.uc_flat_code.specs.Code.{MayBe, in_order}
 use Rattle.uc_flat_init.specs.declared.made.MadeCode.{MadeCode}
-use Rattle.uc_flat_init.specs.Init.{Made, alone, given, kept, kept_in, each_given, through_kept, assigned_by}
+use Rattle.uc_flat_init.specs.Init.{Made, alone, given, kept_in, each_given, through_kept, assigned_by}
 use Rattle.uc_flat_init.specs.Walk.{IsWalked}
 
 from_next : {A : Type 0} (xs : List A) (n : ℕ) (x : A) → n < length xs → x ≡ get_or xs n x → drop n xs ≡ x ∷ drop (n + 1) xs
@@ -85,23 +86,57 @@ given_begin (Some xs) = refl
 
 -- ---- one target, and several
 
-pub one_given : (t : Target) (x : TypedExpression) (xs : List TypedExpression) (names after : List Meant) (n : ℕ) (r : Result MadeCode FlatError) → xs ≡ x ∷ [] → IsWalked (option_map (alone names) (given names t x)) after r → IsWalked (assigned_by (t ∷ []) xs names n) after r
-unfolding assigned_by
-one_given t x xs names after n r is h = subst (λ ys. IsWalked (assigned_by (t ∷ []) ys names n) after r) (sym is) h
-
 one_item : {A : Type 0} (xs : List A) (x : A) → length xs ≡ 1 → x ≡ get_or xs 0 x → xs ≡ x ∷ []
 one_item [] x l is = absurd (omega (arith, l))
 one_item (y ∷ []) x l is = ap (λ z. z ∷ []) (sym is)
 one_item (y ∷ (z ∷ xs)) x l is = absurd (omega (arith, l))
 
-pub one_target : (ts : List Target) (t : Target) (xs : List TypedExpression) (names after : List Meant) (n : ℕ) (r : Result MadeCode FlatError) → length ts ≡ 1 → t ≡ get_or ts 0 t → IsWalked (assigned_by (t ∷ []) xs names n) after r → IsWalked (assigned_by ts xs names n) after r
-one_target ts t xs names after n r l is h = subst (λ us. IsWalked (assigned_by us xs names n) after r) (sym (one_item ts t l is)) h
+abbrev by_sources : List Target → List Meant → ℕ → List Expr → Option Made
+by_sources ts names n es = option_and_then (λ xs. assigned_by ts xs names n) (all_of (map (flat_of names) es))
 
-pub several : (ts : List Target) (xs : List TypedExpression) (names after : List Meant) (n : ℕ) (r : Result MadeCode FlatError) → (length ts ≡ 1 → length xs ≡ 1 → ⊥) → IsWalked (option_map (through_kept names n xs) (in_order (each_given names n ts xs))) after r
-    → IsWalked (assigned_by ts xs names n) after r
+alone_is : (t : Target) (names : List Meant) (n : ℕ) (o : Option TypedExpression) → option_and_then (λ xs. assigned_by (t ∷ []) xs names n) (option_and_then (λ x. option_map (λ xs. x ∷ xs) (Some [])) o) ≡ option_and_then (λ x. option_map (alone names) (given names t x)) o
 unfolding assigned_by
-several [] xs names after n r h a = a
-several (t ∷ []) [] names after n r h a = a
-several (t ∷ []) (x ∷ []) names after n r h a = absurd (h refl refl)
-several (t ∷ []) (x ∷ (y ∷ xs)) names after n r h a = a
-several (t ∷ (u ∷ ts)) xs names after n r h a = a
+alone_is t names n None = refl
+alone_is t names n (Some x) = refl
+
+pub one_answer : (ts : List Target) (es : List Expr) (t : Target) (e : Expr) (names : List Meant) (n : ℕ) (r : Result MadeCode FlatError) → length ts ≡ 1 → length es ≡ 1 → t ≡ get_or ts 0 t → e ≡ get_or es 0 e
+    → IsWalked (option_and_then (λ x. option_map (alone names) (given names t x)) (flat_of names e)) names r → IsWalked (by_sources ts names n es) names r
+one_answer ts es t e names n r l m tt' ee h =
+    subst (λ o. IsWalked o names r)
+    (sym (ap (λ us. by_sources us names n es) (one_item ts t l tt') ∙ ap (by_sources (t ∷ []) names n) (one_item es e m ee) ∙ alone_is t names n (flat_of names e))) h
+
+several_is : (ts : List Target) (xs : List TypedExpression) (names : List Meant) (n : ℕ) → (length ts ≡ 1 → length xs ≡ 1 → ⊥) → assigned_by ts xs names n ≡ option_map (through_kept names n xs) (in_order (each_given names n ts xs))
+unfolding assigned_by
+several_is [] xs names n h = refl
+several_is (t ∷ []) [] names n h = refl
+several_is (t ∷ []) (x ∷ []) names n h = absurd (h refl refl)
+several_is (t ∷ []) (x ∷ (y ∷ xs)) names n h = refl
+several_is (t ∷ (u ∷ ts)) xs names n h = refl
+
+same_list : (a b : List TypedExpression) → Some a ≡ Some b → a ≡ b
+same_list a b q = cc
+
+-- as many values as there may be
+all_counted : (os : List (Option TypedExpression)) (ys : List TypedExpression) → all_of os ≡ Some ys → length ys ≡ length os
+all_counted [] ys e = ap length (same_list ys [] (sym e))
+all_counted (None ∷ os) ys e = absurd (cc)
+all_counted (Some y ∷ os) ys e = with_rest (all_of os) (λ zs. all_counted os zs) e
+  where
+    with_rest : (o : Option (List TypedExpression)) → ((zs : List TypedExpression) → o ≡ Some zs → length zs ≡ length os) → option_map (λ zs. y ∷ zs) o ≡ Some ys → length ys ≡ suc (length os)
+    with_rest None i j = absurd (cc)
+    with_rest (Some zs) i j = ap length (same_list ys (y ∷ zs) (sym j)) ∙ ap suc (i zs refl)
+
+all_length : (names : List Meant) (es : List Expr) (xs : List TypedExpression) → all_of (map (flat_of names) es) ≡ Some xs → length xs ≡ length es
+all_length names es xs h = all_counted (map (flat_of names) es) xs h ∙ counted es
+  where
+    counted : (fs : List Expr) → length (map (flat_of names) fs) ≡ length fs
+    counted [] = refl
+    counted (f ∷ fs) = ap suc (counted fs)
+
+pub several_answer : (ts : List Target) (es : List Expr) (names : List Meant) (n : ℕ) (r : Result MadeCode FlatError) → (length ts ≡ 1 → length es ≡ 1 → ⊥)
+    → IsWalked (option_and_then (λ xs. option_map (through_kept names n xs) (in_order (each_given names n ts xs))) (all_of (map (flat_of names) es))) names r → IsWalked (by_sources ts names n es) names r
+several_answer ts es names n r h a = subst (λ o. IsWalked o names r) (by_values (all_of (map (flat_of names) es)) refl) a
+  where
+    by_values : (o : Option (List TypedExpression)) → all_of (map (flat_of names) es) ≡ o → option_and_then (λ xs. option_map (through_kept names n xs) (in_order (each_given names n ts xs))) o ≡ option_and_then (λ xs. assigned_by ts xs names n) o
+    by_values None i = refl
+    by_values (Some xs) i = sym (several_is ts xs names n (λ p q. h p (sym (all_length names es xs i) ∙ q)))

@@ -12,7 +12,7 @@ use Rattle.uc_values.specs.Values.{zero_of as zero_value}
 use Rattle.uc_ops.specs.declared.op.Op.TheVariants.{Const, MkRec}
 use Rattle.uc_flat.specs.declared.expression.Expression.{Expression}
 use Rattle.uc_flat.specs.declared.expression.Expression.TheVariants.{Apply}
-use Rattle.uc_flat_init.specs.Zero.{Zero, parts_form, type_form, zero_form, zero_of}
+use Rattle.uc_flat_init.specs.Zero.{Zero, zero_form, zero_of}
 
 abbrev zeroed : Ty → Zero
 zeroed ty = fold-Ty Zero zero_form ty

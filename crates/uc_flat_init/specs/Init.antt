@@ -1,8 +1,7 @@
 -- The code over cells that stands for init code, with the further cells that it has: one for each local, and one for each source of an assignment of several targets.
-use Rattle.std.specs.Prelude.{ℕ, ◌+◌, Bool as Truth, true, false, if◌then◌else◌, List, [], ◌∷◌, ◌++◌, map, length, Option, Some, None, slice_set}
+use Rattle.std.specs.Prelude.{ℕ, ◌+◌, true, false, if◌then◌else◌, List, [], ◌∷◌, ◌++◌, map, length, Option, Some, None, slice_set}
 use Rattle.std.specs.Option.{option_map, option_and_then}
 use Rattle.uc_syntax.specs.declared.place.Identifier.{Identifier}
-use Rattle.uc_syntax.specs.declared.expression.Expr.{Expr}
 use Rattle.uc_syntax.specs.declared.statement.Target.{Target}
 use Rattle.uc_syntax.specs.declared.statement.Arm.{Arm}
 use Rattle.uc_syntax.specs.declared.statement.Stmt.{Stmt}
@@ -20,7 +19,6 @@ use Rattle.uc_flat_expressions.specs.declared.typed.Meant.TheVariants.{Cell}
 use Rattle.uc_flat_expressions.specs.Types.{is_boolean}
 use Rattle.uc_flat_expressions.specs.Expressions.{flat_of, all_of}
 use Rattle.uc_flat_code.specs.declared.writing.Writing.{Writing}
-use Rattle.uc_flat_code.specs.declared.writing.FlatArm.{FlatArm}
 use Rattle.uc_flat_code.specs.Code.{MayBe, written, havocked, assume_of, havoc_of, assigned, joined_arms, in_order as all_in_order}
 use Rattle.uc_flat_init.specs.declared.made.MadeCode.{MadeCode}
 use Rattle.uc_flat_init.specs.declared.made.MadeArms.{MadeArms}

@@ -16,6 +16,11 @@ IsWalked o names (Ok a) = o ≡ Some (with_names a names)
 IsWalked o names (Err NotBuilt) = o ≡ None
 IsWalked o names (Err NoMemory) = Unit {0}
 
+-- what a name stands for, to be put aside
+abbrev pub aside : ℕ → Option Meant → List Shadowed
+aside name None = []
+aside name (Some meant) = record { name = name; meant = meant } ∷ []
+
 -- names with what they stood for before, which was put aside from the first to the last
 unfoldable pub undone : List Shadowed → List Meant → List Meant
 undone [] names = names

@@ -1,13 +1,13 @@
 //! Assignments.
 
-ghost use Rattle.std.specs.Prelude.{◌≡◌, ℕ, ◌+◌, ◌∷◌, [], length, map, IfOk};
+ghost use Rattle.std.specs.Prelude.{◌≡◌, ◌+◌, map, IfOk};
 ghost use Rattle.std.specs.Option.{option_and_then, option_map};
 ghost use Rattle.uc_flat.specs.declared.expression.Expression.TheVariants.{Cell as ReadCell};
 ghost use Rattle.uc_flat_expressions.specs.Answers.{IsAnswer};
 ghost use Rattle.uc_flat_expressions.specs.Expressions.{flat_of, all_of};
 ghost use Rattle.uc_flat_code.specs.Code.{in_order as all_in_order};
 ghost use Rattle.uc_flat_init.specs.Zero.{zero_of};
-ghost use Rattle.uc_flat_init.specs.Init.{plainly, given, kept, kept_in, each_given, through_kept, assigned_by};
+ghost use Rattle.uc_flat_init.specs.Init.{alone, plainly, given, kept, kept_in, each_given, through_kept, assigned_by};
 ghost use Rattle.uc_flat_init.specs.Walk.{IsWalked};
 
 use crate::made::{MadeCode, behind};
@@ -124,7 +124,11 @@ fn beginnings(alloc: Global, values: &[TypedExpression]) -> Result<Items<Express
 
 /// Values in further cells from a number on.
 #[tactic(auto, unfolding(crate::specs::Init::kept))]
-fn keep(alloc: Global, first: u32, values: Items<TypedExpression>) -> Result<Items<Statement>, AllocError>
+fn keep(
+    alloc: Global,
+    first: u32,
+    values: Items<TypedExpression>,
+) -> Result<Items<Statement>, AllocError>
     ensures { IfOk result (λ code. code ≡ kept first values) }
 {
     let mut all = Items::new(alloc);
@@ -150,16 +154,17 @@ fn kept_values(
     Ok(MadeCode { code, further })
 }
 
-/// All values are kept, and then the targets are written.
-fn through_kept(
+/// Of several targets all sources are kept before any target is written.
+fn assign_several(
     alloc: Global,
     names: &[Meant],
     first: u32,
     targets: &[Target],
-    values: Items<TypedExpression>,
+    sources: &[Expr],
 ) -> Result<MadeCode, FlatError>
-    ensures { IsWalked (option_map (through_kept names.now first values) (all_in_order (each_given names.now first targets.now values))) names.now result }
+    ensures { IsWalked (option_and_then (λ xs. option_map (through_kept names.now first xs) (all_in_order (each_given names.now first targets.now xs))) (all_of (map (flat_of names.now) sources.now))) names.now result }
 {
+    let values = flat_expressions(alloc, names, sources)?;
     let writes = each_given(alloc, names, first, targets, values.as_slice());
     let (values, writes) = beside(values, writes)?;
     let (writes, mut made) = beside(writes, kept_values(alloc, first, values))?;
@@ -167,43 +172,21 @@ fn through_kept(
     Ok(made)
 }
 
-/// A target takes the one value that there is.
-fn one_given(
+/// One target takes its source.
+fn assign_one(
     alloc: Global,
     names: &[Meant],
     target: &Target,
-    values: Items<TypedExpression>,
+    source: &Expr,
 ) -> Result<MadeCode, FlatError>
-    requires { length values ≡ 1 }
-    ensures { (n : ℕ) → IsWalked (assigned_by (target.now ∷ []) values names.now n) names.now result }
+    ensures { IsWalked (option_and_then (λ x. option_map (alone names.now) (given names.now target.now x)) (flat_of names.now source.now)) names.now result }
 {
-    let mut left = values;
-    match left.pop() {
-        None => Err(FlatError::NotBuilt),
-        Some(value) => {
-            let code = given(alloc, names, target, value)?;
-            Ok(MadeCode::alone(alloc, code))
-        }
-    }
+    let value = flat_expression(alloc, names, source)?;
+    let code = given(alloc, names, target, value)?;
+    Ok(MadeCode::alone(alloc, code))
 }
 
-/// Targets take values.
-fn assigned_by(
-    alloc: Global,
-    names: &[Meant],
-    first: u32,
-    targets: &[Target],
-    values: Items<TypedExpression>,
-) -> Result<MadeCode, FlatError>
-    ensures { IsWalked (assigned_by targets.now values names.now first) names.now result }
-{
-    if targets.len() == 1 && values.len() == 1 {
-        return one_given(alloc, names, &targets[0], values);
-    }
-    through_kept(alloc, names, first, targets, values)
-}
-
-/// One target takes its source. Of several, all sources are kept before any target is written.
+/// Targets take the values of their sources.
 pub(crate) fn assign(
     alloc: Global,
     names: &[Meant],
@@ -213,6 +196,8 @@ pub(crate) fn assign(
 ) -> Result<MadeCode, FlatError>
     ensures { IsWalked (option_and_then (λ xs. assigned_by targets.now xs names.now first) (all_of (map (flat_of names.now) sources.now))) names.now result }
 {
-    let values = flat_expressions(alloc, names, sources)?;
-    assigned_by(alloc, names, first, targets, values)
+    if targets.len() == 1 && sources.len() == 1 {
+        return assign_one(alloc, names, &targets[0], &sources[0]);
+    }
+    assign_several(alloc, names, first, targets, sources)
 }

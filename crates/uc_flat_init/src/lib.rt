@@ -10,6 +10,7 @@ mod types;
 mod walk;
 mod zero;
 
-pub use made::MadeCode;
+pub use locals::copy_names;
+pub use made::{MadeArms, MadeCode};
 pub use types::is_cell_type;
-pub use walk::init_code;
+pub use walk::{init_code, statement_code};

@@ -1,16 +1,18 @@
 //! Names that stand for locals, and get back what they stood for before.
 
-ghost use Rattle.std.specs.Prelude.{◌≡◌, None, slice_set, IfOk, OnOk};
+ghost use Rattle.std.specs.Prelude.{◌≡◌, ◌++◌, ◌∷◌, [], true, Some, None, slice_get, slice_set, IfOk, OnOk};
+ghost use Rattle.uc_flat.specs.declared.statement.Statement.TheVariants.{Havoc};
 ghost use Rattle.uc_flat_expressions.specs.declared.typed.Meant.TheVariants.{Cell};
+ghost use Rattle.uc_flat_init.specs.Zero.{zero_of};
 ghost use Rattle.uc_flat_init.specs.Init.{declared};
-ghost use Rattle.uc_flat_init.specs.Walk.{IsWalked, undone};
+ghost use Rattle.uc_flat_init.specs.Walk.{with_names, aside, undone};
 
 use crate::made::{MadeCode, behind};
 use crate::zero::zero_expression;
 use std::alloc::{AllocError, Global};
 use uc_flat::Statement;
-use uc_flat_expressions::{FlatError, Meant};
-use uc_items::{Items, beside};
+use uc_flat_expressions::Meant;
+use uc_items::{Items, at, beside};
 use uc_syntax::Identifier;
 use uc_values::{Ty, copy_ty};
 
@@ -39,7 +41,7 @@ fn copy_meant(alloc: Global, meant: &Meant) -> Result<Meant, AllocError>
 }
 
 /// What names stand for, to be changed by locals.
-pub(crate) fn copy_names(alloc: Global, names: &[Meant]) -> Result<Items<Meant>, AllocError>
+pub fn copy_names(alloc: Global, names: &[Meant]) -> Result<Items<Meant>, AllocError>
     ensures { IfOk result (λ all. all ≡ names.now) }
 {
     let mut all = Items::new(alloc);
@@ -50,30 +52,27 @@ pub(crate) fn copy_names(alloc: Global, names: &[Meant]) -> Result<Items<Meant>,
     Ok(all)
 }
 
-/// A name gets another meaning, and what it stood for is put aside. A name past the table stands for nothing before and after.
-fn shadow(
+/// What a name stands for is put aside. A name past the table stands for nothing.
+fn put_aside(
     alloc: Global,
-    names: &mut Items<Meant>,
+    names: &[Meant],
     shadowed: &mut Items<Shadowed>,
     name: u32,
-    meant: Meant,
 ) -> Result<(), AllocError>
-    ensures set { OnOk result (names.new ≡ slice_set names.old name meant) }
-    ensures undone { OnOk result (undone shadowed.new names.new ≡ undone shadowed.old names.old) }
+    ensures { OnOk result (shadowed.new ≡ shadowed.old ++ aside name (slice_get names.now name)) }
 {
-    let Some(before) = names.get(name as usize) else {
-        return Ok(());
-    };
-    let (meant, before) = beside(meant, copy_meant(alloc, before))?;
-    shadowed.push(Shadowed {
-        name,
-        meant: before,
-    })?;
-    names.set(name as usize, meant);
-    Ok(())
+    match at(names, name as usize) {
+        None => Ok(()),
+        Some(meant) => {
+            let meant = copy_meant(alloc, meant)?;
+            shadowed.push(Shadowed { name, meant })?;
+            Ok(())
+        }
+    }
 }
 
-/// A name stands for a cell of a type.
+/// A name stands for a cell of a type, and what it stood for is put aside.
+#[tactic(auto, using(crate::proofs::Names::undone_more))]
 fn stand(
     alloc: Global,
     names: &mut Items<Meant>,
@@ -85,8 +84,10 @@ fn stand(
     ensures set { OnOk result (names.new ≡ slice_set names.old name (Cell cell None ty.now)) }
     ensures undone { OnOk result (undone shadowed.new names.new ≡ undone shadowed.old names.old) }
 {
+    put_aside(alloc, names.as_slice(), shadowed, name)?;
     let ty = copy_ty(alloc, ty)?;
-    shadow(alloc, names, shadowed, name, Meant::Cell(cell, None, ty))
+    put(names, name as usize, Meant::Cell(cell, None, ty));
+    Ok(())
 }
 
 /// A further cell that takes a choice of a type.

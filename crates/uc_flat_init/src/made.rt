@@ -16,9 +16,9 @@ pub struct MadeCode {
 
 /// The arms of a conditional, and what their further cells begin with, in order.
 #[derive(Drop)]
-pub(crate) struct MadeArms {
-    pub(crate) arms: Items<FlatArm>,
-    pub(crate) further: Items<Expression>,
+pub struct MadeArms {
+    pub arms: Items<FlatArm>,
+    pub further: Items<Expression>,
 }
 
 impl MadeCode {

@@ -45,11 +45,11 @@ fn are_field_types(fields: &[Field<Ty>]) -> bool
 pub(crate) fn cell_type_of(
     alloc: Global,
     tables: &Tables,
-    module: &Module,
+    code: &Module,
     ty: &TypeExpr,
 ) -> Result<Ty, FlatError>
-    ensures { IsAnswer (cell_type_of tables.now module.now ty.now) result }
+    ensures { IsAnswer (cell_type_of tables.now code.now ty.now) result }
 {
-    let ty = type_of_written(alloc, tables, module, ty)?;
+    let ty = type_of_written(alloc, tables, code, ty)?;
     built_where(is_cell_type(&ty), ty)
 }

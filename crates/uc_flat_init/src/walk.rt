@@ -1,11 +1,11 @@
 //! The walk over init code.
 
-ghost use Rattle.std.specs.Prelude.{◌≡◌, ◌++◌, [], map, IfOk, OnOk};
+ghost use Rattle.std.specs.Prelude.{◌≡◌, ◌+◌, ◌++◌, [], map, length, IfOk, OnOk};
 ghost use Rattle.std.specs.Option.{option_map};
 ghost use Rattle.uc_flat_expressions.specs.Answers.{IsAnswer};
 ghost use Rattle.uc_flat_code.specs.Code.{each_arm, joined_arms};
 ghost use Rattle.uc_flat_init.specs.CellTypes.{cell_type_of};
-ghost use Rattle.uc_flat_init.specs.Init.{making_of, in_order, in_block, arm_by, arm_made, arms_made, else_of, if_of, init_code};
+ghost use Rattle.uc_flat_init.specs.Init.{making_of, in_order, in_block, arm_by, arm_made, arms_made, else_of, joined, init_code};
 ghost use Rattle.uc_flat_init.specs.Walk.{with_names, IsWalked, undone};
 
 use crate::assigning::assign;
@@ -29,16 +29,31 @@ use uc_type_reader::Tables;
 pub fn init_code(
     alloc: Global,
     tables: &Tables,
-    module: &Module,
+    code: &Module,
     names: &[Meant],
     first: u32,
-    code: &[Stmt],
+    block: &[Stmt],
 ) -> Result<MadeCode, FlatError>
-    ensures { IsAnswer (init_code (cell_type_of tables.now module.now) names.now first code.now) result }
+    ensures { IsAnswer (init_code (cell_type_of tables.now code.now) names.now first block.now) result }
 {
     let mut names = copy_names(alloc, names)?;
     let mut shadowed = Items::new(alloc);
-    walk(alloc, tables, module, &mut names, &mut shadowed, first, code)
+    walk(alloc, tables, code, &mut names, &mut shadowed, first, block)
+}
+
+/// The same of one statement, which may change what names stand for.
+pub fn statement_code(
+    alloc: Global,
+    tables: &Tables,
+    code: &Module,
+    names: &mut Items<Meant>,
+    first: u32,
+    statement: &Stmt,
+) -> Result<MadeCode, FlatError>
+    ensures { IsWalked (making_of (cell_type_of tables.now code.now) statement.now names.old first) names.new result }
+{
+    let mut shadowed = Items::new(alloc);
+    walk_statement(alloc, tables, code, names, &mut shadowed, first, statement)
 }
 
 /// Statements one after another.
@@ -46,20 +61,20 @@ pub fn init_code(
 fn walk(
     alloc: Global,
     tables: &Tables,
-    module: &Module,
+    code: &Module,
     names: &mut Items<Meant>,
     shadowed: &mut Items<Shadowed>,
     first: u32,
-    code: &[Stmt],
+    block: &[Stmt],
 ) -> Result<MadeCode, FlatError>
-    ensures made { IsWalked (in_order (map (making_of (cell_type_of tables.now module.now)) code.now) names.old first) names.new result }
+    ensures made { IsWalked (in_order (map (making_of (cell_type_of tables.now code.now)) block.now) names.old first) names.new result }
     ensures undone { OnOk result (undone shadowed.new names.new ≡ undone shadowed.old names.old) }
 {
     let mut all = MadeCode::alone(alloc, Items::new(alloc));
-    for statement in code {
+    for statement in block {
         let next = behind(first, all.further.len());
         let (held, next) = beside(all, next)?;
-        let more = walk_statement(alloc, tables, module, names, shadowed, next, statement);
+        let more = walk_statement(alloc, tables, code, names, shadowed, next, statement);
         let (held, more) = beside(held, more)?;
         all = held.append(more)?;
     }
@@ -67,26 +82,27 @@ fn walk(
 }
 
 #[cycle(walk)]
+#[tactic(auto, using(crate::proofs::Forms::local_made, crate::proofs::Forms::skip_made, crate::proofs::Forms::block_answer, crate::proofs::Forms::assume_answer, crate::proofs::Forms::assert_none, crate::proofs::Forms::for_none, crate::proofs::Forms::call_none, crate::proofs::Forms::next_none))]
 fn walk_statement(
     alloc: Global,
     tables: &Tables,
-    module: &Module,
+    code: &Module,
     names: &mut Items<Meant>,
     shadowed: &mut Items<Shadowed>,
     first: u32,
     statement: &Stmt,
 ) -> Result<MadeCode, FlatError>
-    ensures made { IsWalked (making_of (cell_type_of tables.now module.now) statement.now names.old first) names.new result }
+    ensures made { IsWalked (making_of (cell_type_of tables.now code.now) statement.now names.old first) names.new result }
     ensures undone { OnOk result (undone shadowed.new names.new ≡ undone shadowed.old names.old) }
 {
     match statement {
         Stmt::Local(_, identifiers, ty) => {
-            let ty = cell_type_of(alloc, tables, module, ty)?;
+            let ty = cell_type_of(alloc, tables, code, ty)?;
             let made = declare(alloc, names, shadowed, first, &ty, identifiers.as_slice())?;
             Ok(made)
         }
         Stmt::Skip(_) => Ok(MadeCode::alone(alloc, Items::new(alloc))),
-        Stmt::Block(_, block) => walk_block(alloc, tables, module, names, first, block.as_slice()),
+        Stmt::Block(_, block) => walk_block(alloc, tables, code, names, first, block.as_slice()),
         Stmt::Assume(_, condition) => assumed(alloc, names.as_slice(), condition),
         Stmt::Havoc(_, name, primed) => chosen_again(alloc, names.as_slice(), name.name, *primed),
         Stmt::Assign(_, targets, sources) => {
@@ -94,10 +110,12 @@ fn walk_statement(
             assign(alloc, names.as_slice(), first, targets, sources.as_slice())
         }
         Stmt::If(_, arms, otherwise) => {
-            walk_choice(alloc, tables, module, names, first, arms.as_slice(), otherwise)
+            let arms = walk_arms(alloc, tables, code, names, first, arms.as_slice())?;
+            walk_behind(alloc, tables, code, names, first, arms, otherwise)
         }
         Stmt::Case(_, arms, otherwise) => {
-            walk_choice(alloc, tables, module, names, first, arms.as_slice(), otherwise)
+            let arms = walk_arms(alloc, tables, code, names, first, arms.as_slice())?;
+            walk_behind(alloc, tables, code, names, first, arms, otherwise)
         }
         Stmt::Assert(..) => Err(FlatError::NotBuilt),
         Stmt::For(..) => Err(FlatError::NotBuilt),
@@ -111,16 +129,16 @@ fn walk_statement(
 fn walk_block(
     alloc: Global,
     tables: &Tables,
-    module: &Module,
+    code: &Module,
     names: &mut Items<Meant>,
     first: u32,
     block: &[Stmt],
 ) -> Result<MadeCode, FlatError>
-    ensures made { IsWalked (in_block (map (making_of (cell_type_of tables.now module.now)) block.now) names.old first) names.new result }
+    ensures made { IsWalked (in_block (map (making_of (cell_type_of tables.now code.now)) block.now) names.old first) names.new result }
     ensures kept { OnOk result (names.new ≡ names.old) }
 {
     let mut shadowed = Items::new(alloc);
-    let made = walk(alloc, tables, module, names, &mut shadowed, first, block);
+    let made = walk(alloc, tables, code, names, &mut shadowed, first, block);
     let (shadowed, made) = beside(shadowed, made)?;
     undo(names, shadowed);
     Ok(made)
@@ -128,22 +146,21 @@ fn walk_block(
 
 /// The arms of a conditional, and what stands behind them.
 #[cycle(walk)]
-fn walk_choice(
+fn walk_behind(
     alloc: Global,
     tables: &Tables,
-    module: &Module,
+    code: &Module,
     names: &mut Items<Meant>,
     first: u32,
-    arms: &[Arm<Stmt>],
+    arms: MadeArms,
     otherwise: &Option<Items<Stmt>>,
 ) -> Result<MadeCode, FlatError>
-    ensures made { IsWalked (if_of (map (each_arm (making_of (cell_type_of tables.now module.now))) arms.now) (option_map (map (making_of (cell_type_of tables.now module.now))) otherwise.now) names.old first) names.new result }
+    ensures made { IsWalked (option_map (joined arms) (else_of (option_map (map (making_of (cell_type_of tables.now code.now))) otherwise.now) names.old (first + length arms.further))) names.new result }
     ensures kept { OnOk result (names.new ≡ names.old) }
 {
-    let arms = walk_arms(alloc, tables, module, names, first, arms)?;
     let next = behind(first, arms.further.len());
     let (arms, next) = beside(arms, next)?;
-    let rest = walk_else(alloc, tables, module, names, next, otherwise);
+    let rest = walk_else(alloc, tables, code, names, next, otherwise);
     let (arms, rest) = beside(arms, rest)?;
     let code = joined(alloc, arms, rest)?;
     Ok(code)
@@ -153,17 +170,17 @@ fn walk_choice(
 fn walk_else(
     alloc: Global,
     tables: &Tables,
-    module: &Module,
+    code: &Module,
     names: &mut Items<Meant>,
     first: u32,
     otherwise: &Option<Items<Stmt>>,
 ) -> Result<MadeCode, FlatError>
-    ensures made { IsWalked (else_of (option_map (map (making_of (cell_type_of tables.now module.now))) otherwise.now) names.old first) names.new result }
+    ensures made { IsWalked (else_of (option_map (map (making_of (cell_type_of tables.now code.now))) otherwise.now) names.old first) names.new result }
     ensures kept { OnOk result (names.new ≡ names.old) }
 {
     match otherwise {
         None => Ok(MadeCode::alone(alloc, Items::new(alloc))),
-        Some(block) => walk_block(alloc, tables, module, names, first, block.as_slice()),
+        Some(block) => walk_block(alloc, tables, code, names, first, block.as_slice()),
     }
 }
 
@@ -171,19 +188,19 @@ fn walk_else(
 fn walk_arms(
     alloc: Global,
     tables: &Tables,
-    module: &Module,
+    code: &Module,
     names: &mut Items<Meant>,
     first: u32,
     arms: &[Arm<Stmt>],
 ) -> Result<MadeArms, FlatError>
-    ensures made { IsAnswer (arms_made names.old first (map (each_arm (making_of (cell_type_of tables.now module.now))) arms.now)) result }
+    ensures made { IsAnswer (arms_made names.old first (map (each_arm (making_of (cell_type_of tables.now code.now))) arms.now)) result }
     ensures kept { OnOk result (names.new ≡ names.old) }
 {
     let mut all = MadeArms::new(alloc);
     for arm in arms {
         let next = behind(first, all.further.len());
         let (held, next) = beside(all, next)?;
-        let more = walk_arm(alloc, tables, module, names, next, arm);
+        let more = walk_arm(alloc, tables, code, names, next, arm);
         let (held, more) = beside(held, more)?;
         all = held.append(more)?;
     }
@@ -195,17 +212,17 @@ fn walk_arms(
 fn walk_arm(
     alloc: Global,
     tables: &Tables,
-    module: &Module,
+    code: &Module,
     names: &mut Items<Meant>,
     first: u32,
     arm: &Arm<Stmt>,
 ) -> Result<MadeArms, FlatError>
-    ensures made { IsAnswer (arm_made names.old first (each_arm (making_of (cell_type_of tables.now module.now)) arm.now)) result }
+    ensures made { IsAnswer (arm_made names.old first (each_arm (making_of (cell_type_of tables.now code.now)) arm.now)) result }
     ensures kept { OnOk result (names.new ≡ names.old) }
 {
     let test = flat_expression(alloc, names.as_slice(), &arm.condition)?;
     let test = built_where(is_boolean(&test.ty), test)?;
-    let body = walk_block(alloc, tables, module, names, first, arm.body.as_slice());
+    let body = walk_block(alloc, tables, code, names, first, arm.body.as_slice());
     let (test, body) = beside(test, body)?;
     let arm = arm_by(alloc, test.expression, body)?;
     Ok(arm)
@@ -239,7 +256,10 @@ fn joined(alloc: Global, arms: MadeArms, rest: MadeCode) -> Result<MadeCode, All
     Ok(MadeCode { code, further })
 }
 
-fn both(first: Items<Expression>, second: Items<Expression>) -> Result<Items<Expression>, AllocError>
+fn both(
+    first: Items<Expression>,
+    second: Items<Expression>,
+) -> Result<Items<Expression>, AllocError>
     ensures { IfOk result (λ all. all ≡ first ++ second) }
 {
     let mut all = first;
