@@ -91,7 +91,7 @@ fn stand(
 }
 
 /// A further cell that takes a choice of a type.
-fn choose(alloc: Global, made: MadeCode, cell: u32, ty: &Ty) -> Result<MadeCode, AllocError>
+fn chosen(alloc: Global, made: MadeCode, cell: u32, ty: &Ty) -> Result<MadeCode, AllocError>
     ensures { IfOk result (λ a. a ≡ record { code = made.code ++ Havoc cell true ∷ []; further = made.further ++ zero_of ty.now ∷ [] }) }
 {
     let (mut made, zero) = beside(made, zero_expression(alloc, ty))?;
@@ -116,7 +116,7 @@ pub(crate) fn declare(
     let mut cell = first;
     for identifier in identifiers {
         stand(alloc, names, shadowed, identifier.name, cell, ty)?;
-        made = choose(alloc, made, cell, ty)?;
+        made = chosen(alloc, made, cell, ty)?;
         cell = behind(cell, 1)?;
     }
     Ok(made)

@@ -22,7 +22,7 @@ pub(crate) fn assumed(alloc: Global, names: &[Meant], e: &Expr) -> Result<MadeCo
 }
 
 /// A cell takes any value of its type, which is a choice.
-pub(crate) fn any_value(
+pub(crate) fn chosen_again(
     alloc: Global,
     names: &[Meant],
     name: u32,

@@ -12,7 +12,7 @@ use crate::assigning::assign;
 use crate::holding::{built_where, one};
 use crate::locals::{Shadowed, copy_names, declare, undo};
 use crate::made::{MadeArms, MadeCode, behind};
-use crate::simple::{any_value, assumed};
+use crate::simple::{assumed, chosen_again};
 use crate::types::cell_type_of;
 use std::alloc::{AllocError, Global};
 use uc_flat::Expression;
@@ -41,7 +41,7 @@ pub fn init_code(
     walk(alloc, tables, code, &mut names, &mut shadowed, first, block)
 }
 
-/// The same of one statement, which may change what names stand for. After an error nothing is said of what they stand for.
+/// The same of one statement, which may change what names stand for.
 pub fn statement_code(
     alloc: Global,
     tables: &Tables,
@@ -104,7 +104,7 @@ fn walk_statement(
         Stmt::Skip(_) => Ok(MadeCode::alone(alloc, Items::new(alloc))),
         Stmt::Block(_, block) => walk_block(alloc, tables, code, names, first, block.as_slice()),
         Stmt::Assume(_, condition) => assumed(alloc, names.as_slice(), condition),
-        Stmt::Havoc(_, name, primed) => any_value(alloc, names.as_slice(), name.name, *primed),
+        Stmt::Havoc(_, name, primed) => chosen_again(alloc, names.as_slice(), name.name, *primed),
         Stmt::Assign(_, targets, sources) => {
             let targets = targets.as_slice();
             assign(alloc, names.as_slice(), first, targets, sources.as_slice())

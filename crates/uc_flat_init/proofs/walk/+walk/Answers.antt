@@ -90,8 +90,8 @@ walk_statement-returns-in_err-ty-in-Local-clause-made t c =
 
 pub walk_statement-returns-in-Havoc-clause-made : goal.walk_statement-returns-in-Havoc-clause-made
 walk_statement-returns-in-Havoc-clause-made t c =
-    havoc_answer (cell_type_of c.args.tables.now c.args.code.now) c.args.statement.now _ c.in-Havoc.name c.in-Havoc.primed c.args.names.now c.args.names.now c.args.first c.any_value.result c.in-Havoc.is
-    (subst (λ ns. IsWalked (option_map (λ k. alone ns (havoc_of plainly k)) (havocked ns plainly c.in-Havoc.name.name c.in-Havoc.primed)) ns c.any_value.result) c.as_slice-in-Havoc.ensures c.any_value.ensures)
+    havoc_answer (cell_type_of c.args.tables.now c.args.code.now) c.args.statement.now _ c.in-Havoc.name c.in-Havoc.primed c.args.names.now c.args.names.now c.args.first c.chosen_again.result c.in-Havoc.is
+    (subst (λ ns. IsWalked (option_map (λ k. alone ns (havoc_of plainly k)) (havocked ns plainly c.in-Havoc.name.name c.in-Havoc.primed)) ns c.chosen_again.result) c.as_slice-in-Havoc.ensures c.chosen_again.ensures)
 
 pub walk_statement-returns-in-Assign-clause-made : goal.walk_statement-returns-in-Assign-clause-made
 walk_statement-returns-in-Assign-clause-made t c =
