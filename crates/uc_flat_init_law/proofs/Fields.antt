@@ -20,7 +20,7 @@ use Rattle.uc_meaning.specs.Expressions.{Reading, reads, fields_form, fields_of,
 use Rattle.uc_meaning.specs.Steps.{part_reading, has_part, is_prefix}
 use Rattle.uc_flat_code.specs.Code.{are_different}
 
-rolled : (t : Ty) → roll-Ty (out-Ty t) ≡ t
+pub rolled : (t : Ty) → roll-Ty (out-Ty t) ≡ t
 rolled t = search (rules, the_lemmas)
 
 abbrev pub name_is : ℕ → Field Ty → Bool

@@ -11,7 +11,7 @@ use Rattle.uc_ops.specs.Meaning.{part}
 use Rattle.uc_flat.specs.declared.statement.Statement.{Statement}
 use Rattle.uc_flat.specs.Executions.{FitAll}
 use Rattle.uc_flat.specs.Running.{Placed, Execution, in_turn, runs, run_all}
-use Rattle.uc_flat_design.proofs.Options.{some_same}
+use Rattle.uc_flat_init_law.proofs.Options.{some_same}
 
 in_turn_append : (xs ys : List Execution) (p : Placed) → in_turn (xs ++ ys) p ≡ option_and_then (in_turn ys) (in_turn xs p)
 unfolding in_turn

@@ -33,8 +33,8 @@ use Rattle.uc_flat.specs.Reading.{value_of}
 use Rattle.uc_flat.proofs.Forms.{value_apply}
 use Rattle.uc_flat_expressions.specs.declared.typed.TypedExpression.{TypedExpression}
 use Rattle.uc_flat_code.specs.Code.{field_in, fields_in, with_field, are_different, field_place, replaced_in}
-use Rattle.uc_flat_design.proofs.Options.{then_some, map_some, if_some, some_same}
-use Rattle.uc_flat_design.proofs.Fields.{name_is, has_field, field_of_fit, field_fits, placed, IsPath}
+use Rattle.uc_flat_init_law.proofs.Options.{then_some, map_some, if_some, some_same}
+use Rattle.uc_flat_init_law.proofs.Fields.{name_is, has_field, field_of_fit, field_fits, placed, IsPath}
 
 same_fields_form : (x : Ty-F Ty) → fields_form x ≡ op_fields_form x
 same_fields_form (record_type fs) = refl
