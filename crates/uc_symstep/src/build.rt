@@ -38,12 +38,7 @@ pub fn negated(terms: &mut Terms, alloc: Global, t: TermId) -> Result<TermId, Al
 }
 
 /// Whether two terms are true.
-pub fn both(
-    terms: &mut Terms,
-    alloc: Global,
-    a: TermId,
-    b: TermId,
-) -> Result<TermId, AllocError>
+pub fn both(terms: &mut Terms, alloc: Global, a: TermId, b: TermId) -> Result<TermId, AllocError>
     requires there { (a < length terms.old) × (b < length terms.old) }
     requires boolean { (type_at terms.old a ≡ Bool) × (type_at terms.old b ≡ Bool) }
     ensures ok { IfOk result (λ r. IsTerm terms.old terms.new r Bool (λ m. Truth (truth_of (value m terms.old a) && truth_of (value m terms.old b)))) }
