@@ -531,11 +531,11 @@ module _ (names : List Meant) (types : List Ty) (further : List Expression) (cel
 pub init_holds : InitLaw
 init_holds reads names types code made types_read cells good fit is =
     let g = init_gives names (wider_types types made.further) (length types) reads (Alone (wider_types types made.further)) (λ t. IsPart (wider_types types made.further) t.ty t.expression) (IsTyped types)
-        (own_places names types made.further cells good) types_read (fits_suits names types made.further cells good fit) code made is (further_at names types made.further cells good) in
+    (own_places names types made.further cells good) types_read (fits_suits names types made.further cells good fit) code made is (further_at names types made.further cells good) in
     (fine_alone (wider_types types made.further) made.code g.0.at, g.1)
 
 pub init_typed_holds : InitTypedLaw
 init_typed_holds reads names types constants code made types_read cells good fit is =
     let g = init_gives names (wider_types types made.further) (length types) reads (AloneTyped constants) (λ t. ReadsTyped constants t.expression) (ReadsTyped constants)
-        (own_places names types made.further cells good) types_read (typed_suits names types made.further cells good constants fit) code made is (further_at names types made.further cells good) in
+    (own_places names types made.further cells good) types_read (typed_suits names types made.further cells good constants fit) code made is (further_at names types made.further cells good) in
     (typed_alone constants made.code g.0, g.1)
