@@ -1,5 +1,5 @@
 -- The design is sound.
-use Rattle.std.proofs.Common.{◌≡◌, ℕ, List, [], ◌∷◌, ◌++◌, length, Some, refl, sym, ap, ◌∙◌, subst, arith}
+use Rattle.std.proofs.Common.{◌≡◌, List, [], ◌∷◌, Some, refl, sym, ap, ◌∙◌, subst, arith}
 use Rattle.std.specs.Prelude.{All, false}
 use Rattle.std.proofs.lemmas.List.Elements.{All-cons}
 use Rattle.uc_values.specs.declared.ty.Ty.{Ty}
@@ -9,7 +9,6 @@ use Rattle.uc_values.proofs.Shapes.{valid-Bool}
 use Rattle.uc_values.proofs.Fitting.{Truth-fits}
 use Rattle.uc_ops.specs.declared.op.Op.TheVariants.{Const, Not, Eq, Symbol}
 use Rattle.uc_ops.specs.Typing.{Valid}
-use Rattle.uc_flat.specs.declared.expression.Expression.{Expression}
 use Rattle.uc_flat.specs.declared.expression.Expression.TheVariants.{Cell, Apply}
 use Rattle.uc_flat.specs.declared.flat.Flat.{Flat}
 use Rattle.uc_flat.specs.Reading.{type_of}
