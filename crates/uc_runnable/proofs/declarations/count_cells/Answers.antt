@@ -1,4 +1,4 @@
-use Rattle.std.proofs.Common.{ap, length, ◌∙◌}
+use Rattle.std.proofs.Common.{◌∙◌}
 use Rattle.uc_runnable.proofs.Answers.{count_is}
 use Rattle.uc_runnable.proofs.declarations.count_cells.Goals as goal
 
