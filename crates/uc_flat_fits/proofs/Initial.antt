@@ -1,6 +1,6 @@
 -- Init code has a property everywhere, where its expressions and the cells that it writes give it.
 use Rattle.std.proofs.Common.{◌≡◌, ℕ, zero, suc, ◌+◌, List, [], ◌∷◌, ◌++◌, map, length, refl, sym, ap, ◌∙◌, subst, Option, Some, None, arith}
-use Rattle.std.specs.Prelude.{Bool as Truth, true, false, nat_eq, if◌then◌else◌, slice_get, slice_set, All}
+use Rattle.std.specs.Prelude.{Bool as Truth, true, false, nat_eq, slice_get, slice_set, All}
 use Rattle.std.specs.Option.{option_map, option_and_then}
 use Rattle.std.specs.List.{list_all}
 use Rattle.std.proofs.lemmas.Bool.Decides.{nat_tests}
@@ -9,7 +9,6 @@ use Rattle.std.proofs.lemmas.List.Elements.{All-nil, All-cons, All-head, All-tai
 use Rattle.std.proofs.lemmas.Option.{none-some, same_Some, slice_get_within}
 use Rattle.uc_lexer.specs.declared.place.Place.{Place}
 use Rattle.uc_syntax.specs.declared.place.Identifier.{Identifier}
-use Rattle.uc_syntax.specs.declared.type_expression.TypeExpr.{TypeExpr}
 use Rattle.uc_syntax.specs.declared.expression.Expr.{Expr}
 use Rattle.uc_syntax.specs.declared.statement.Arm.{Arm}
 use Rattle.uc_syntax.specs.declared.statement.Target.{Target}
@@ -40,7 +39,7 @@ use Rattle.uc_flat_expressions.specs.Types.{is_boolean}
 use Rattle.uc_flat_expressions.specs.Expressions.{flat_of, all_of}
 use Rattle.uc_flat_code.specs.declared.writing.Written.{Written}
 use Rattle.uc_flat_code.specs.declared.writing.FlatArm.{FlatArm}
-use Rattle.uc_flat_code.specs.Code.{MayBe, may_write, may_havoc, written_as, written, havocked, assume_of, havoc_of, replaced_in, assigned, joined_arms, in_order as all_in_order}
+use Rattle.uc_flat_code.specs.Code.{may_write, may_havoc, written_as, written, havocked, assume_of, havoc_of, replaced_in, assigned, joined_arms, in_order as all_in_order}
 use Rattle.uc_flat_init.specs.CellTypes.{Types, is_cell_type}
 use Rattle.uc_flat_init.specs.Zero.{zero_of}
 use Rattle.uc_flat_init.specs.declared.made.MadeCode.{MadeCode}

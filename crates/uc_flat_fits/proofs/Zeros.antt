@@ -1,16 +1,16 @@
 -- What further cells begin with is of their type, fits any cells, and reads nothing.
 use Rattle.std.proofs.Common.{◌≡◌, ℕ, List, [], ◌∷◌, map, rules, refl, sym, ap, ◌∙◌, subst, true, false}
-use Rattle.std.specs.Prelude.{◌&&◌, All}
+use Rattle.std.specs.Prelude.{All}
 use Rattle.std.specs.List.{list_all}
 use Rattle.std.proofs.lemmas.List.Elements.{All-cons, All-nil}
 use Rattle.uc_values.specs.declared.ty.Field.{Field}
 use Rattle.uc_values.specs.declared.ty.Ty.{Ty}
-use Rattle.uc_values.specs.declared.ty.Ty.TheVariants.{Bool, Int, Bv, Enum, Un, Rec, Arr, rolls-Bool, rolls-Int, rolls-Bv, rolls-Enum, rolls-Un, rolls-Rec, rolls-Arr}
+use Rattle.uc_values.specs.declared.ty.Ty.TheVariants.{Rec, rolls-Bool, rolls-Int, rolls-Bv, rolls-Enum, rolls-Un, rolls-Rec, rolls-Arr}
 use Rattle.uc_values.specs.declared.ty.Ty.TheOpen.{Ty-F}
 use Rattle.uc_values.specs.declared.ty.Ty.TheOpen.Ty-F.{Bool as boolean_type, Int as integer_type, Bv as bits_type, Rec as record_type, Arr as array_type, Enum as enum_type, Un as open_type}
 use Rattle.uc_values.specs.declared.ty.Ty.TheViews.{roll-Ty, out-Ty, the_lemmas}
 use Rattle.uc_values.specs.declared.ty.Ty.TheFolds.{fold-Ty, map-Ty, fold-roll-Ty, ind-Ty}
-use Rattle.uc_values.specs.Types.{is_valid, field_types}
+use Rattle.uc_values.specs.Types.{field_types}
 use Rattle.uc_values.specs.Values.{zero_of as zero_value}
 use Rattle.uc_values.proofs.Shapes.{and_true, with_test}
 use Rattle.uc_values.proofs.Fitting.{zero-fits}
@@ -24,8 +24,8 @@ use Rattle.uc_flat.specs.Fine.{IsTyped}
 use Rattle.uc_flat.proofs.Forms.{type_apply}
 use Rattle.uc_flat.proofs.Making.{typed_apply}
 use Rattle.uc_flat_meaning.proofs.OnlyReads.{ReadsOnly, apply_reads}
-use Rattle.uc_flat_init.specs.CellTypes.{is_finite, is_cell_type}
-use Rattle.uc_flat_init.specs.Zero.{Zero, parts_form, type_form, zero_form, zero_of}
+use Rattle.uc_flat_init.specs.CellTypes.{is_cell_type}
+use Rattle.uc_flat_init.specs.Zero.{Zero, parts_form, zero_form, zero_of}
 use Rattle.uc_flat_init.proofs.CellTypes.{open_is, record_is, array_is}
 use Rattle.uc_flat_init.proofs.Zeros.{zero_type}
 

@@ -1,11 +1,9 @@
 -- The design over cells of a design is sound, and reads its constants at their types.
 use Rattle.std.proofs.Common.{◌≡◌, ℕ, zero, suc, ◌+◌, ◌<◌, ◌≤◌, List, [], ◌∷◌, ◌++◌, map, length, take, refl, sym, ap, ◌∙◌, subst, true, false, Bool, Some, None, arith, slice_get, append-nil}
 use Rattle.std.specs.Prelude.{if◌then◌else◌, slice_set, All}
-use Rattle.std.specs.List.{list_all}
 use Rattle.std.proofs.lemmas.List.{length-map, length-append}
-use Rattle.std.proofs.lemmas.List.Elements.{All-nil, All-cons, All-head, All-tail, All-append, All-weaker}
+use Rattle.std.proofs.lemmas.List.Elements.{All-cons, All-head, All-tail, All-append, All-weaker}
 use Rattle.std.proofs.lemmas.Option.{none-some, same_Some, slice_get_within}
-use Rattle.uc_syntax.specs.declared.type_expression.TypeExpr.{TypeExpr}
 use Rattle.uc_syntax.specs.declared.expression.Expr.{Expr}
 use Rattle.uc_syntax.specs.declared.declaration.Module.{Module}
 use Rattle.uc_values.specs.declared.ty.Ty.{Ty}
@@ -28,7 +26,7 @@ use Rattle.uc_flat.specs.declared.statement.Statement.TheVariants.{Havoc}
 use Rattle.uc_flat.specs.Fine.{IsTyped, IsTest, AreFine, ReadsBelow, CodeReadsBelow, ReadsTyped}
 use Rattle.uc_flat.specs.Reading.{type_of}
 use Rattle.uc_flat.specs.Executions.{FitAll}
-use Rattle.uc_flat.specs.Flats.{cell_types, wider_types, init_types, repeated, axioms_of, IsFormula, IsSound}
+use Rattle.uc_flat.specs.Flats.{cell_types, wider_types, repeated, axioms_of, IsFormula, IsSound}
 use Rattle.uc_flat.proofs.Making.{Alone, fine_alone}
 use Rattle.uc_symstep.specs.Known.{CodeReadsTyped, constants_typed, ReadsOwnTypes}
 use Rattle.uc_flat_expressions.specs.declared.typed.TypedExpression.{TypedExpression}

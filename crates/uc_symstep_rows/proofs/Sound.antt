@@ -1,20 +1,17 @@
 -- The design is sound.
-use Rattle.std.proofs.Common.{◌≡◌, ℕ, ◌<◌, List, [], ◌∷◌, ◌++◌, length, map, Some, refl, sym, ap, ◌∙◌, subst, arith, slice_get, zero, suc}
-use Rattle.std.specs.Prelude.{All, false, true}
+use Rattle.std.proofs.Common.{◌≡◌, ℕ, ◌<◌, List, [], ◌∷◌, length, Some, refl, sym, ap, ◌∙◌, subst, arith, slice_get}
+use Rattle.std.specs.Prelude.{All, false}
 use Rattle.std.proofs.lemmas.List.Elements.{All-cons}
 use Rattle.uc_values.specs.declared.ty.Ty.{Ty}
 use Rattle.uc_values.specs.declared.ty.Ty.TheVariants.{Bool}
 use Rattle.uc_values.specs.declared.value.Value.TheVariants.{Bool as Truth}
 use Rattle.uc_values.proofs.Shapes.{valid-Bool}
 use Rattle.uc_values.proofs.Fitting.{Truth-fits}
-use Rattle.uc_ops.specs.declared.op.Op.TheVariants.{Const, Not, Symbol}
+use Rattle.uc_ops.specs.declared.op.Op.TheVariants.{Const, Not}
 use Rattle.uc_ops.specs.Typing.{Valid}
-use Rattle.uc_flat.specs.declared.expression.Expression.{Expression}
-use Rattle.uc_flat.specs.declared.expression.Expression.TheVariants.{Cell, Apply}
-use Rattle.uc_flat.specs.declared.statement.Statement.{Statement}
+use Rattle.uc_flat.specs.declared.expression.Expression.TheVariants.{Cell}
 use Rattle.uc_flat.specs.declared.flat.Flat.{Flat}
 use Rattle.uc_flat.specs.declared.flat.Formula.{Formula}
-use Rattle.uc_flat.specs.Reading.{type_of}
 use Rattle.uc_flat.specs.Fine.{IsTyped, IsTest, AreFine, ReadsBelow}
 use Rattle.uc_flat.specs.Flats.{wider_types, repeated, IsFormula, IsSound}
 use Rattle.uc_flat.proofs.Forms.{type_cell, type_apply}
