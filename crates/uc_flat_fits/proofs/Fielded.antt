@@ -28,6 +28,8 @@ use Rattle.uc_flat.proofs.Forms.{type_apply}
 use Rattle.uc_flat.proofs.Making.{typed_apply}
 use Rattle.uc_flat_meaning.proofs.OnlyReads.{ReadsOnly, apply_reads}
 use Rattle.uc_flat_expressions.specs.declared.typed.TypedExpression.{TypedExpression}
+use Rattle.uc_flat_init.specs.CellTypes.{is_cell_type}
+use Rattle.uc_flat_init.proofs.CellTypes.{record_is as fields_are}
 use Rattle.uc_flat_code.specs.Code.{field_in, fields_in, with_field, field_place, replaced_in}
 
 rolled : (t : Ty) → roll-Ty (out-Ty t) ≡ t
@@ -177,3 +179,23 @@ module _ (A : ℕ → Ty → Type 0) where
       (apply_reads A (MkRec ty) (slice_set (fields_in whole 0 (fields_of ty)) k q.0) (plain_reads A (MkRec ty) tt)
       (All-set (ReadsOnly A) (fields_in whole 0 (fields_of ty)) k q.0 part_reads (all_read whole (fields_of ty) 0 h)))
   replaced_reads (ElementPart place i ∷ parts) whole e ty t h g r = absurd (none-some e r)
+
+-- ---- the type of a value that a part may take
+
+pub replaced_type : (parts : List TargetPart) (whole e : Expression) (ty : Ty) (t : TypedExpression) → is_cell_type ty ≡ true → replaced_in whole ty parts t ≡ Some e → is_cell_type t.ty ≡ true
+unfolding replaced_in
+replaced_type [] whole e ty t h r = ap is_cell_type (sym ((types-decided ty t.ty).0 (if_parts (equal_types ty t.ty) t.expression e r).0)) ∙ h
+replaced_type (FieldPart place f ∷ parts) whole e ty t h r =
+    let s = then_parts (λ k. option_and_then (λ d. option_map (with_field whole ty k) (replaced_in (field_in whole k) d.ty parts t)) (slice_get (fields_of ty) k)) (field_place ty f.name) e r in
+    let k = s.0 in
+    let o = then_parts (λ d. option_map (with_field whole ty k) (replaced_in (field_in whole k) d.ty parts t)) (slice_get (fields_of ty) k) e s.2 in
+    let d = o.0 in
+    let q = map_parts (with_field whole ty k) (replaced_in (field_in whole k) d.ty parts t) e o.2 in
+    let deeper : is_cell_type d.ty ≡ true = field_cell_type (fields_of ty) k d (sym (fields_are ty (fields_of ty) (record_is ty k d o.1)) ∙ h) o.1 in
+    replaced_type parts (field_in whole k) q.0 d.ty t deeper q.1
+  where
+    field_cell_type : (fs : List (Field Ty)) (j : ℕ) (x : Field Ty) → list_all (λ (g : Field Ty). is_cell_type g.ty) fs ≡ true → slice_get fs j ≡ Some x → is_cell_type x.ty ≡ true
+    field_cell_type [] j x a b = absurd (none-some x b)
+    field_cell_type (g ∷ fs) zero x a b = ap (λ (y : Field Ty). is_cell_type y.ty) (sym (same_Some g x b)) ∙ (and_true a).0
+    field_cell_type (g ∷ fs) (suc j) x a b = field_cell_type fs j x (and_true a).1 b
+replaced_type (ElementPart place i ∷ parts) whole e ty t h r = absurd (none-some e r)

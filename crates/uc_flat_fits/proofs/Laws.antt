@@ -19,7 +19,7 @@ use Rattle.uc_flat_expressions.specs.Types.{is_boolean}
 use Rattle.uc_flat_code.specs.declared.writing.Writing.{Writing}
 use Rattle.uc_flat_code.specs.declared.writing.Written.{Written}
 use Rattle.uc_flat_code.specs.Code.{may_write, may_havoc, written_as, written, havocked}
-use Rattle.uc_flat_fits.specs.Fits.{ExpressionsFit, AreWritten, ExpressionsReadBelow, ExpressionsReadTyped, FitsLaw, ReadsLaw, TypedLaw, SequentialLaw, StepLaw}
+use Rattle.uc_flat_fits.specs.Fits.{ExpressionsFit, AreWritten, ExpressionsReadBelow, ExpressionsReadTyped, FitsLaw, ReadsLaw, TypedLaw, StepLaw}
 use Rattle.uc_flat_fits.proofs.Conditions.{boolean_is}
 use Rattle.uc_flat_fits.proofs.Fielded.{IsPart, replaced_part, replaced_reads}
 use Rattle.uc_flat_fits.proofs.Typing.{AloneTyped, typed_alone}
@@ -46,7 +46,7 @@ havocked_typed names w types cells x primed k h =
     meant_typed names w types cells x (slice_get names x) refl k c.1
 
 -- the cell of a number
-cell_part : (types : List Ty) (k : ℕ) (ty : Ty) → slice_get types k ≡ Some ty → IsPart types ty (ReadCell k)
+pub cell_part : (types : List Ty) (k : ℕ) (ty : Ty) → slice_get types k ≡ Some ty → IsPart types ty (ReadCell k)
 cell_part types k ty h = record { typed = typed_cell types k (slice_get_within types k ty h); type = type_cell types k ∙ ap type_or h }
 
 test_of : (names : List Meant) (types : List Ty) → ExpressionsFit names types → (t : TypedExpression) (e : Expr) → flat_of names e ≡ Some t → is_boolean t.ty ≡ true → IsTest types t.expression
@@ -97,9 +97,6 @@ reads_hold names w n code flat reads is = reads_alone n flat (code_gives names w
 
 pub typed_hold : TypedLaw
 typed_hold names w constants code flat reads is = typed_alone constants flat (code_gives names w (AloneTyped constants) (typed_suited names w constants reads) code flat is)
-
-pub sequential_holds : SequentialLaw
-sequential_holds names types cells x k new ty is = ap (slice_get types) (omega arith) ∙ cells x k new ty is
 
 pub step_holds : StepLaw
 step_holds names types cells x k new ty is = ap (slice_get (types ++ types)) (omega arith) ∙ slice_get-back types types k ∙ cells x k new ty is

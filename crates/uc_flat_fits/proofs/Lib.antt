@@ -4,3 +4,5 @@ pub mod Typing
 pub mod Fielded
 pub mod Suiting
 pub mod Laws
+pub mod Zeros
+pub mod Initial

@@ -35,17 +35,17 @@ if_some true o y h = (refl, h)
 if_some false o y h = absurd (none-some y h)
 
 -- a part that was there, and what it gave
-abbrev Parted : {X Y : Type 0} → (X → Option Y) → Option X → Y → Type 0
+abbrev pub Parted : {X Y : Type 0} → (X → Option Y) → Option X → Y → Type 0
 Parted {X} {Y} f o y = (x : X) × (o ≡ Some x) × (f x ≡ Some y)
 
-then_parts : {X Y : Type 0} (f : X → Option Y) (o : Option X) (y : Y) → option_and_then f o ≡ Some y → Parted f o y
+pub then_parts : {X Y : Type 0} (f : X → Option Y) (o : Option X) (y : Y) → option_and_then f o ≡ Some y → Parted f o y
 then_parts f None y h = absurd (none-some y h)
 then_parts f (Some x) y h = (x, refl, h)
 
-abbrev Mapped : {X Y : Type 0} → (X → Y) → Option X → Y → Type 0
+abbrev pub Mapped : {X Y : Type 0} → (X → Y) → Option X → Y → Type 0
 Mapped {X} {Y} f o y = (x : X) × (o ≡ Some x) × (f x ≡ y)
 
-map_parts : {X Y : Type 0} (f : X → Y) (o : Option X) (y : Y) → option_map f o ≡ Some y → Mapped f o y
+pub map_parts : {X Y : Type 0} (f : X → Y) (o : Option X) (y : Y) → option_map f o ≡ Some y → Mapped f o y
 map_parts f None y h = absurd (none-some y h)
 map_parts f (Some x) y h = (x, refl, same_Some (f x) y h)
 

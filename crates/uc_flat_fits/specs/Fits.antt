@@ -1,11 +1,14 @@
 -- Names over cells whose types are listed, and code that fits these types.
-use Rattle.std.specs.Prelude.{◌≡◌, ℕ, ◌+◌, true, false, List, ◌++◌, length, Option, Some, slice_get}
+use Rattle.std.specs.Prelude.{◌≡◌, ℕ, ◌+◌, true, List, ◌++◌, length, Option, Some, None, slice_get, slice_set, All}
+use Rattle.std.specs.List.{list_all}
+use Rattle.uc_syntax.specs.declared.type_expression.TypeExpr.{TypeExpr}
 use Rattle.uc_syntax.specs.declared.expression.Expr.{Expr}
 use Rattle.uc_syntax.specs.declared.statement.Stmt.{Stmt}
 use Rattle.uc_values.specs.declared.ty.Ty.{Ty}
 use Rattle.uc_ops.specs.Typing.{AllValid}
 use Rattle.uc_flat.specs.declared.statement.Statement.{Statement}
 use Rattle.uc_flat.specs.Reading.{type_of}
+use Rattle.uc_flat.specs.Flats.{wider_types}
 use Rattle.uc_flat.specs.Fine.{IsTyped, AreFine, ReadsBelow, CodeReadsBelow, ReadsTyped}
 use Rattle.uc_flat_expressions.specs.declared.typed.TypedExpression.{TypedExpression}
 use Rattle.uc_flat_expressions.specs.declared.typed.Meant.{Meant}
@@ -14,6 +17,9 @@ use Rattle.uc_flat_expressions.specs.Expressions.{flat_of}
 use Rattle.uc_symstep.specs.Known.{CodeReadsTyped}
 use Rattle.uc_flat_code.specs.declared.writing.Writing.{Writing}
 use Rattle.uc_flat_code.specs.Code.{code_of}
+use Rattle.uc_flat_init.specs.CellTypes.{Types, is_cell_type}
+use Rattle.uc_flat_init.specs.Init.{init_code}
+use Rattle.uc_flat_init.specs.declared.made.MadeCode.{MadeCode}
 
 -- the cells that names stand for have their types
 abbrev pub AreCellsOf : List Meant → List Ty → Type 0
@@ -53,10 +59,35 @@ TypedLaw =
     (names : List Meant) (w : Writing) (constants : List Ty) (code : List Stmt) (flat : List Statement) → ExpressionsReadTyped names constants → code_of names w code ≡ Some flat
     → CodeReadsTyped constants flat
 
--- Sequential code writes the cells that names stand for.
-abbrev pub SequentialLaw : Type 0
-SequentialLaw = (names : List Meant) (types : List Ty) → AreCellsOf names types → AreWritten names (record { primed = false; shift = 0 }) types
-
 -- A next block writes cells of the new state, which stand behind all cells of the old one.
 abbrev pub StepLaw : Type 0
 StepLaw = (names : List Meant) (types : List Ty) → AreCellsOf names types → AreWritten names (record { primed = true; shift = length types }) (types ++ types)
+
+-- ---- init code
+
+-- only types that cells may have are read
+abbrev pub ReadsCellTypes : Types → Type 0
+ReadsCellTypes reads = (e : TypeExpr) (ty : Ty) → reads e ≡ Some ty → is_cell_type ty ≡ true
+
+-- What names may stand for where there are locals, whose cells have numbers from n to below k: the name of a local stands for its cell, which has its type.
+pub data HasLocals (names : List Meant) (types : List Ty) (n : ℕ) : List Meant → ℕ → Type 0 where
+  without : HasLocals names types n names n
+  passed : (others : List Meant) (k : ℕ) → HasLocals names types n others k → HasLocals names types n others (k + 1)
+  with_local : (others : List Meant) (k x : ℕ) (ty : Ty) → HasLocals names types n others k → slice_get types k ≡ Some ty → is_cell_type ty ≡ true
+      → HasLocals names types n (slice_set others x (Cell k None ty)) (k + 1)
+
+-- Init code fits the cells and those behind them, where its expressions do, whatever locals there are; and what these begin with fits the cells.
+abbrev pub InitLaw : Type 0
+InitLaw =
+    (reads : Types) (names : List Meant) (types : List Ty) (code : List Stmt) (made : MadeCode)
+    → ReadsCellTypes reads → AreCellsOf names types → list_all is_cell_type types ≡ true
+    → ((others : List Meant) (k : ℕ) → HasLocals names (wider_types types made.further) (length types) others k → ExpressionsFit others (wider_types types made.further))
+    → init_code reads names (length types) code ≡ Some made → AreFine (wider_types types made.further) made.code × All (IsTyped types) made.further
+
+-- It reads constants at their types where its expressions do, and so does what the cells behind begin with.
+abbrev pub InitTypedLaw : Type 0
+InitTypedLaw =
+    (reads : Types) (names : List Meant) (types : List Ty) (constants : List Ty) (code : List Stmt) (made : MadeCode)
+    → ReadsCellTypes reads → AreCellsOf names types → list_all is_cell_type types ≡ true
+    → ((others : List Meant) (k : ℕ) → HasLocals names (wider_types types made.further) (length types) others k → ExpressionsReadTyped others constants)
+    → init_code reads names (length types) code ≡ Some made → CodeReadsTyped constants made.code × All (ReadsTyped constants) made.further

@@ -1,7 +1,7 @@
 //! Laws of code that stands for code of a design: it fits the cells, and reads only constants that there are, at their types.
 #![tactic(auto)]
 
-ghost use Rattle.uc_flat_fits.specs.Fits.{FitsLaw, ReadsLaw, TypedLaw, SequentialLaw, StepLaw};
+ghost use Rattle.uc_flat_fits.specs.Fits.{FitsLaw, ReadsLaw, TypedLaw, StepLaw, InitLaw, InitTypedLaw};
 
 /// The types of code.
 pub fn fits()
@@ -18,12 +18,17 @@ pub fn reads_typed()
     ensures { TypedLaw }
 {}
 
-/// The cells that sequential code writes.
-pub fn sequential()
-    ensures { SequentialLaw }
-{}
-
 /// The cells that a next block writes.
 pub fn step()
     ensures { StepLaw }
+{}
+
+/// The types of init code, and of what its further cells begin with.
+pub fn init()
+    ensures { InitLaw }
+{}
+
+/// The types at which init code reads constants.
+pub fn init_typed()
+    ensures { InitTypedLaw }
 {}

@@ -1,5 +1,5 @@
 -- The design is sound.
-use Rattle.std.proofs.Common.{◌≡◌, ℕ, List, [], ◌∷◌, length, Some, refl, sym, ap, ◌∙◌, subst, arith}
+use Rattle.std.proofs.Common.{◌≡◌, ℕ, List, [], ◌∷◌, ◌++◌, length, Some, refl, sym, ap, ◌∙◌, subst, arith}
 use Rattle.std.specs.Prelude.{All, false}
 use Rattle.std.proofs.lemmas.List.Elements.{All-cons}
 use Rattle.uc_values.specs.declared.ty.Ty.{Ty}
@@ -13,11 +13,11 @@ use Rattle.uc_flat.specs.declared.expression.Expression.{Expression}
 use Rattle.uc_flat.specs.declared.expression.Expression.TheVariants.{Cell, Apply}
 use Rattle.uc_flat.specs.declared.flat.Flat.{Flat}
 use Rattle.uc_flat.specs.Reading.{type_of}
-use Rattle.uc_flat.specs.Fine.{IsTyped, IsTest, ReadsBelow}
-use Rattle.uc_flat.specs.Flats.{repeated, IsFormula, IsSound}
+use Rattle.uc_flat.specs.Fine.{IsTyped, IsTest, AreFine, ReadsBelow}
+use Rattle.uc_flat.specs.Flats.{wider_types, repeated, IsFormula, IsSound}
 use Rattle.uc_flat.proofs.Forms.{type_cell, type_apply}
 use Rattle.uc_flat.proofs.Making.{typed_cell, typed_apply, reads_cell, reads_apply, fine_assign, reads_assign}
-use Rattle.uc_flat_lines_rows.specs.Toggles.{low, enabled, turned, is_low, stays_low, toggle}
+use Rattle.uc_flat_lines_rows.specs.Toggles.{low, enabled, turned, is_low, gives, stays_low, toggle}
 
 none : {A : Type 0} (P : A → Type 0) → All P []
 none P k d l = absurd (omega (arith, l))
@@ -70,13 +70,17 @@ low_test = record {
 is_low_reads : ReadsBelow 1 is_low
 is_low_reads = reads_apply 1 Not (Cell 0 ∷ []) (λ k ty i. cc) (one (ReadsBelow 1) (Cell 0) (reads_cell 1 0))
 
+-- the types of the cells of the init code
+wide_types : wider_types (Bool ∷ []) (low ∷ []) ≡ Bool ∷ Bool ∷ []
+wide_types = ap (λ t. Bool ∷ t ∷ []) (type_apply (Bool ∷ []) (Const Bool (Truth false)) [])
+
 toggle_sound : IsSound toggle
 toggle_sound = record {
   valid = one Valid Bool valid-Bool;
-  further = none (IsTyped (Bool ∷ []));
-  further_reads = none (ReadsBelow 1);
-  init = fine_assign (Bool ∷ []) 0 low (low_typed (Bool ∷ [])) (ap Some (sym (type_apply (Bool ∷ []) (Const Bool (Truth false)) [])));
-  init_reads = reads_assign 1 0 low low_reads;
+  further = one (IsTyped (Bool ∷ [])) low (low_typed (Bool ∷ []));
+  further_reads = one (ReadsBelow 1) low low_reads;
+  init = subst (λ types. AreFine types (gives 0 (Cell 1))) (sym wide_types) (fine_assign (Bool ∷ Bool ∷ []) 0 (Cell 1) (typed_cell (Bool ∷ Bool ∷ []) 1 (omega arith)) (ap Some (sym (type_cell (Bool ∷ Bool ∷ []) 1))));
+  init_reads = reads_assign 1 0 (Cell 1) (reads_cell 1 1);
   step = fine_assign both 1 turned turned_typed (ap Some (sym (type_apply both Not (Apply Eq (Cell 0 ∷ enabled ∷ []) ∷ []))));
   step_reads = reads_assign 1 1 turned turned_reads;
   formulas = one (IsFormula toggle) stays_low (record { test = low_test; reads = is_low_reads });

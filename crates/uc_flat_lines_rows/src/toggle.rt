@@ -48,7 +48,7 @@ fn gives(alloc: Global, cell: u32, e: Expression) -> Result<Items<Statement>, Al
     Ok(code)
 }
 
-/// The boolean is cell 0, and the formula says that it is false.
+/// The boolean is cell 0, which the init code takes from a further cell, and the formula says that it is false.
 pub(crate) fn toggle(alloc: Global) -> Result<Flat, AllocError>
     ensures { IfOk result (λ f. f ≡ toggle) }
 {
@@ -71,15 +71,16 @@ pub(crate) fn toggle(alloc: Global) -> Result<Flat, AllocError>
         copies: 1,
         condition,
     })?;
-    let first = low(alloc);
-    let init = gives(alloc, 0, first)?;
+    let mut further = Items::new(alloc);
+    further.push(low(alloc))?;
+    let init = gives(alloc, 0, Expression::Cell(1))?;
     let next = turned(alloc)?;
     let step = gives(alloc, 1, next)?;
     Ok(Flat {
         cells,
         constants,
         functions: Items::new(alloc),
-        further: Items::new(alloc),
+        further,
         init,
         step,
         sites: Items::new(alloc),

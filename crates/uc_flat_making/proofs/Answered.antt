@@ -22,11 +22,13 @@ use Rattle.uc_flat_expressions.specs.declared.typed.FlatError.{FlatError}
 use Rattle.uc_flat_expressions.specs.declared.typed.FlatError.TheVariants.{NoMemory, NotBuilt}
 use Rattle.uc_flat_expressions.specs.Answers.{IsAnswer}
 use Rattle.uc_flat_code.specs.Code.{code_of}
+use Rattle.uc_flat_init.specs.CellTypes.{Types, is_cell_type, cell_type_of}
+use Rattle.uc_flat_init.specs.Init.{init_code}
+use Rattle.uc_flat_init.specs.declared.made.MadeCode.{MadeCode}
 use Rattle.uc_flat_names.specs.Names.{StandsAlone, names_over_cells, types_of, names_of_constants, constant_types, flat_constants}
 use Rattle.uc_flat_names.proofs.Cells.{stands_alone as alone_in_use}
-use Rattle.uc_flat_design.specs.Sequential.{plainly}
 use Rattle.uc_flat_design.specs.Next.{primed_behind, names_between}
-use Rattle.uc_flat_design.specs.Design.{is_built, is_cell_type, invariant_in, axiom_in, formulas_from, IsFlatOf}
+use Rattle.uc_flat_design.specs.Design.{is_built, invariant_in, axiom_in, formulas_from, IsFlatOf}
 use Rattle.uc_flat_table.specs.declared.cells.OwnCell.{OwnCell}
 use Rattle.uc_flat_making.specs.declared.parts.Conditions.{Conditions}
 use Rattle.uc_flat_making.specs.Made.{IsMade, full, all_conditions, flat_over, next_once, made_over, made_with, made_typed, made, made_only, made_whole}
@@ -70,12 +72,12 @@ abbrev joined : List Formula → List Formula → Conditions
 joined axioms invariants = record { formulas = axioms ++ invariants; axioms = length axioms }
 
 made_is : (system : System) (code : Module) (f : Flat) → system.modules ≡ code ∷ [] → system.main ≡ 0 → list_all is_built code.decls ≡ true → list_all is_cell_type (types_of system) ≡ true
-    → list_all is_cell_type (constant_types system) ≡ true → made_over (names_over_cells system code) (cells_of system) (flat_constants system) code ≡ Some f → IsFlatOf system code f
+    → list_all is_cell_type (constant_types system) ≡ true → made_over (cell_type_of system code) (names_over_cells system code) (cells_of system) (flat_constants system) code ≡ Some f → IsFlatOf system code f
 made_is system code f only first built typed constants h =
     let names = names_over_cells system code in
     let cells = cells_of system in
     let over = flat_over cells (flat_constants system) in
-    let p = then_parts (λ init. option_and_then (λ next. option_map (over init next) (all_conditions names code.decls)) (next_once names cells code)) (code_of names plainly (init_of code)) f h in
+    let p = then_parts (λ init. option_and_then (λ next. option_map (over init next) (all_conditions names code.decls)) (next_once names cells code)) (init_code (cell_type_of system code) names (length cells) (init_of code)) f h in
     let q = then_parts (λ next. option_map (over p.0 next) (all_conditions names code.decls)) (next_once names cells code) f p.2 in
     let r = map_parts (over p.0 q.0) (all_conditions names code.decls) f q.2 in
     let a = then_parts (λ axioms. option_map (joined axioms) (formulas_from (invariant_in names) 0 code.decls)) (formulas_from (axiom_in (names_of_constants system code)) 0 code.decls) r.0 r.1 in
@@ -103,7 +105,7 @@ made_is system code f only first built typed constants h =
       is = sym r.2 ∙ ap (over p.0 q.0) (sym b.2);
     }
 
-made_some : (system : System) (code : Module) (f : Flat) → IsFlatOf system code f → (g : Flat) × (made_over (names_over_cells system code) (cells_of system) (flat_constants system) code ≡ Some g)
+made_some : (system : System) (code : Module) (f : Flat) → IsFlatOf system code f → (g : Flat) × (made_over (cell_type_of system code) (names_over_cells system code) (cells_of system) (flat_constants system) code ≡ Some g)
 made_some system code f is =
     let names = names_over_cells system code in
     let cells = cells_of system in
@@ -135,7 +137,7 @@ is_whole system code f is =
           ∙ ap (made_only system) is.only
           ∙ ap (λ b. if b then made_typed system code else None) is.declarations
           ∙ ap (λ b. if b then made_with system code else None) is.types
-          ∙ ap (λ b. if b then made_over (names_over_cells system code) (cells_of system) (flat_constants system) code else None) is.constants
+          ∙ ap (λ b. if b then made_over (cell_type_of system code) (names_over_cells system code) (cells_of system) (flat_constants system) code else None) is.constants
           ∙ m.1,
     )
 
@@ -146,7 +148,7 @@ whole_answer system (Ok f) h =
     let b = made_only_some system system.modules f a.1 in
     let c = if_some (list_all is_built (b.0).decls) (made_typed system b.0) f b.2 in
     let d = if_some (list_all is_cell_type (types_of system)) (made_with system b.0) f c.1 in
-    let e = if_some (list_all is_cell_type (constant_types system)) (made_over (names_over_cells system b.0) (cells_of system) (flat_constants system) b.0) f d.1 in
+    let e = if_some (list_all is_cell_type (constant_types system)) (made_over (cell_type_of system b.0) (names_over_cells system b.0) (cells_of system) (flat_constants system) b.0) f d.1 in
     (b.0, made_is system b.0 f b.1 (zero_is system.main a.0) c.0 d.0 e.0 e.1)
 whole_answer system (Err NotBuilt) h = λ code f is. let w = is_whole system code f is in none-some w.0 (sym h ∙ w.1)
 
@@ -178,38 +180,38 @@ one_item [] x h e = absurd (omega (arith, h))
 one_item (y ∷ []) x h e = ap (λ z. z ∷ []) (sym e)
 one_item (y ∷ (z ∷ zs)) x h e = absurd (omega (arith, h))
 
-pub over_answer : (names other : List Meant) (cells : List Cell) (own : List OwnCell) (code : Module) (r : Result Flat FlatError) → names ≡ other → cells ≡ map full own
-    → IsAnswer (made_over names (map full own) [] code) r → IsAnswer (made_over other cells [] code) r
-over_answer names other cells own code r e f h = subst (λ cs. IsAnswer (made_over other cs [] code) r) (sym f) (subst (λ ns. IsAnswer (made_over ns (map full own) [] code) r) e h)
+pub over_answer : (types : Types) (names other : List Meant) (cells : List Cell) (own : List OwnCell) (code : Module) (r : Result Flat FlatError) → names ≡ other → cells ≡ map full own
+    → IsAnswer (made_over types names (map full own) [] code) r → IsAnswer (made_over types other cells [] code) r
+over_answer types names other cells own code r e f h = subst (λ cs. IsAnswer (made_over types other cs [] code) r) (sym f) (subst (λ ns. IsAnswer (made_over types ns (map full own) [] code) r) e h)
 
 -- ---- the constants are added last
 
 abbrev with_those : List Constant → Flat → Flat
 with_those constants f = record f { constants = constants }
 
-added_over : (cells : List Cell) (constants : List Constant) (init next : List Statement) (o : Option Conditions) → option_map (with_those constants) (option_map (flat_over cells [] init next) o) ≡ option_map (flat_over cells constants init next) o
+added_over : (cells : List Cell) (constants : List Constant) (init : MadeCode) (next : List Statement) (o : Option Conditions) → option_map (with_those constants) (option_map (flat_over cells [] init next) o) ≡ option_map (flat_over cells constants init next) o
 added_over cells constants init next None = refl
 added_over cells constants init next (Some conditions) = refl
 
-added_next : (cells : List Cell) (constants : List Constant) (init : List Statement) (conditions : Option Conditions) (o : Option (List Statement)) → option_map (with_those constants) (option_and_then (λ next. option_map (flat_over cells [] init next) conditions) o)
+added_next : (cells : List Cell) (constants : List Constant) (init : MadeCode) (conditions : Option Conditions) (o : Option (List Statement)) → option_map (with_those constants) (option_and_then (λ next. option_map (flat_over cells [] init next) conditions) o)
     ≡ option_and_then (λ next. option_map (flat_over cells constants init next) conditions) o
 added_next cells constants init conditions None = refl
 added_next cells constants init conditions (Some next) = added_over cells constants init next conditions
 
-added_init : (cells : List Cell) (constants : List Constant) (conditions : Option Conditions) (n o : Option (List Statement))
+added_init : (cells : List Cell) (constants : List Constant) (conditions : Option Conditions) (n : Option (List Statement)) (o : Option MadeCode)
     → option_map (with_those constants) (option_and_then (λ init. option_and_then (λ next. option_map (flat_over cells [] init next) conditions) n) o)
     ≡ option_and_then (λ init. option_and_then (λ next. option_map (flat_over cells constants init next) conditions) n) o
 added_init cells constants conditions n None = refl
 added_init cells constants conditions n (Some init) = added_next cells constants init conditions n
 
-added : (names : List Meant) (cells : List Cell) (constants : List Constant) (code : Module) → option_map (with_those constants) (made_over names cells [] code) ≡ made_over names cells constants code
-added names cells constants code = added_init cells constants (all_conditions names code.decls) (next_once names cells code) (code_of names plainly (init_of code))
+added : (types : Types) (names : List Meant) (cells : List Cell) (constants : List Constant) (code : Module) → option_map (with_those constants) (made_over types names cells [] code) ≡ made_over types names cells constants code
+added types names cells constants code = added_init cells constants (all_conditions names code.decls) (next_once names cells code) (init_code types names (length cells) (init_of code))
 
 -- the same, where the types of the constants are built
-typed_with : (system : System) (code : Module) (b : Truth) → b ≡ list_all is_cell_type (constant_types system) → b ≡ true → made_with system code ≡ made_over (names_over_cells system code) (cells_of system) (flat_constants system) code
-typed_with system code b is holds = ap (λ c. if c then made_over (names_over_cells system code) (cells_of system) (flat_constants system) code else None) (sym is ∙ holds)
+typed_with : (system : System) (code : Module) (b : Truth) → b ≡ list_all is_cell_type (constant_types system) → b ≡ true → made_with system code ≡ made_over (cell_type_of system code) (names_over_cells system code) (cells_of system) (flat_constants system) code
+typed_with system code b is holds = ap (λ c. if c then made_over (cell_type_of system code) (names_over_cells system code) (cells_of system) (flat_constants system) code else None) (sym is ∙ holds)
 
 pub some_added : (system : System) (code : Module) (types : List Ty) (b : Truth) (f g : Flat) → types ≡ constant_types system → b ≡ list_all is_cell_type types → b ≡ true
-    → made_over (names_over_cells system code) (cells_of system) [] code ≡ Some f → g ≡ record f { constants = flat_constants system } → made_with system code ≡ Some g
+    → made_over (cell_type_of system code) (names_over_cells system code) (cells_of system) [] code ≡ Some f → g ≡ record f { constants = flat_constants system } → made_with system code ≡ Some g
 some_added system code types b f g are is holds some whole =
-    typed_with system code b (is ∙ ap (list_all is_cell_type) are) holds ∙ sym (added (names_over_cells system code) (cells_of system) (flat_constants system) code) ∙ ap (option_map (with_those (flat_constants system))) some ∙ ap Some (sym whole)
+    typed_with system code b (is ∙ ap (list_all is_cell_type) are) holds ∙ sym (added (cell_type_of system code) (names_over_cells system code) (cells_of system) (flat_constants system) code) ∙ ap (option_map (with_those (flat_constants system))) some ∙ ap Some (sym whole)

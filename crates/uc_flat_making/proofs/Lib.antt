@@ -1,4 +1,3 @@
-pub mod Forms
 pub mod ByKinds
 pub mod Lengths
 pub mod Answered

@@ -13,12 +13,13 @@ use Rattle.uc_flat_order.specs.Arranged.{code_arranged}
 use Rattle.uc_flat_expressions.specs.declared.typed.Meant.{Meant}
 use Rattle.uc_flat_expressions.specs.declared.typed.FlatError.{FlatError}
 use Rattle.uc_flat_expressions.specs.declared.typed.FlatError.TheVariants.{NoMemory, NotBuilt}
-use Rattle.uc_flat_code.specs.Code.{code_of}
+use Rattle.uc_flat_init.specs.CellTypes.{Types, is_cell_type, cell_type_of}
+use Rattle.uc_flat_init.specs.Init.{init_code}
+use Rattle.uc_flat_init.specs.declared.made.MadeCode.{MadeCode}
 use Rattle.uc_flat_names.specs.Names.{names_over_cells, types_of, without_cell, constant_types, flat_constants}
-use Rattle.uc_flat_design.specs.Sequential.{plainly}
 use Rattle.uc_flat_design.specs.Next.{primed_behind, names_between, step_code}
 use Rattle.uc_flat_table.specs.declared.cells.OwnCell.{OwnCell}
-use Rattle.uc_flat_design.specs.Design.{is_built, is_cell_type, flat_cell, invariant_in, axiom_in, formulas_from, IsFlatOf}
+use Rattle.uc_flat_design.specs.Design.{is_built, flat_cell, invariant_in, axiom_in, formulas_from, IsFlatOf}
 use Rattle.uc_flat_making.specs.declared.parts.Conditions.{Conditions}
 
 -- The answer is the design over cells, or there is none; want of memory says nothing.
@@ -39,13 +40,13 @@ all_conditions names decls =
     option_and_then (λ axioms. option_map (λ invariants. record { formulas = axioms ++ invariants; axioms = length axioms }) (formulas_from (invariant_in names) 0 decls))
     (formulas_from (axiom_in (map without_cell names)) 0 decls)
 
-abbrev pub flat_over : List Cell → List Constant → List Statement → List Statement → Conditions → Flat
+abbrev pub flat_over : List Cell → List Constant → MadeCode → List Statement → Conditions → Flat
 flat_over cells constants init next conditions = record {
   cells = map flat_cell cells;
   constants = constants;
   functions = [];
-  further = [];
-  init = init;
+  further = init.further;
+  init = init.code;
   step = step_code cells next;
   sites = [];
   formulas = conditions.formulas;
@@ -56,14 +57,14 @@ flat_over cells constants init next conditions = record {
 abbrev pub next_once : List Meant → List Cell → Module → Option (List Statement)
 next_once names cells code = code_arranged (names_between (length cells) names) (primed_behind (length cells)) (next_of code)
 
--- the design over cells by what the names stand for
-abbrev pub made_over : List Meant → List Cell → List Constant → Module → Option Flat
-made_over names cells constants code =
-    option_and_then (λ init. option_and_then (λ next. option_map (flat_over cells constants init next) (all_conditions names code.decls)) (next_once names cells code)) (code_of names plainly (init_of code))
+-- the design over cells by how the types of locals are read and what the names stand for
+abbrev pub made_over : Types → List Meant → List Cell → List Constant → Module → Option Flat
+made_over types names cells constants code =
+    option_and_then (λ init. option_and_then (λ next. option_map (flat_over cells constants init next) (all_conditions names code.decls)) (next_once names cells code)) (init_code types names (length cells) (init_of code))
 
 -- the same, where the types of all constants are built
 abbrev pub made_with : System → Module → Option Flat
-made_with system code = if list_all is_cell_type (constant_types system) then made_over (names_over_cells system code) (cells_of system) (flat_constants system) code else None
+made_with system code = if list_all is_cell_type (constant_types system) then made_over (cell_type_of system code) (names_over_cells system code) (cells_of system) (flat_constants system) code else None
 
 -- the same, where the types of all cells are built
 abbrev pub made_typed : System → Module → Option Flat

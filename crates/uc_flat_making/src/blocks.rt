@@ -4,16 +4,19 @@ ghost use Rattle.std.specs.Prelude.{◌≡◌, IfOk};
 ghost use Rattle.std.specs.List.{flat_map};
 ghost use Rattle.uc_meaning.specs.Lookup.{init_in, next_in, init_of, next_of};
 ghost use Rattle.uc_flat_expressions.specs.Answers.{IsAnswer};
-ghost use Rattle.uc_flat_code.specs.Code.{code_of};
+ghost use Rattle.uc_flat_init.specs.CellTypes.{cell_type_of};
+ghost use Rattle.uc_flat_init.specs.Init.{init_code};
 ghost use Rattle.uc_flat_order.specs.Arranged.{code_arranged};
 
 use std::alloc::{AllocError, Global};
 use uc_flat::Statement;
-use uc_flat_code::{Writing, flat_code};
+use uc_flat_code::Writing;
 use uc_flat_expressions::{FlatError, Meant};
+use uc_flat_init::{MadeCode, init_code};
 use uc_flat_order::code_arranged;
 use uc_items::Items;
 use uc_syntax::{Decl, Module, Stmt, copy_block};
+use uc_type_reader::Tables;
 
 fn init_in(alloc: Global, decl: &Decl) -> Result<Items<Stmt>, AllocError>
     ensures { IfOk result (λ block. block ≡ init_in decl.now) }
@@ -57,17 +60,18 @@ fn next_block(alloc: Global, decls: &[Decl]) -> Result<Items<Stmt>, AllocError>
     Ok(all)
 }
 
-/// The code over cells of the `init` block of a module.
-pub(crate) fn init_code(
+/// The code over cells of the `init` block of a module, whose further cells stand behind so many cells.
+pub(crate) fn made_init(
     alloc: Global,
-    names: &[Meant],
-    writing: Writing,
+    tables: &Tables,
     code: &Module,
-) -> Result<Items<Statement>, FlatError>
-    ensures { IsAnswer (code_of names.now writing (init_of code.now)) result }
+    names: &[Meant],
+    count: u32,
+) -> Result<MadeCode, FlatError>
+    ensures { IsAnswer (init_code (cell_type_of tables.now code.now) names.now count (init_of code.now)) result }
 {
     let block = init_block(alloc, code.decls.as_slice())?;
-    flat_code(alloc, names, writing, block.as_slice())
+    init_code(alloc, tables, code, names, count, block.as_slice())
 }
 
 /// The code over cells of the `next` block of a module, where no way through its statements, in the order in which they are run, writes a part

@@ -13,4 +13,3 @@ mod types;
 pub use making::flat_design;
 pub use names::{names_between, without_cells};
 pub use parts::are_built;
-pub use types::is_cell_type;

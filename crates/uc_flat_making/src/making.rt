@@ -4,6 +4,7 @@ ghost use Rattle.std.specs.Prelude.{◌≡◌, ◌∷◌, [], true, IfOk};
 ghost use Rattle.std.specs.List.{list_all};
 ghost use Rattle.uc_meaning.specs.Cells.{cells_of};
 ghost use Rattle.uc_flat_expressions.specs.Answers.{IsAnswer};
+ghost use Rattle.uc_flat_init.specs.CellTypes.{cell_type_of};
 ghost use Rattle.uc_flat_names.specs.Names.{StandsAlone, names_over_cells, flat_constants};
 ghost use Rattle.uc_flat_design.specs.Design.{is_built};
 ghost use Rattle.uc_flat_making.specs.Made.{IsMade, made_over, made_with, made_typed, made, made_whole};
@@ -92,11 +93,11 @@ fn with_constants(alloc: Global, tables: &Tables, code: &Module) -> Result<Flat,
 /// The same but for its constants, where the types of these are built too.
 fn over_cells(alloc: Global, tables: &Tables, code: &Module) -> Result<Flat, FlatError>
     requires { StandsAlone tables.now code.now }
-    ensures { IsAnswer (made_over (names_over_cells tables.now code.now) (cells_of tables.now) [] code.now) result }
+    ensures { IsAnswer (made_over (cell_type_of tables.now code.now) (names_over_cells tables.now code.now) (cells_of tables.now) [] code.now) result }
 {
     let names = names_table(alloc, tables, code)?;
     let cells = own_cells(alloc, tables, code)?;
-    made_over(alloc, names.as_slice(), cells.as_slice(), code)
+    made_over(alloc, tables, names.as_slice(), cells.as_slice(), code)
 }
 
 /// A design over cells with the constants of the module.

@@ -1,24 +1,24 @@
 //! The design over cells by its cells and by what its names stand for.
 
 ghost use Rattle.std.specs.Prelude.{◌≡◌, ◌++◌, [], Some, map, length, IfOk};
-ghost use Rattle.uc_meaning.specs.Lookup.{init_of};
 ghost use Rattle.uc_flat_expressions.specs.Answers.{IsAnswer};
-ghost use Rattle.uc_flat_code.specs.Code.{code_of};
-ghost use Rattle.uc_flat_design.specs.Sequential.{plainly};
+ghost use Rattle.uc_flat_init.specs.CellTypes.{cell_type_of};
 ghost use Rattle.uc_flat_design.specs.Next.{inputs_from, step_code};
 ghost use Rattle.uc_flat_design.specs.Design.{flat_cell};
 ghost use Rattle.uc_flat_making.specs.Made.{full, flat_over, next_once, made_over};
 
-use crate::blocks::{init_code, next_code};
+use crate::blocks::{made_init, next_code};
 use crate::names::names_between;
 use crate::parts::{Conditions, all_conditions, inputs};
 use std::alloc::{AllocError, Global};
 use uc_flat::{Cell, Flat, Statement};
 use uc_flat_code::Writing;
 use uc_flat_expressions::{FlatError, Meant};
+use uc_flat_init::MadeCode;
 use uc_flat_table::OwnCell;
 use uc_items::Items;
 use uc_syntax::{Module, VariableKind};
+use uc_type_reader::Tables;
 use uc_values::copy_ty;
 
 /// The cells, each with its name and its type, of main itself.
@@ -81,7 +81,7 @@ fn flat_over(
     alloc: Global,
     cells: &[OwnCell],
     count: u32,
-    init: Items<Statement>,
+    init: MadeCode,
     next: Items<Statement>,
     conditions: Conditions,
 ) -> Result<Flat, FlatError>
@@ -94,8 +94,8 @@ fn flat_over(
         cells,
         constants: Items::new(alloc),
         functions: Items::new(alloc),
-        further: Items::new(alloc),
-        init,
+        further: init.further,
+        init: init.code,
         step,
         sites: Items::new(alloc),
         formulas: conditions.formulas,
@@ -122,16 +122,6 @@ fn next_once(
     next_code(alloc, names.as_slice(), writing, code)
 }
 
-fn plain_code(alloc: Global, names: &[Meant], code: &Module) -> Result<Items<Statement>, FlatError>
-    ensures { IsAnswer (code_of names.now plainly (init_of code.now)) result }
-{
-    let writing = Writing {
-        primed: false,
-        shift: 0,
-    };
-    init_code(alloc, names, writing, code)
-}
-
 /// How many cells there are. Their numbers are below 2^32: more count as want of memory.
 #[tactic(auto, using(crate::proofs::Lengths::same_length))]
 fn count_of(cells: &[OwnCell]) -> Result<u32, AllocError>
@@ -146,14 +136,15 @@ fn count_of(cells: &[OwnCell]) -> Result<u32, AllocError>
 /// The design over cells by its cells and by what its names stand for, but for its constants.
 pub(crate) fn made_over(
     alloc: Global,
+    tables: &Tables,
     names: &[Meant],
     cells: &[OwnCell],
     code: &Module,
 ) -> Result<Flat, FlatError>
-    ensures { IsAnswer (made_over names.now (map full cells.now) [] code.now) result }
+    ensures { IsAnswer (made_over (cell_type_of tables.now code.now) names.now (map full cells.now) [] code.now) result }
 {
     let count = count_of(cells)?;
-    let init = plain_code(alloc, names, code)?;
+    let init = made_init(alloc, tables, code, names, count)?;
     let next = next_once(alloc, names, cells, count, code)?;
     let conditions = all_conditions(alloc, names, code.decls.as_slice())?;
     flat_over(alloc, cells, count, init, next, conditions)

@@ -1,40 +1,63 @@
 -- The design over cells of a design is sound, and reads its constants at their types.
-use Rattle.std.proofs.Common.{◌≡◌, ℕ, zero, suc, ◌+◌, ◌<◌, ◌≤◌, List, [], ◌∷◌, ◌++◌, map, length, take, refl, sym, ap, ◌∙◌, subst, true, false, Bool, Some, arith, slice_get, append-nil}
-use Rattle.std.specs.Prelude.{if◌then◌else◌, All}
+use Rattle.std.proofs.Common.{◌≡◌, ℕ, zero, suc, ◌+◌, ◌<◌, ◌≤◌, List, [], ◌∷◌, ◌++◌, map, length, take, refl, sym, ap, ◌∙◌, subst, true, false, Bool, Some, None, arith, slice_get, append-nil}
+use Rattle.std.specs.Prelude.{if◌then◌else◌, slice_set, All}
+use Rattle.std.specs.List.{list_all}
 use Rattle.std.proofs.lemmas.List.{length-map, length-append}
 use Rattle.std.proofs.lemmas.List.Elements.{All-nil, All-cons, All-head, All-tail, All-append, All-weaker}
-use Rattle.std.proofs.lemmas.Option.{slice_get_within}
+use Rattle.std.proofs.lemmas.Option.{none-some, same_Some, slice_get_within}
+use Rattle.uc_syntax.specs.declared.type_expression.TypeExpr.{TypeExpr}
+use Rattle.uc_syntax.specs.declared.expression.Expr.{Expr}
 use Rattle.uc_syntax.specs.declared.declaration.Module.{Module}
 use Rattle.uc_values.specs.declared.ty.Ty.{Ty}
+use Rattle.uc_values.specs.declared.value.Value.{Value}
+use Rattle.uc_values.specs.Values.{fits, zero_of}
+use Rattle.uc_values.proofs.Shapes.{and_true}
+use Rattle.uc_values.proofs.Fitting.{zero-fits}
 use Rattle.uc_meaning.specs.Lookup.{System, init_of}
+use Rattle.uc_meaning.specs.Types.{type_of_written}
 use Rattle.uc_meaning.specs.Cells.{Cell, cells_of}
+use Rattle.uc_meaning.specs.Expressions.{reading}
 use Rattle.uc_meaning.specs.Steps.{is_input}
 use Rattle.uc_ops.specs.Typing.{Valid, AllValid}
+use Rattle.uc_ops.specs.Meaning.{part}
 use Rattle.uc_flat.specs.declared.expression.Expression.{Expression}
 use Rattle.uc_flat.specs.declared.flat.Flat.{Flat}
 use Rattle.uc_flat.specs.declared.flat.Formula.{Formula}
 use Rattle.uc_flat.specs.declared.statement.Statement.{Statement}
 use Rattle.uc_flat.specs.declared.statement.Statement.TheVariants.{Havoc}
 use Rattle.uc_flat.specs.Fine.{IsTyped, IsTest, AreFine, ReadsBelow, CodeReadsBelow, ReadsTyped}
-use Rattle.uc_flat.specs.Flats.{cell_types, init_types, repeated, axioms_of, IsFormula, IsSound}
+use Rattle.uc_flat.specs.Reading.{type_of}
+use Rattle.uc_flat.specs.Executions.{FitAll}
+use Rattle.uc_flat.specs.Flats.{cell_types, wider_types, init_types, repeated, axioms_of, IsFormula, IsSound}
 use Rattle.uc_flat.proofs.Making.{Alone, fine_alone}
 use Rattle.uc_symstep.specs.Known.{CodeReadsTyped, constants_typed, ReadsOwnTypes}
+use Rattle.uc_flat_expressions.specs.declared.typed.TypedExpression.{TypedExpression}
 use Rattle.uc_flat_expressions.specs.declared.typed.Meant.{Meant}
+use Rattle.uc_flat_expressions.specs.declared.typed.Meant.TheVariants.{Cell as CellOf}
+use Rattle.uc_flat_expressions.specs.Expressions.{flat_of}
+use Rattle.uc_flat_meaning.specs.Sayings.{Says}
+use Rattle.uc_flat_meaning.proofs.Telling.{flat_says}
 use Rattle.uc_flat_names.specs.Names.{StandsAlone, names_over_cells, types_of, names_of_constants, constant_types}
 use Rattle.uc_flat_names.specs.Constants.{SharesConstants}
-use Rattle.uc_flat_fits.specs.Fits.{AreCellsOf, AreWritten, ExpressionsFit, ExpressionsReadTyped}
+use Rattle.uc_flat_names.proofs.Cells.{cell_type}
+use Rattle.uc_flat_init.specs.CellTypes.{is_cell_type, cell_type_of}
+use Rattle.uc_flat_init.specs.Init.{init_code}
+use Rattle.uc_flat_init_law.proofs.Entries.{entry}
+use Rattle.uc_flat_init_law.proofs.Locals.{Held, names_with, Stands, FitHeld, later, scope_with}
+use Rattle.uc_flat_init_law.proofs.Names.{held_meant}
+use Rattle.uc_flat_fits.specs.Fits.{AreCellsOf, AreWritten, ExpressionsFit, ExpressionsReadTyped, ReadsCellTypes, HasLocals, without, passed, with_local}
 use Rattle.uc_flat_fits.proofs.Conditions.{boolean_is}
 use Rattle.uc_flat_fits.proofs.Standing.{Everywhere, nowhere, both, one_havoc}
 use Rattle.uc_flat_fits.proofs.Suiting.{code_gives}
 use Rattle.uc_flat_fits.proofs.Typing.{AloneTyped, typed_alone}
-use Rattle.uc_flat_fits.proofs.Laws.{fits_suited, typed_suited, sequential_holds, step_holds}
-use Rattle.uc_flat_design.specs.Sequential.{plainly}
+use Rattle.uc_flat_fits.proofs.Laws.{fits_suited, typed_suited, step_holds}
+use Rattle.uc_flat_fits.proofs.Initial.{init_holds, init_typed_holds}
 use Rattle.uc_flat_design.specs.Next.{primed_behind, inputs_from, step_code}
 use Rattle.uc_flat_design.specs.Design.{next_names, next_arranged, IsFlatOf}
 use Rattle.uc_flat_design.proofs.Formulas.{axioms_read, invariants_read}
-use Rattle.uc_flat_design.proofs.Tables.{all_valid, zero_interpretation, zero_model, zero_shared, says_at_zeros, axiom_says_at_zeros, init_table}
+use Rattle.uc_flat_design.proofs.Tables.{all_valid, zero_interpretation, zero_model, zeros_fit, zero_shared, says_at_zeros, axiom_says_at_zeros}
 use Rattle.uc_flat_design.proofs.NextTable.{next_table, next_says_at_zeros}
-use Rattle.uc_flat_design.proofs.Laws.{alone_of, no_further, flat_types, flat_init_types, flat_constant_types}
+use Rattle.uc_flat_design.proofs.Laws.{alone_of, flat_types, flat_further, flat_init_types, flat_constant_types}
 use Rattle.uc_flat_sound.specs.Law.{SoundLaw, OwnTypesLaw}
 
 valid_append : (xs ys : List Ty) → AllValid xs → AllValid ys → AllValid (xs ++ ys)
@@ -86,6 +109,17 @@ take_front : {A : Type 0} (xs ys : List A) → take (length xs) (xs ++ ys) ≡ x
 take_front [] ys = refl
 take_front (x ∷ xs) ys = ap (λ zs. x ∷ zs) (take_front xs ys)
 
+-- ---- the values that count as 0
+
+part_zero : (types : List Ty) (k : ℕ) (ty : Ty) → slice_get types k ≡ Some ty → part (map zero_of types) k ≡ zero_of ty
+part_zero [] k ty h = absurd (none-some ty h)
+part_zero (t ∷ types) zero ty h = ap zero_of (same_Some t ty h)
+part_zero (t ∷ types) (suc k) ty h = part_zero types k ty h
+
+take_zeros : (types more : List Ty) → take (length types) (map zero_of (types ++ more)) ≡ map zero_of types
+take_zeros [] more = refl
+take_zeros (t ∷ types) more = ap (λ vs. zero_of t ∷ vs) (take_zeros types more)
+
 -- constants that are read at their types are there
 below : (constants : List Ty) (e : Expression) → ReadsTyped constants e → ReadsBelow (length constants) e
 below constants e h k ty parts within = slice_get_within constants k ty (h k ty parts within)
@@ -124,7 +158,9 @@ module _ (system : System) (code : Module) (f : Flat) (d : IsFlatOf system code 
   reads e t h = (says_at_zeros system code alone d.types d.constants e t h).reads
 
   cells_of_names : AreCellsOf names types
-  cells_of_names x k new ty h = ((init_table system code alone (zero_model system) d.types d.constants (zero_interpretation system) shared).cells x k new ty h).typed
+  cells_of_names x k new ty h =
+      let a = entry system code x k new ty h in
+      cell_type system code x k a.kind a.type alone a.has_cells a.variable a.cell ∙ ap Some a.own
 
   even : length (cells_of system) ≡ length types
   even = sym (length-map (cells_of system) (λ (c : Cell). c.type))
@@ -142,11 +178,71 @@ module _ (system : System) (code : Module) (f : Flat) (d : IsFlatOf system code 
   cells_between : AreCellsOf between types
   cells_between x k new ty h = ((next_table system code alone (zero_model system) d.types d.constants (zero_interpretation system) shared).cells x k new ty h).typed
 
-  init_fine : Everywhere (Alone types) d.init
-  init_fine = code_gives names plainly (Alone types) (fits_suited names plainly types fit (sequential_holds names types cells_of_names) valid) (init_of code) d.init d.init_is
+  -- ---- init code, with its further cells
 
-  init_reads : CodeReadsTyped constants d.init
-  init_reads = typed_alone constants d.init (code_gives names plainly (AloneTyped constants) (typed_suited names plainly constants reads) (init_of code) d.init d.init_is)
+  abbrev further : List Expression
+  further = d.init.further
+
+  abbrev wide : List Ty
+  wide = wider_types types further
+
+  abbrev zeros : List Value
+  zeros = map zero_of wide
+
+  fit_zeros : FitAll types (take (length types) zeros)
+  fit_zeros = subst (FitAll types) (sym (take_zeros types (map (type_of types) further))) (zeros_fit types d.types)
+
+  only_cell_types : ReadsCellTypes (cell_type_of system code)
+  only_cell_types e ty h = by_test (is_cell_type (type_of_written system code e)) refl h
+    where
+      by_test : (b : Bool) → is_cell_type (type_of_written system code e) ≡ b → (if b then Some (type_of_written system code e) else None) ≡ Some ty → is_cell_type ty ≡ true
+      by_test true q r = ap is_cell_type (sym (same_Some (type_of_written system code e) ty r)) ∙ q
+      by_test false q r = absurd (none-some ty r)
+
+  -- what names stand for where there are locals, by a list of these
+  record IsHeldBy (others : List Meant) (k : ℕ) : Type 0 where
+    pub locals : List Held
+    pub is : names_with names locals ≡ others
+    pub stands : Stands wide (length types) locals k
+    pub fit : FitHeld zeros locals
+
+  held_by : (others : List Meant) (k : ℕ) → HasLocals names wide (length types) others k → IsHeldBy others k
+  held_by others k without = record { locals = []; is = refl; stands = omega arith; fit = tt }
+  held_by others k (passed names' j h) =
+      let r = held_by names' j h in
+      record { locals = r.locals; is = r.is; stands = later wide (length types) r.locals j (j + 1) r.stands (omega arith); fit = r.fit }
+  held_by others k (with_local names' j x ty h at good) =
+      let r = held_by names' j h in
+      let local : Held = record { name = x; ty = ty; cell = j } in
+      let valid : Valid ty = (and_true good).0 in
+      record {
+        locals = local ∷ r.locals;
+        is = ap (λ ns. slice_set ns x (CellOf j None ty)) r.is;
+        stands = (omega arith, at, valid, r.stands);
+        fit = (ap (fits ty) (part_zero wide j ty at) ∙ zero-fits ty valid, r.fit);
+      }
+
+  says_with : (others : List Meant) (k : ℕ) (r : IsHeldBy others k) (e : Expr) (t : TypedExpression) → flat_of others e ≡ Some t
+      → Says constants (zero_model system) wide zeros (reading system (scope_with (zero_interpretation system) (length types) zeros r.locals) e) t
+  says_with others k r e t h =
+      flat_says system (scope_with (zero_interpretation system) (length types) zeros r.locals) constants (zero_model system) wide zeros (names_with names r.locals) e t
+      (held_meant system code (zero_interpretation system) (zero_model system) (map (type_of types) further) alone shared (all_valid constants d.constants) valid r.locals k zeros r.stands fit_zeros r.fit)
+      (ap (λ ns. flat_of ns e) r.is ∙ h)
+
+  fit_with : (others : List Meant) (k : ℕ) → HasLocals names wide (length types) others k → ExpressionsFit others wide
+  fit_with others k h e t is = let x = says_with others k (held_by others k h) e t is in (x.typed, x.own)
+
+  reads_with : (others : List Meant) (k : ℕ) → HasLocals names wide (length types) others k → ExpressionsReadTyped others constants
+  reads_with others k h e t is = (says_with others k (held_by others k h) e t is).reads
+
+  init_is : init_code (cell_type_of system code) names (length types) (init_of code) ≡ Some d.init
+  init_is = ap (λ n. init_code (cell_type_of system code) names n (init_of code)) (sym even) ∙ d.init_is
+
+  init_fine : AreFine wide d.init.code × All (IsTyped types) further
+  init_fine = init_holds (cell_type_of system code) names types (init_of code) d.init only_cell_types cells_of_names d.types fit_with init_is
+
+  init_reads : CodeReadsTyped constants d.init.code × All (ReadsTyped constants) further
+  init_reads = init_typed_holds (cell_type_of system code) names types constants (init_of code) d.init only_cell_types cells_of_names d.types reads_with init_is
 
   next_written : AreWritten between (primed_behind (length (cells_of system))) (types ++ types)
   next_written = subst (λ n. AreWritten between (record { primed = true; shift = n }) (types ++ types)) (sym even) (step_holds between types cells_between)
@@ -193,13 +289,16 @@ module _ (system : System) (code : Module) (f : Flat) (d : IsFlatOf system code 
   typed : constants_typed f ≡ constants
   typed = flat_constant_types system code f d
 
-  none_further : (P : Expression → Type 0) → All P f.further
-  none_further P = subst (All P) (sym (no_further system code f d)) (All-nil P)
+  further_is : f.further ≡ further
+  further_is = flat_further system code f d
+
+  init_code_is : f.init ≡ d.init.code
+  init_code_is = ap (λ (g : Flat). g.init) d.is
 
   own_types : ReadsOwnTypes f
   own_types = record {
-    further = none_further (ReadsTyped (constants_typed f));
-    init = subst (λ ts. CodeReadsTyped ts f.init) (sym typed) (subst (λ (g : Flat). CodeReadsTyped constants g.init) (sym d.is) init_reads);
+    further = subst (λ ts. All (ReadsTyped ts) f.further) (sym typed) (subst (All (ReadsTyped constants)) (sym further_is) init_reads.1);
+    init = subst (λ ts. CodeReadsTyped ts f.init) (sym typed) (subst (CodeReadsTyped constants) (sym init_code_is) init_reads.0);
     step = subst (λ ts. CodeReadsTyped ts f.step) (sym typed) (subst (λ (g : Flat). CodeReadsTyped constants g.step) (sym d.is) step_reads);
     formulas = All-weaker Fits (λ (x : Formula). ReadsTyped (constants_typed f) x.condition) (λ x a. subst (λ ts. ReadsTyped ts x.condition) (sym typed) a.1) f.formulas formulas_fit;
   }
@@ -216,9 +315,9 @@ module _ (system : System) (code : Module) (f : Flat) (d : IsFlatOf system code 
   sound : IsSound f
   sound = record {
     valid = subst AllValid (sym (flat_types system code f d)) valid;
-    further = none_further (IsTyped (cell_types f));
-    further_reads = none_further (ReadsBelow (length f.constants));
-    init = subst (λ (g : Flat). AreFine (init_types f) g.init) (sym d.is) (subst (λ ts. AreFine ts d.init) (sym (flat_init_types system code f d)) (fine_alone types d.init init_fine.at));
+    further = subst (λ ts. All (IsTyped ts) f.further) (sym (flat_types system code f d)) (subst (All (IsTyped types)) (sym further_is) init_fine.1);
+    further_reads = All-weaker (ReadsTyped (constants_typed f)) (ReadsBelow (length f.constants)) (λ e h. subst (λ n. ReadsBelow n e) counted (below (constants_typed f) e h)) f.further own_types.further;
+    init = subst (λ ts. AreFine ts f.init) (sym (flat_init_types system code f d)) (subst (AreFine wide) (sym init_code_is) init_fine.0);
     init_reads = subst (λ n. CodeReadsBelow n f.init) counted (code_below (constants_typed f) f.init own_types.init);
     step = subst (λ (g : Flat). AreFine (cell_types f ++ cell_types f) g.step) (sym d.is)
         (subst (λ ts. AreFine (ts ++ ts) (step_code (cells_of system) d.next)) (sym (flat_types system code f d)) (fine_alone (types ++ types) (step_code (cells_of system) d.next) step_fine.at));

@@ -1,6 +1,7 @@
 -- Which refusals are right. A pass refuses files with its first fault: it accepts all files before, and the passes before it accept all files.
-use Rattle.std.specs.Prelude.{◌≡◌, ◌⊎◌, ℕ, ◌+◌, ◌-◌, ◌<◌, List, [], ◌∷◌, ◌++◌, length, take, slice_get, unwrap_or, false, Option, Some, None}
+use Rattle.std.specs.Prelude.{◌≡◌, ◌⊎◌, ℕ, ◌+◌, ◌-◌, ◌<◌, List, [], ◌∷◌, length, take, slice_get, unwrap_or, Option, Some, None}
 use Rattle.std.specs.List.{concat}
+use Rattle.std.specs.Option.{option_or}
 use Rattle.uc_lexer.specs.declared.place.Place.{Place}
 use Rattle.uc_lexer.specs.declared.fault.LexFault.{LexFault}
 use Rattle.uc_lexer.specs.declared.fault.LexFault.TheVariants as lexical
@@ -10,11 +11,10 @@ use Rattle.uc_lexer.specs.Text.{FirstFault}
 use Rattle.uc_syntax.specs.declared.declaration.Module.{Module}
 use Rattle.uc_forms.specs.Answer.{Answer, spelled, wrong, too_deep, too_many}
 use Rattle.uc_grammar.specs.declared.word.Word.{Word}
-use Rattle.uc_words.specs.Words.{AreWords}
-use Rattle.uc_built.specs.Outside.{left_at}
-use Rattle.uc_meaning.specs.Lookup.{System, or_else}
+use Rattle.uc_meaning.specs.Lookup.{System}
 use Rattle.uc_runnable.specs.Unfit.{unfit_of}
 use Rattle.uc_runnable.specs.Runnable.{IsRunnable}
+use Rattle.uc_outside.specs.Outside.{outside_in}
 use Rattle.uc_front.specs.declared.lexing.Source.{Source}
 use Rattle.uc_front.specs.declared.refusal.Refusal.{Refusal}
 use Rattle.uc_front.specs.declared.refusal.Refusal.TheVariants.{NoFile, TooLong, BadByte, BadNumber, OpenComment, Syntax, TooDeep, TooManyNames, NoMain, BreaksRule, NotBuilt}
@@ -59,15 +59,9 @@ IsUnspelled names sources r =
     (n : ℕ) × (source : Source) × (modules : List Module) × (answer : Answer Word (List Module)) × (slice_get sources n ≡ Some source) × AreSpelled names (take n sources) modules
     × HasAnswer names source answer × (refusal_of (place_of n source.text (length source.text)) answer ≡ Some r)
 
--- the words of all texts, one behind the other
-abbrev pub AreJoined : List (List ℕ) → List Source → List Word → Type 0
-AreJoined names [] ws = ws ≡ []
-AreJoined names (source ∷ sources) ws =
-    (first : List Word) × (others : List Word) × AreWords names source.text source.tokens first × AreJoined names sources others × (ws ≡ first ++ others)
-
--- Where a design that does not run is at fault: the texts name the first form that does not run there; where they name none, its one module is at fault there; else it is the front of the first file.
-abbrev pub IsLeftAt : List (List ℕ) → List Source → System → Place → Type 0
-IsLeftAt names sources system p = (ws : List Word) × AreJoined names sources ws × (p ≡ unwrap_or (or_else (left_at false ws) (unfit_of system)) (front 0))
+-- Where a design that does not run is at fault: at the first form that does not run, in the order of its texts; where there is none, where its one module is at fault; else at the front of the first file.
+abbrev pub IsLeftAt : System → Place → Type 0
+IsLeftAt system p = p ≡ unwrap_or (option_or (outside_in system.modules system.main) (unfit_of system)) (front 0)
 
 -- The passes behind lexing refuse: parsing; no module is called `main`; the design breaks a static rule, or else a rule on order or sizes, and this is the first fault, by
 -- its place and then by its number; or it keeps the rules and is none that runs today.
@@ -78,7 +72,7 @@ IsUnbuilt files sources (TooManyNames p) = IsUnspelled (names_of files sources) 
 IsUnbuilt files sources NoMain = (modules : List Module) × AreSpelled (names_of files sources) sources modules × (main_in (names_of files sources) modules ≡ None)
 IsUnbuilt files sources (BreaksRule fault) = (system : System) × IsDesignOf files sources system × IsFirstBroken system fault
 IsUnbuilt files sources (NotBuilt p) =
-    (system : System) × IsDesignOf files sources system × IsKept system × (IsRunnable system → ⊥) × IsLeftAt (names_of files sources) sources system p
+    (system : System) × IsDesignOf files sources system × IsKept system × (IsRunnable system → ⊥) × IsLeftAt system p
 IsUnbuilt files sources other = ⊥
 
 -- Which refusals are right for what is held under the files' names: a pass refuses with it, and the passes before accept all files.

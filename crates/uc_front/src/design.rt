@@ -15,13 +15,13 @@ ghost use Rattle.uc_front.specs.Sources.{words_of, AreLexed, texts_of};
 
 use crate::error::FrontError;
 use crate::lexing::Source;
-use crate::outside::left_at;
 use crate::parsing::{intern_all, parse_all};
 use crate::reading::MAX_FILES;
-use crate::refusal::Refusal;
+use crate::refusal::{Refusal, left_at};
 use std::alloc::Global;
 use uc_lexer::MAX_TEXT;
 use uc_order::{OrderError, order};
+use uc_outside::outside_in;
 use uc_runnable::{NotRunnable, Runnable};
 use uc_syntax::{Design, Module, Names};
 use uc_types::{TypeError, TypedDesign, check};
@@ -51,6 +51,7 @@ pub(crate) fn design_of(
         return Err(FrontError::NoMemory);
     };
     let kept = checked(alloc, design, main)?;
+    let outside = outside_in(kept.modules().as_slice(), main);
     match Runnable::of(alloc, kept, main) {
         Ok(runnable) => {
             runnable.keeps();
@@ -58,7 +59,7 @@ pub(crate) fn design_of(
         }
         Err(NotRunnable::NoMemory) => Err(FrontError::NoMemory),
         Err(NotRunnable::NotBuilt(unfit)) => {
-            let place = left_at(alloc, files, sources, unfit)?;
+            let place = left_at(outside, unfit);
             Err(FrontError::Refused(Refusal::NotBuilt(place)))
         }
     }

@@ -8,7 +8,6 @@ mod design;
 mod error;
 mod front;
 mod lexing;
-mod outside;
 mod parsing;
 mod reading;
 mod refusal;

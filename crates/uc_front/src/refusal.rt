@@ -1,6 +1,7 @@
 //! Why texts are refused.
 
-ghost use Rattle.std.specs.Prelude.{◌≡◌};
+ghost use Rattle.std.specs.Prelude.{◌≡◌, unwrap_or};
+ghost use Rattle.std.specs.Option.{option_or};
 ghost use Rattle.uc_front.specs.Refusals.{front, number_of, place_of};
 
 use uc_lexer::Place;
@@ -30,8 +31,8 @@ pub enum Refusal {
     /// The design breaks a static rule or, where it keeps these, a rule on order or sizes. This is the fault at the first place, and there the one of the
     /// least number.
     BreaksRule(Fault),
-    /// The design keeps the rules and is none of those that run today: at this token the texts name the first form that does not run. Where they name
-    /// none, it is the first declaration or statement that has no form over cells, or else the front of the first file.
+    /// The design keeps the rules and is none of those that run today: this is the first form, in the order of the texts, that does not run. Where
+    /// there is none, it is the first declaration or statement that has no form over cells, or else the front of the first file.
     NotBuilt(Place),
 }
 
@@ -83,4 +84,12 @@ pub(crate) fn front(file: u16) -> Place
         line: 1,
         col: 1,
     }
+}
+
+/// Where a design that does not run is at fault: at the first form that does not run, if there, else where its one module is at fault, if
+/// there, else at the front of the first file.
+pub(crate) fn left_at(outside: Option<Place>, unfit: Option<Place>) -> Place
+    ensures { result ≡ unwrap_or (option_or outside unfit) (front 0) }
+{
+    outside.or(unfit).unwrap_or(front(0))
 }

@@ -8,8 +8,9 @@ use Rattle.uc_meaning.specs.Lookup.{System, init_of}
 use Rattle.uc_meaning.specs.Cells.{cells_of}
 use Rattle.uc_flat.specs.declared.flat.Flat.{Flat}
 use Rattle.uc_flat_code.specs.Code.{code_of}
+use Rattle.uc_flat_init.specs.CellTypes.{cell_type_of}
+use Rattle.uc_flat_init.specs.Init.{init_code}
 use Rattle.uc_flat_names.specs.Names.{names_over_cells, names_of_constants}
-use Rattle.uc_flat_design.specs.Sequential.{plainly}
 use Rattle.uc_flat_design.specs.Next.{primed_behind}
 use Rattle.uc_flat_design.specs.Design.{next_names, next_arranged, invariant_in, axiom_in, formulas_from, flat_with, IsFlatOf}
 use Rattle.uc_flat_lines.specs.declared.line.FlatLine.{FlatLine}
@@ -33,7 +34,7 @@ head_of d (m ∷ ms) = m
 pub one_flat : (system : System) (code other : Module) (f g : Flat) → IsFlatOf system code f → IsFlatOf system other g → f ≡ g
 one_flat system code other f g d e =
     let same : code ≡ other = ap (head_of code) (sym d.only ∙ e.only) in
-    let init : d.init ≡ e.init = same_Some d.init e.init (sym d.init_is ∙ ap (λ m. code_of (names_over_cells system m) plainly (init_of m)) same ∙ e.init_is) in
+    let init : d.init ≡ e.init = same_Some d.init e.init (sym d.init_is ∙ ap (λ m. init_code (cell_type_of system m) (names_over_cells system m) (length (cells_of system)) (init_of m)) same ∙ e.init_is) in
     let next : d.next ≡ e.next = same_Some d.next e.next (sym d.next_is ∙ ap (λ m. code_of (next_names system m) (primed_behind (length (cells_of system))) (next_arranged system m)) same ∙ e.next_is) in
     let axioms : d.axioms ≡ e.axioms = same_Some d.axioms e.axioms (sym d.axioms_are ∙ ap (λ m. formulas_from (axiom_in (names_of_constants system m)) 0 m.decls) same ∙ e.axioms_are) in
     let formulas : d.formulas ≡ e.formulas = same_Some d.formulas e.formulas (sym d.formulas_are ∙ ap (λ m. formulas_from (invariant_in (names_over_cells system m)) 0 m.decls) same ∙ e.formulas_are) in

@@ -1,3 +1,4 @@
 pub mod Begins
 pub mod Answers
 pub mod Ready
+pub mod Beginnings

@@ -1,5 +1,5 @@
 -- Where a module that does not run is at fault: its first declaration, or statement of a block, that has no form over cells.
-use Rattle.std.specs.Prelude.{ℕ, Bool, ◌&&◌, nat_eq, nat_le, if◌then◌else◌, List, [], ◌∷◌, map, length, Option, Some, None}
+use Rattle.std.specs.Prelude.{◌≡◌, ℕ, ◌+◌, Bool, ◌&&◌, nat_eq, nat_le, if◌then◌else◌, List, [], ◌∷◌, map, length, Option, Some, None}
 use Rattle.std.specs.Option.{option_and_then}
 use Rattle.std.specs.List.{list_all}
 use Rattle.uc_lexer.specs.declared.place.Place.{Place}
@@ -26,9 +26,10 @@ use Rattle.uc_flat_code.specs.declared.writing.Writing.{Writing}
 use Rattle.uc_flat_code.specs.Code.{code_of}
 use Rattle.uc_flat_order.specs.Arranged.{code_arranged}
 use Rattle.uc_flat_names.specs.Names.{names_over_cells, without_cell}
-use Rattle.uc_flat_design.specs.Sequential.{plainly}
+use Rattle.uc_flat_init.specs.CellTypes.{Types, is_cell_type, cell_type_of}
+use Rattle.uc_flat_init.specs.Init.{Made, making_of}
 use Rattle.uc_flat_design.specs.Next.{primed_behind, names_between}
-use Rattle.uc_flat_design.specs.Design.{is_built, is_cell_type, condition_of}
+use Rattle.uc_flat_design.specs.Design.{is_built, condition_of}
 use Rattle.uc_fragment.specs.Plain.{with_variables, is_print}
 
 -- the place of a part, where nothing came of it
@@ -67,6 +68,21 @@ unfit_block names w block = first_some (unfit_statement names w) block
 abbrev pub unfit_next : List Meant → Writing → Place → List Stmt → Option Place
 unfit_next names w place block = or_else (unfit_block names w block) (unless_there place (code_arranged names w block))
 
+-- the place of a statement that gives nothing, or one behind what it gives
+abbrev pub or_behind : Place → (Made → Option Place) → Option Made → Option Place
+or_behind place rest None = Some place
+or_behind place rest (Some made) = rest made
+
+-- the first statement of an init block that has no code over cells, where names stand for the locals that are declared before it; the next further cell has number n
+unfoldable pub unfit_init : Types → List Meant → ℕ → List Stmt → Option Place
+unfit_init types names n [] = None
+unfit_init types names n (s ∷ block) = or_behind (begins_at s) (λ made. unfit_init types made.names (n + length made.further) block) (making_of types s names n)
+
+-- what names stand for behind a statement, and the number of the next further cell there; None where it gives nothing
+abbrev pub IsBehind : Option Made → List Meant → ℕ → Option ℕ → Type 0
+IsBehind given names n None = given ≡ None
+IsBehind given names n (Some k) = (made : Made) × (given ≡ Some made) × (made.names ≡ names) × (n + length made.further ≡ k)
+
 -- ---- declarations
 
 abbrev pub unfit_type : System → Module → Place → TypeExpr → Option Place
@@ -103,7 +119,7 @@ unfit system m names cells count (OpaqueType place i) = Some place
 unfit system m names cells count (TypeImport place n) = Some place
 unfit system m names cells count (TypeAlias place i type) = unfit_type system m place type
 unfit system m names cells count (Variables place kind is type) = unfit_type system m place type
-unfit system m names cells count (Init place block) = unfit_block names plainly block
+unfit system m names cells count (Init place block) = unfit_init (cell_type_of system m) names count block
 unfit system m names cells count (Next place block) = unfit_next (names_between count names) (primed_behind count) place block
 unfit system m names cells count (Invariant place i e) = unfit_condition names place e
 unfit system m names cells count (Axiom place i e) = unfit_condition (map without_cell names) place e

@@ -11,7 +11,7 @@ ghost use Rattle.uc_flat_design.specs.Design.{is_built, condition_of};
 ghost use Rattle.uc_runnable.specs.Unfit.{unfit_condition, unfit, unfit_in, unfit_only, unfit_of};
 
 use crate::control::unfit_commands;
-use crate::statements::{unfit_block, unfit_next};
+use crate::statements::{unfit_init, unfit_next};
 use crate::types::unfit_type;
 use std::alloc::{AllocError, Global};
 use uc_flat_code::Writing;
@@ -63,13 +63,7 @@ fn unfit(
         Decl::TypeImport(place, _) => Ok(Some(*place)),
         Decl::TypeAlias(place, _, ty) => unfit_type(alloc, tables, code, *place, ty),
         Decl::Variables(place, _, _, ty) => unfit_type(alloc, tables, code, *place, ty),
-        Decl::Init(_, block) => {
-            let writing = Writing {
-                primed: false,
-                shift: 0,
-            };
-            unfit_block(alloc, names, writing, block.as_slice())
-        }
+        Decl::Init(_, block) => unfit_init(alloc, tables, code, names, count, block.as_slice()),
         Decl::Next(place, block) => {
             let writing = Writing {
                 primed: true,

@@ -1,16 +1,21 @@
 //! Statements that have no code over cells.
 
-ghost use Rattle.std.specs.Prelude.{◌≡◌, ◌∷◌, [], IfOk};
+ghost use Rattle.std.specs.Prelude.{◌≡◌, ◌+◌, ◌∷◌, [], IfOk, IfSome};
 ghost use Rattle.std.specs.Option.{is_some};
 ghost use Rattle.uc_flat_code.specs.Code.{code_of};
+ghost use Rattle.uc_flat_init.specs.CellTypes.{cell_type_of};
+ghost use Rattle.uc_flat_init.specs.Init.{making_of};
 ghost use Rattle.uc_flat_order.specs.Arranged.{code_arranged};
-ghost use Rattle.uc_runnable.specs.Unfit.{begins_at, unless_there, unfit_statement, unfit_block, unfit_next};
+ghost use Rattle.uc_runnable.specs.Unfit.{begins_at, unless_there, unfit_statement, unfit_block, unfit_next, unfit_init, IsBehind};
 
 use std::alloc::{AllocError, Global};
 use uc_flat_code::{Writing, flat_code};
 use uc_flat_expressions::{FlatError, Meant};
+use uc_flat_init::{copy_names, statement_code};
 use uc_flat_order::code_arranged;
-use uc_syntax::{Place, Stmt};
+use uc_items::Items;
+use uc_syntax::{Module, Place, Stmt};
+use uc_type_reader::Tables;
 
 /// The place where a statement begins.
 #[tactic(auto, using(crate::proofs::Begins::begins_local, crate::proofs::Begins::begins_skip, crate::proofs::Begins::begins_block, crate::proofs::Begins::begins_assert, crate::proofs::Begins::begins_assume, crate::proofs::Begins::begins_havoc, crate::proofs::Begins::begins_assign, crate::proofs::Begins::begins_if, crate::proofs::Begins::begins_case, crate::proofs::Begins::begins_for, crate::proofs::Begins::begins_call, crate::proofs::Begins::begins_next))]
@@ -69,7 +74,7 @@ fn has_code_arranged(
 
 /// The place of the first statement of a block that has no code over cells.
 #[tactic(auto, unfolding(uc_meaning::specs::Lookup::first_some))]
-pub(crate) fn unfit_block(
+fn unfit_block(
     alloc: Global,
     names: &[Meant],
     writing: Writing,
@@ -101,6 +106,61 @@ pub(crate) fn unfit_next(
     }
     if !has_code_arranged(alloc, names, writing, block)? {
         return Ok(Some(place));
+    }
+    Ok(None)
+}
+
+/// The number of the next further cell behind a statement of an init block, where names stand for its locals from then on; none where it has
+/// no code over cells. Numbers of cells are below 2^32: a greater one counts as want of memory.
+#[tactic(auto, using(crate::proofs::Beginnings::behind_made))]
+fn number_behind(
+    alloc: Global,
+    tables: &Tables,
+    code: &Module,
+    names: &mut Items<Meant>,
+    number: u32,
+    statement: &Stmt,
+) -> Result<Option<u32>, AllocError>
+    ensures { IfOk result (IsBehind (making_of (cell_type_of tables.now code.now) statement.now names.old number) names.new number) }
+{
+    match statement_code(alloc, tables, code, names, number, statement) {
+        Ok(made) => match later(number, made.further.len()) {
+            Some(next) => Ok(Some(next)),
+            None => Err(AllocError),
+        },
+        Err(FlatError::NotBuilt) => Ok(None),
+        Err(FlatError::NoMemory) => Err(AllocError),
+    }
+}
+
+/// The number so many behind another, where it is below 2^32.
+fn later(number: u32, count: usize) -> Option<u32>
+    ensures { IfSome result (λ k. number + count ≡ k) }
+{
+    let Ok(count) = u32::try_from(count) else {
+        return None;
+    };
+    number.checked_add(count)
+}
+
+/// The place of the first statement of an init block that has no code over cells.
+pub(crate) fn unfit_init(
+    alloc: Global,
+    tables: &Tables,
+    code: &Module,
+    names: &[Meant],
+    count: u32,
+    block: &[Stmt],
+) -> Result<Option<Place>, AllocError>
+    ensures { IfOk result (λ p. p ≡ unfit_init (cell_type_of tables.now code.now) names.now count block.now) }
+{
+    let mut standing = copy_names(alloc, names)?;
+    let mut number = count;
+    for statement in block {
+        match number_behind(alloc, tables, code, &mut standing, number, statement)? {
+            Some(next) => number = next,
+            None => return Ok(Some(begins_at(statement))),
+        }
     }
     Ok(None)
 }

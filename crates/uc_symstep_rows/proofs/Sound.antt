@@ -16,7 +16,7 @@ use Rattle.uc_flat.specs.declared.flat.Flat.{Flat}
 use Rattle.uc_flat.specs.declared.flat.Formula.{Formula}
 use Rattle.uc_flat.specs.Reading.{type_of}
 use Rattle.uc_flat.specs.Fine.{IsTyped, IsTest, AreFine, ReadsBelow}
-use Rattle.uc_flat.specs.Flats.{repeated, IsFormula, IsSound}
+use Rattle.uc_flat.specs.Flats.{wider_types, repeated, IsFormula, IsSound}
 use Rattle.uc_flat.proofs.Forms.{type_cell, type_apply}
 use Rattle.uc_flat.proofs.Making.{typed_cell, typed_apply, reads_cell, reads_apply, fine_assign, reads_assign}
 use Rattle.uc_values.specs.declared.value.Value.{Value}
@@ -25,7 +25,7 @@ use Rattle.uc_ops.specs.declared.node.Node.{Node}
 use Rattle.uc_terms.specs.Values.{value}
 use Rattle.uc_flat.specs.Unrolled.{is_refuted, reached}
 use Rattle.uc_symstep.specs.Growing.{IsTerm}
-use Rattle.uc_symstep_rows.specs.Toggles.{low, turned, is_high, toggle, no_symbol}
+use Rattle.uc_symstep_rows.specs.Toggles.{low, turned, gives, is_high, toggle, no_symbol}
 
 none : {A : Type 0} (P : A → Type 0) → All P []
 none P k d l = absurd (omega (arith, l))
@@ -49,13 +49,17 @@ high_test : IsTest (repeated 1 (Bool ∷ [])) (Cell 0)
 unfolding repeated
 high_test = record { typed = typed_cell (Bool ∷ []) 0 (omega arith); boolean = type_cell (Bool ∷ []) 0 }
 
+-- the types of the cells of the init code
+wide_types : wider_types (Bool ∷ []) (low ∷ []) ≡ Bool ∷ Bool ∷ []
+wide_types = ap (λ t. Bool ∷ t ∷ []) (type_apply (Bool ∷ []) (Const Bool (Truth false)) [])
+
 pub toggle_sound : IsSound toggle
 toggle_sound = record {
   valid = one Valid Bool valid-Bool;
-  further = none (IsTyped (Bool ∷ []));
-  further_reads = none (ReadsBelow 0);
-  init = fine_assign (Bool ∷ []) 0 low (low_typed (Bool ∷ [])) (ap Some (sym (type_apply (Bool ∷ []) (Const Bool (Truth false)) [])));
-  init_reads = reads_assign 0 0 low low_reads;
+  further = one (IsTyped (Bool ∷ [])) low (low_typed (Bool ∷ []));
+  further_reads = one (ReadsBelow 0) low low_reads;
+  init = subst (λ types. AreFine types (gives 0 (Cell 1))) (sym wide_types) (fine_assign (Bool ∷ Bool ∷ []) 0 (Cell 1) (typed_cell (Bool ∷ Bool ∷ []) 1 (omega arith)) (ap Some (sym (type_cell (Bool ∷ Bool ∷ []) 1))));
+  init_reads = reads_assign 0 0 (Cell 1) (reads_cell 0 1);
   step = fine_assign (Bool ∷ Bool ∷ []) 1 turned turned_typed (ap Some (sym (type_apply (Bool ∷ Bool ∷ []) Not (Cell 0 ∷ []))));
   step_reads = reads_assign 0 1 turned turned_reads;
   formulas = one (IsFormula toggle) is_high (record { test = high_test; reads = reads_cell 0 0 });

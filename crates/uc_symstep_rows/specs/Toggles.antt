@@ -1,4 +1,4 @@
--- A design of one boolean, which is false at first and turned at each step.
+-- A design of one boolean, which is false at first, as a further cell of its init code is, and turned at each step.
 use Rattle.std.specs.Prelude.{ℕ, false, List, [], ◌∷◌}
 use Rattle.uc_values.specs.declared.ty.Ty.TheVariants.{Bool}
 use Rattle.uc_values.specs.declared.value.Value.TheVariants.{Bool as Truth}
@@ -29,8 +29,8 @@ toggle = record {
   cells = record { path = []; name = 0; ty = Bool } ∷ [];
   constants = [];
   functions = [];
-  further = [];
-  init = gives 0 low;
+  further = low ∷ [];
+  init = gives 0 (Cell 1);
   step = gives 1 turned;
   sites = [];
   formulas = is_high ∷ [];

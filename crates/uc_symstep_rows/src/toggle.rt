@@ -56,11 +56,20 @@ fn formulas(alloc: Global) -> Result<Items<Formula>, AllocError>
     Ok(formulas)
 }
 
-/// The boolean is false.
+/// The further cell is false.
+fn further(alloc: Global) -> Result<Items<Expression>, AllocError>
+    ensures { IfOk result (λ es. es ≡ toggle.further) }
+{
+    let mut further = Items::new(alloc);
+    further.push(low(alloc))?;
+    Ok(further)
+}
+
+/// The boolean takes the value of the further cell.
 fn init(alloc: Global) -> Result<Items<Statement>, AllocError>
     ensures { IfOk result (λ code. code ≡ toggle.init) }
 {
-    gives(alloc, 0, low(alloc))
+    gives(alloc, 0, Expression::Cell(1))
 }
 
 /// The boolean is turned.
@@ -71,19 +80,20 @@ fn step(alloc: Global) -> Result<Items<Statement>, AllocError>
     gives(alloc, 1, next)
 }
 
-/// The boolean is cell 0, and the formula says that it is true.
+/// The boolean is cell 0, which the init code takes from a further cell, and the formula says that it is true.
 pub(crate) fn toggle(alloc: Global) -> Result<Flat, AllocError>
     ensures { IfOk result (λ f. f ≡ toggle) }
 {
     let cells = cells(alloc)?;
     let formulas = formulas(alloc)?;
+    let further = further(alloc)?;
     let init = init(alloc)?;
     let step = step(alloc)?;
     Ok(Flat {
         cells,
         constants: Items::new(alloc),
         functions: Items::new(alloc),
-        further: Items::new(alloc),
+        further,
         init,
         step,
         sites: Items::new(alloc),

@@ -1,9 +1,12 @@
-use Rattle.std.specs.Prelude.{Err, IfErr}
+use Rattle.std.specs.Prelude.{Err, IfErr, unwrap_or}
+use Rattle.std.specs.Option.{option_or}
 use Rattle.std.proofs.Common.{◌≡◌, map, slice_get, Some, refl, sym, ap, ◌∙◌, subst, rules}
 use Rattle.uc_rules.specs.Declarations.{KeepsRules}
 use Rattle.uc_meaning.specs.Lookup.{System, system_of}
 use Rattle.uc_runnable.specs.declared.runnable.NotRunnable.TheVariants.{NotBuilt}
 use Rattle.uc_runnable.specs.Runnable.{IsNoneFor, IsRunnable}
+use Rattle.uc_outside.specs.Outside.{outside_in}
+use Rattle.uc_front.specs.Refusals.{front}
 use Rattle.uc_front.specs.Sources.{words_of}
 use Rattle.uc_front.specs.Denotes.{names_of, AreSpelled, main_in, main_name, IsDesignOf, IsKept}
 use Rattle.uc_front.specs.Errors.{IsTextError}
@@ -38,8 +41,8 @@ returns-in_err-kept-clause-refused c =
     in
     search (rules, told)
 
-pub returns-in_ok-place-in-Err-NotBuilt-clause-refused : goal.returns-in_ok-place-in-Err-NotBuilt-clause-refused
-returns-in_ok-place-in-Err-NotBuilt-clause-refused c =
+pub returns-in-Err-NotBuilt-clause-refused : goal.returns-in-Err-NotBuilt-clause-refused
+returns-in-Err-NotBuilt-clause-refused c =
     let system : System = system_of c.in_ok-design.design c.in-Ok.main in
     let names : c.in_ok-design.design.names ≡ names_of (words_of c.args.files.now) c.args.sources.now = c.in_ok-design.ensures.names in
     let files : map (slice_get c.in_ok-design.design.names) c.in_ok-design.design.files ≡ map (λ f. Some f) (words_of c.args.files.now) = c.in_ok-design.ensures.files in
@@ -50,4 +53,6 @@ returns-in_ok-place-in-Err-NotBuilt-clause-refused c =
     let of_kept : IsNoneFor (system_of c.in_ok-kept.kept c.in-Ok.main) (NotBuilt c.in-Err-NotBuilt.unfit) =
     subst (λ r. IfErr r (IsNoneFor (system_of c.in_ok-kept.kept c.in-Ok.main))) (c.in-Err-NotBuilt.is ∙ ap Err c.in-Err-NotBuilt.field-0-is) c.of.ensures.none in
     let told : IsNoneFor system (NotBuilt c.in-Err-NotBuilt.unfit) = subst (λ d. IsNoneFor (system_of d c.in-Ok.main) (NotBuilt c.in-Err-NotBuilt.unfit)) c.in_ok-kept.ensures.same of_kept in
-    (system, denoted, keeps, told.0, c.in_ok-place-in-Err-NotBuilt.ensures system told.1)
+    let modules_are : c.as_slice-2.result.now ≡ system.modules = search rules in
+    let outside = c.outside_in-outside.ensures ∙ ap (λ ms. outside_in ms c.in-Ok.main) modules_are in
+    (system, denoted, keeps, told.0, c.left_at-place.ensures ∙ (λ j. unwrap_or (option_or (outside j) (told.1 j)) (front 0)))

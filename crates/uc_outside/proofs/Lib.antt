@@ -1,0 +1,4 @@
+pub mod Firsts
+pub mod NumberForms
+pub mod TypeForms
+pub mod StatementForms
