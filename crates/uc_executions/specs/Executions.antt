@@ -1,5 +1,6 @@
 -- The entry of a procedure, how its body ends, and what is met there.
-use Rattle.std.specs.Prelude.{List, []}
+use Rattle.std.specs.Prelude.{false, List, [], Option, Some, None}
+use Rattle.uc_syntax.specs.declared.expression.Expr.{Expr}
 use Rattle.uc_syntax.specs.declared.declaration.Procedure.{Procedure}
 use Rattle.uc_syntax.specs.declared.declaration.Module.{Module}
 use Rattle.uc_values.specs.declared.value.Value.{Value}
@@ -13,6 +14,8 @@ use Rattle.uc_meaning.specs.Code.{Ending, then_run, run, declare, names_with_typ
 use Rattle.uc_meaning.specs.Steps.{scope_of}
 use Rattle.uc_meaning.specs.Ends.{begun}
 use Rattle.uc_overflows.specs.Runs.{met_after, run_met}
+use Rattle.uc_trace_checks.specs.Asked.{Asked}
+use Rattle.uc_trace_checks.specs.Judged.{falsity_asked}
 
 -- where a procedure of main begins
 abbrev pub entry_at : System → Module → Interp → Procedure → State → List Value → Scope
@@ -24,3 +27,8 @@ body_ending system m p s choices = then_run (declare system m (names_with_types 
 
 abbrev pub body_met : System → Module → Procedure → Scope → List Value → List Wide
 body_met system m p s choices = met_after (declare system m (names_with_types p.results) (begun s choices)) (run_met system p.body)
+
+-- whether an `ensures` is there and false at an exit
+abbrev pub ensures_asked : System → State → Scope → Option Expr → Asked
+ensures_asked system entry exit None = record { holds = false; met = [] }
+ensures_asked system entry exit (Some e) = falsity_asked system (record exit { at_entry = Some entry }) e

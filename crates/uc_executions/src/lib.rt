@@ -5,9 +5,11 @@
 #![tactic(auto)]
 
 mod body;
+mod ensured;
 mod entry;
 mod required;
 
 pub use body::body_end;
+pub use ensured::ensures_fails;
 pub use entry::{entry_scope, execution_end};
 pub use required::requires_hold;
