@@ -1,7 +1,9 @@
-//! Worked rows of steps, and of their nearest neighbours that are none, which only tests run.
+//! Worked rows of steps and of traces that refute a line, and of their nearest neighbours, which only tests run.
 #![tactic(auto)]
 
 #[cfg(test)]
 mod layout;
 #[cfg(test)]
 mod rows;
+#[cfg(test)]
+mod traces;

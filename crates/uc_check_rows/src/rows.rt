@@ -5,7 +5,8 @@ use std::alloc::{AllocError, Global};
 use std::process::Abort;
 use std::test::Fail;
 use uc_checks::step_holds;
-use uc_items::{Boxed, Items};
+use uc_items::{Boxed, Items, beside};
+use uc_layout::Layout;
 use uc_meaning::{Interp, State, WideOp};
 use uc_operators::EvalError;
 use uc_values::Value;
@@ -15,7 +16,7 @@ use uc_values::Value;
 enum Now {
     Whole(i128),
     Truth(bool),
-    /// The array f, which has this number also at this index.
+    /// The array f, which is 5 at 3, with this number at another index.
     At(i128, i128),
     Pair(i128, bool),
 }
@@ -63,7 +64,19 @@ const P: usize = 7;
 
 const Z: usize = 8;
 
-/// From the state where port is 0, x is 1, y is 2, big is 2^127 - 1, w is 0, q is false, f is 5 at 3 and else 0, p is (2, true) and z is 6.
+/// The old state: port is 0, x is 1, y is 2, big is 2^127 - 1, w is 0, q is false, f is 5 at 3 and else 0, p is (2, true) and z is 6.
+const OLD: [Now; 9] = [
+    Whole(0),
+    Whole(1),
+    Whole(2),
+    Whole(i128::MAX),
+    Whole(0),
+    Truth(false),
+    At(3, 5),
+    Pair(2, true),
+    Whole(6),
+];
+
 const ROWS: [Row; 46] = [
     (b"", &[], &[], Steps(0)),
     (b"", &[(PORT, Whole(9))], &[], Steps(0)),
@@ -213,11 +226,11 @@ const ROWS: [Row; 46] = [
     (b"call (x') = twice(big);", &[], &[0], Leaves(WideOp::Add)),
 ];
 
-/// The array of whole numbers that is 5 at 3, and else 0; and another number at another index.
-fn array(alloc: Global, more: Option<(i128, i128)>) -> Result<Value, AllocError> {
+/// The array of whole numbers that is 5 at 3, and else 0, with a number at another index.
+fn array(alloc: Global, index: i128, number: i128) -> Result<Value, AllocError> {
     let mut exceptions = Items::new(alloc);
     exceptions.push((Value::Int(3), Value::Int(5)))?;
-    if let Some((index, number)) = more {
+    if index != 3 {
         exceptions.push((Value::Int(index), Value::Int(number)))?;
     }
     Ok(Value::Arr(Boxed::new(alloc, Value::Int(0))?, exceptions))
@@ -234,29 +247,61 @@ fn value(alloc: Global, now: Now) -> Result<Value, AllocError> {
     match now {
         Whole(number) => Ok(Value::Int(number)),
         Truth(truth) => Ok(Value::Bool(truth)),
-        At(index, number) => array(alloc, Some((index, number))),
+        At(index, number) => array(alloc, index, number),
         Pair(number, truth) => pair(alloc, number, truth),
     }
+}
+
+fn changed(changes: &[(usize, Now)], place: usize, old: Now) -> Now {
+    for (cell, now) in changes {
+        if *cell == place {
+            return *now;
+        }
+    }
+    old
 }
 
 /// The old state with other values of some cells.
 fn state(alloc: Global, changes: &[(usize, Now)]) -> Result<State, AllocError> {
     let mut cells = Items::new(alloc);
-    cells.push(Value::Int(0))?;
-    cells.push(Value::Int(1))?;
-    cells.push(Value::Int(2))?;
-    cells.push(Value::Int(i128::MAX))?;
-    cells.push(Value::Int(0))?;
-    cells.push(Value::Bool(false))?;
-    cells.push(array(alloc, None)?)?;
-    cells.push(pair(alloc, 2, true)?)?;
-    cells.push(Value::Int(6))?;
-    for (cell, now) in changes {
-        if *cell < cells.len() {
-            cells.set(*cell, value(alloc, *now)?);
-        }
+    for (place, old) in OLD.iter().enumerate() {
+        cells.push(value(alloc, changed(changes, place, *old))?)?;
     }
     Ok(State { cells })
+}
+
+fn choices(alloc: Global, numbers: &[i128]) -> Result<Items<Value>, AllocError> {
+    let mut choices = Items::new(alloc);
+    for number in numbers {
+        choices.push(Value::Int(*number))?;
+    }
+    Ok(choices)
+}
+
+fn judged(alloc: Global, layout: &Layout, old: &State, new: &State, choices: &[Value]) -> Outcome {
+    let interp = Interp {
+        consts: Items::new(alloc),
+        tables: Items::new(alloc),
+    };
+    match step_holds(alloc, layout, &interp, old, new, choices) {
+        Ok(Some(sites)) => Steps(sites.len()),
+        Ok(None) => NoStep,
+        Err(EvalError::Wide(wide)) => Leaves(wide.op),
+        Err(EvalError::NoMemory) => NoMemory,
+    }
+}
+
+fn outcome_in(
+    alloc: Global,
+    text: &[u8],
+    old: &State,
+    new: &State,
+    choices: &[Value],
+) -> Result<Outcome, AllocError> {
+    match layout_of(alloc, text)? {
+        Some(layout) => Ok(judged(alloc, &layout, old, new, choices)),
+        None => Ok(NotRead),
+    }
 }
 
 fn step(
@@ -265,25 +310,10 @@ fn step(
     changes: &[(usize, Now)],
     numbers: &[i128],
 ) -> Result<Outcome, AllocError> {
-    let Some(layout) = layout_of(alloc, text)? else {
-        return Ok(NotRead);
-    };
-    let interp = Interp {
-        consts: Items::new(alloc),
-        tables: Items::new(alloc),
-    };
     let old = state(alloc, &[])?;
-    let new = state(alloc, changes)?;
-    let mut choices = Items::new(alloc);
-    for number in numbers {
-        choices.push(Value::Int(*number))?;
-    }
-    match step_holds(alloc, &layout, &interp, &old, &new, choices.as_slice()) {
-        Ok(Some(sites)) => Ok(Steps(sites.len())),
-        Ok(None) => Ok(NoStep),
-        Err(EvalError::Wide(wide)) => Ok(Leaves(wide.op)),
-        Err(EvalError::NoMemory) => Ok(NoMemory),
-    }
+    let states = beside(old, state(alloc, changes))?;
+    let (states, choices) = beside(states, choices(alloc, numbers))?;
+    outcome_in(alloc, text, &states.0, &states.1, choices.as_slice())
 }
 
 #[test]
