@@ -1,8 +1,8 @@
 -- A term without functions has the same value under models that give its symbols the same values, so that a goal that no fitting model makes true is true under no model.
-use Rattle.std.specs.Prelude.{◌≡◌, ℕ, ◌+◌, ◌<◌, ◌≤◌, true, List, length, slice_get, map, Option, Some, None, All, Contains, zero, suc, Result, Ok, Err, IfOk, IfErr}
+use Rattle.std.specs.Prelude.{◌≡◌, ℕ, ◌+◌, ◌<◌, ◌≤◌, true, List, length, slice_get, Option, Some, Contains, zero, suc, Result, Ok, Err, IfOk, IfErr}
 use Rattle.std.specs.Option.{option_map}
 use Rattle.std.proofs.Common.{refl, sym, ap, ◌∙◌, subst, arith}
-use Rattle.std.proofs.lemmas.List.Elements.{All-contains, All-weaker, All-contains_itself}
+use Rattle.std.proofs.lemmas.List.Elements.{All-contains, All-contains_itself}
 use Rattle.uc_values.specs.declared.ty.Ty.{Ty}
 use Rattle.uc_values.specs.declared.value.Value.{Value}
 use Rattle.uc_values.specs.Values.{truth_of}
@@ -13,9 +13,9 @@ use Rattle.uc_ops.specs.declared.node.Node.{Node}
 use Rattle.uc_ops.specs.Typing.{types_at}
 use Rattle.uc_ops.specs.Meaning.{apply}
 use Rattle.uc_ops.proofs.Lists.{at_place, same_map}
-use Rattle.uc_terms.specs.Tables.{HasOp, WellTyped, NoTwoEqual, parts_at, parts_in}
+use Rattle.uc_terms.specs.Tables.{WellTyped, NoTwoEqual, parts_at, parts_in}
 use Rattle.uc_terms.specs.Values.{value, values_at}
-use Rattle.uc_terms.specs.Subterms.{IsSubterm, itself, deeper, EvenlyTyped, FitsTerm}
+use Rattle.uc_terms.specs.Subterms.{IsSubterm, itself, deeper, EvenlyTyped}
 use Rattle.uc_terms.specs.Laws.{IsModelOf, KeepsValues}
 use Rattle.uc_terms.proofs.Values.{value-node}
 use Rattle.uc_lower.specs.Made.{Grows}
@@ -23,17 +23,16 @@ use Rattle.uc_lower.specs.Lowering.{IsSymbol, IsFiniteTerm}
 use Rattle.uc_lower.proofs.Growing.{kept_value, was_subterm, had_op, parts_before}
 use Rattle.uc_models.specs.Symbols.{AppliesNone}
 use Rattle.uc_models.proofs.Setting.{subterm_there}
-use Rattle.uc_models.proofs.Fitted.{Evenly, fitted}
+use Rattle.uc_models.proofs.Fitted.{fitted}
 use Rattle.uc_symstep.specs.Stands.{holds}
 use Rattle.uc_simplify.specs.Simplified.{Grows as GoesOn}
-use Rattle.uc_log.specs.declared.entry.Entry.{Entry}
 use Rattle.uc_log.specs.Problems.{Question}
 use Rattle.uc_solver.specs.declared.answer.Answer.{Answer}
 use Rattle.uc_solver.specs.declared.answer.Answer.TheVariants.{Model as Found, Refuted}
 use Rattle.uc_solver.specs.declared.answer.SolveError.{SolveError}
-use Rattle.uc_solver.specs.declared.answer.SolveError.TheVariants.{Budget}
+use Rattle.uc_solver.specs.declared.answer.SolveError.TheVariants.{NoMemory, Budget}
 use Rattle.uc_solver.specs.Answers.{IsRight, IsCause}
-use Rattle.uc_flat_lines.specs.Deciding.{IsSolution}
+use Rattle.uc_flat_lines.specs.Deciding.{IsSolution, IsSpentFor, solution_of}
 
 data IsKind (op : Op) : Type 0 where
   symbol : (number : ℕ) (ty : Ty) → op ≡ Symbol number ty → IsKind op
@@ -131,13 +130,16 @@ no_model old new goal w two w' there even finite on never m h =
     })
 
 -- from what the solver answers
-pub refuted_none : (old new : List Node) (goal : ℕ) (opened : Option Question) (log : List Entry) (r : Result Answer SolveError) → WellTyped old → NoTwoEqual old → WellTyped new → goal < length old → EvenlyTyped old goal
-    → IsFiniteTerm old goal → GoesOn old new → r ≡ Ok (Refuted log) → IfOk r (IsRight new goal opened) → IsSolution old goal None
-refuted_none old new goal opened log r w two w' there even finite on e h =
-    no_model old new goal w two w' there even finite on (subst (λ x. IfOk x (IsRight new goal opened)) e h).no_model
+pub solution_is : (old new : List Node) (goal : ℕ) (opened : Option Question) (r : Result Answer SolveError) → WellTyped old → NoTwoEqual old → WellTyped new → goal < length old → EvenlyTyped old goal
+    → IsFiniteTerm old goal → GoesOn old new → KeepsValues old new → IfOk r (IsRight new goal opened) → IfOk (solution_of r) (IsSolution old goal)
+solution_is old new goal opened (Ok (Found m)) w two w' there even finite on keeps h = ap truth_of (sym (keeps m goal there)) ∙ h.holds
+solution_is old new goal opened (Ok (Refuted log)) w two w' there even finite on keeps h = no_model old new goal w two w' there even finite on h.no_model
+solution_is old new goal opened (Err Budget) w two w' there even finite on keeps h = tt
+solution_is old new goal opened (Err NoMemory) w two w' there even finite on keeps h = tt
 
-pub found_some : (old new : List Node) (goal : ℕ) (opened : Option Question) (m : Model) (r : Result Answer SolveError) → goal < length old → KeepsValues old new → r ≡ Ok (Found m) → IfOk r (IsRight new goal opened) → IsSolution old goal (Some m)
-found_some old new goal opened m r there keeps e h = ap truth_of (sym (keeps m goal there)) ∙ (subst (λ x. IfOk x (IsRight new goal opened)) e h).holds
-
-pub budget_spent : (nodes : List Node) (goal : ℕ) (opened : Option Question) (here budget before after : ℕ) (r : Result Answer SolveError) → r ≡ Err Budget → IfErr r (IsCause nodes goal opened here budget before after) → before + budget ≤ after
-budget_spent nodes goal opened here budget before after r e h = (subst (λ x. IfErr x (IsCause nodes goal opened here budget before after)) e h).rose
+pub spent_is : (nodes : List Node) (goal : ℕ) (opened : Option Question) (here budget before after : ℕ) (r : Result Answer SolveError) → before ≤ after → IfErr r (IsCause nodes goal opened here budget before after)
+    → IfErr (solution_of r) (IsSpentFor budget before after)
+spent_is nodes goal opened here budget before after (Ok (Found m)) l h = tt
+spent_is nodes goal opened here budget before after (Ok (Refuted log)) l h = tt
+spent_is nodes goal opened here budget before after (Err Budget) l h = h.rose
+spent_is nodes goal opened here budget before after (Err NoMemory) l h = l

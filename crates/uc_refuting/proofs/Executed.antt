@@ -1,5 +1,5 @@
 -- Executions of a procedure of main.
-use Rattle.std.proofs.Common.{◌≡◌, ℕ, zero, suc, ◌-◌, ◌≤◌, List, [], ◌∷◌, ◌++◌, map, length, take, drop, Option, Some, None, Bool, true, false, refl, ap, ◌∙◌, sym, subst, arith}
+use Rattle.std.proofs.Common.{◌≡◌, ℕ, zero, suc, ◌≤◌, List, [], ◌∷◌, ◌++◌, map, length, take, drop, Option, Some, None, Bool, true, false, refl, ap, ◌∙◌, sym, subst, arith}
 use Rattle.std.specs.Prelude.{IsTrue, ◌↔◌, Result, Ok, Err, IfOk}
 use Rattle.std.specs.Bool.{Decides}
 use Rattle.std.specs.List.{flat_map}
@@ -11,7 +11,6 @@ use Rattle.uc_values.specs.declared.value.Value.{Value}
 use Rattle.uc_meaning.specs.declared.overflow.Wide.{Wide}
 use Rattle.uc_meaning.specs.declared.scope.Interp.{Interp}
 use Rattle.uc_meaning.specs.declared.scope.Scope.{Scope}
-use Rattle.uc_meaning.specs.declared.scope.State.{State}
 use Rattle.uc_meaning.specs.declared.scope.Site.{Site}
 use Rattle.uc_meaning.specs.declared.line.Line.{Line}
 use Rattle.uc_meaning.specs.declared.line.What.{What}
@@ -22,7 +21,7 @@ use Rattle.uc_meaning.specs.Types.{type_of_written}
 use Rattle.uc_meaning.specs.Cells.{as_list, FitAll}
 use Rattle.uc_meaning.specs.Code.{requires_of, Ending, Goes, Stopped, Unfit, Running}
 use Rattle.uc_meaning.specs.Ends.{IsEnd}
-use Rattle.uc_meaning.specs.Runs.{Position, IsExecution}
+use Rattle.uc_meaning.specs.Runs.{Position}
 use Rattle.uc_meaning.specs.Lines.{BodyFails, FailsBody, FailsBodyOf, main_declarations}
 use Rattle.uc_operators.specs.declared.error.EvalError.{EvalError}
 use Rattle.uc_trace_checks.specs.Asked.{ask_each}

@@ -1,5 +1,5 @@
 -- All copies of a trace, and what a line judges at their last position.
-use Rattle.std.proofs.Common.{◌≡◌, ℕ, ◌+◌, ◌<◌, ◌≤◌, List, [], ◌∷◌, map, length, drop, get_or, Option, Some, None, Bool, true, false, ◌&&◌, refl, ap, ◌∙◌, sym, subst}
+use Rattle.std.proofs.Common.{◌≡◌, ℕ, ◌+◌, ◌<◌, ◌≤◌, List, [], ◌∷◌, length, drop, get_or, Option, Some, None, Bool, true, false, ◌&&◌, refl, ap, ◌∙◌, sym, subst}
 use Rattle.std.specs.Prelude.{Result, Ok, Err, IfOk}
 use Rattle.std.specs.Bool.{Decides}
 use Rattle.std.specs.List.{All}
@@ -10,15 +10,15 @@ use Rattle.uc_meaning.specs.declared.scope.State.{State}
 use Rattle.uc_meaning.specs.declared.scope.Site.{Site}
 use Rattle.uc_meaning.specs.declared.line.Line.{Line}
 use Rattle.uc_meaning.specs.declared.line.What.{What}
-use Rattle.uc_meaning.specs.declared.line.What.TheVariants.{Formula, AtSite, Ensures}
+use Rattle.uc_meaning.specs.declared.line.What.TheVariants.{AtSite, Ensures}
 use Rattle.uc_meaning.specs.Lookup.{System}
 use Rattle.uc_meaning.specs.Cells.{instances}
-use Rattle.uc_meaning.specs.Runs.{Position, position_at, states_at, AreCopies, AreInStep}
-use Rattle.uc_meaning.specs.Lines.{InvariantsIn, HyperinvariantsIn, FailsAt, FailsAfter, FailsInduction}
+use Rattle.uc_meaning.specs.Runs.{Position, position_at, states_at, AreCopies}
+use Rattle.uc_meaning.specs.Lines.{InvariantsIn, FailsAt, FailsAfter, FailsInduction}
 use Rattle.uc_refuting.specs.declared.walk.Beginning.{Beginning}
 use Rattle.uc_refuting.specs.declared.walk.Beginning.TheVariants.{Initial, Anywhere}
 use Rattle.uc_refuting.specs.Sites.{site_asked}
-use Rattle.uc_refuting.specs.Walks.{Lists, AreStates, ListsAsked}
+use Rattle.uc_refuting.specs.Walks.{Lists, ListsAsked}
 use Rattle.uc_refuting.specs.Answers.{CopyAnswer, CopiesAnswer, WalkAnswer}
 use Rattle.uc_refuting.specs.Refutations.{AreWalked, InvariantsBefore, HyperinvariantsAt, AgreeAt}
 use Rattle.uc_refuting.proofs.Told.{none_decided}

@@ -1,5 +1,5 @@
 -- What answers tell of conditions that are asked one after another.
-use Rattle.std.proofs.Common.{◌≡◌, ℕ, zero, suc, ◌+◌, ◌-◌, ◌<◌, ◌≤◌, ◌⊎◌, inl, inr, List, [], ◌∷◌, length, drop, get_or, Option, Some, None, Bool, true, false, refl, ap, ◌∙◌, sym, subst, below_more, arith}
+use Rattle.std.proofs.Common.{◌≡◌, ℕ, suc, ◌+◌, ◌-◌, ◌<◌, ◌≤◌, inl, inr, List, [], ◌∷◌, length, drop, get_or, Option, Some, None, Bool, true, false, refl, ap, ◌∙◌, sym, subst, below_more, arith}
 use Rattle.std.specs.Prelude.{Result, Ok, Err, IfOk}
 use Rattle.std.specs.Bool.{Decides}
 use Rattle.std.specs.List.{All}

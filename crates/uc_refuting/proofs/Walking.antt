@@ -1,7 +1,6 @@
 -- The states of a copy, one after another.
-use Rattle.std.proofs.Common.{◌≡◌, ℕ, ◌+◌, ◌<◌, ◌≤◌, List, [], ◌∷◌, length, drop, get_or, Option, Some, None, Bool, true, false, inl, refl, ap, ◌∙◌, sym, subst, arith}
+use Rattle.std.proofs.Common.{◌≡◌, ℕ, ◌+◌, ◌<◌, ◌≤◌, List, [], ◌∷◌, length, drop, get_or, Option, Some, None, Bool, inl, refl, ap, ◌∙◌, sym, subst, arith}
 use Rattle.std.specs.Prelude.{Result, Ok, Err, IfOk}
-use Rattle.std.specs.Bool.{Decides}
 use Rattle.std.specs.Option.{option_map}
 use Rattle.std.proofs.lemmas.List.{drop_all, drop_more}
 use Rattle.uc_values.specs.declared.value.Value.{Value}
@@ -14,15 +13,14 @@ use Rattle.uc_meaning.specs.Cells.{IsState}
 use Rattle.uc_meaning.specs.Code.{Goes}
 use Rattle.uc_meaning.specs.Steps.{Kept, IsInitial, IsStep}
 use Rattle.uc_meaning.specs.Runs.{Position, Continues, IsRunListing}
-use Rattle.uc_meaning.specs.Lines.{AreLinked}
 use Rattle.uc_meaning.specs.Answers.{IsStepAnswer}
 use Rattle.uc_operators.specs.declared.error.EvalError.{EvalError}
 use Rattle.uc_operators.specs.declared.error.EvalError.TheVariants.{NoMemory, Wide as TooWide}
 use Rattle.uc_starts.specs.Starts.{IsStartAnswer}
 use Rattle.uc_refuting.specs.declared.walk.Beginning.{Beginning}
 use Rattle.uc_refuting.specs.declared.walk.Beginning.TheVariants.{Initial, Anywhere}
-use Rattle.uc_refuting.specs.Tellings.{Nothing, Followed, Tells}
-use Rattle.uc_refuting.specs.Walks.{Begins, Lists, AreStates, ListsAsked, asks_site, HasStep, FirstTells, StepTells, StepsTell, CopyTells}
+use Rattle.uc_refuting.specs.Tellings.{Followed, Tells}
+use Rattle.uc_refuting.specs.Walks.{Begins, Lists, AreStates, asks_site, HasStep, FirstTells, StepTells, StepsTell, CopyTells}
 use Rattle.uc_refuting.specs.Answers.{IsAnswer, AreSites, StepsAnswer, CopyAnswer}
 use Rattle.uc_refuting.proofs.Told.{told_on, told_stop, told_here, told_next}
 

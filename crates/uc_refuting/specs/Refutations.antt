@@ -1,5 +1,5 @@
 -- What is met where a trace is asked whether it refutes a line: the conditions of the definition in its order, up to the first that does not hold; in each of them copies come first, then positions, then formulas.
-use Rattle.std.specs.Prelude.{◌≡◌, ℕ, ◌+◌, ◌-◌, ◌<◌, true, List, [], ◌∷◌, length, take, drop, map, slice_get, Option, Some, None}
+use Rattle.std.specs.Prelude.{◌≡◌, ℕ, ◌+◌, ◌-◌, ◌<◌, true, List, [], ◌∷◌, length, take, drop, map, slice_get, Option, Some}
 use Rattle.std.specs.List.{All}
 use Rattle.uc_syntax.specs.declared.declaration.Procedure.{Procedure}
 use Rattle.uc_syntax.specs.declared.declaration.Module.{Module}
@@ -16,8 +16,8 @@ use Rattle.uc_meaning.specs.Lookup.{System, main_module}
 use Rattle.uc_meaning.specs.Types.{type_of_written}
 use Rattle.uc_meaning.specs.Cells.{instances, IsInterpretation, IsState, FitAll}
 use Rattle.uc_meaning.specs.Expressions.{is_true}
-use Rattle.uc_meaning.specs.Code.{Ending, Goes, Running, requires_of}
-use Rattle.uc_meaning.specs.Runs.{Position, position_at, states_at, ensures_of, AxiomsAt, AreCopies, HyperaxiomsAt, IsAdmitted}
+use Rattle.uc_meaning.specs.Code.{Ending, Goes, requires_of}
+use Rattle.uc_meaning.specs.Runs.{Position, position_at, states_at, ensures_of, AreCopies, HyperaxiomsAt, IsAdmitted}
 use Rattle.uc_meaning.specs.Lines.{formula_of, InvariantsIn, HyperinvariantsIn, main_declarations, procedure_numbered}
 use Rattle.uc_trace_checks.specs.Asked.{ask_each}
 use Rattle.uc_trace_checks.specs.Formulas.{truth_asked, axioms_asked, invariants_asked, hyperinvariants_asked, hyperaxioms_asked}

@@ -3,8 +3,9 @@ use Rattle.std.specs.Prelude.{IfErr}
 use Rattle.std.proofs.lemmas.Result.{err_from_is_err_and}
 use Rattle.uc_symstep.proofs.Grown.{grows_length, grows_on}
 use Rattle.uc_obligations.proofs.Unrollings.{unrolled_grows}
+use Rattle.uc_obligations.specs.Goals.{IsTold}
 use Rattle.uc_flat_lines.specs.Deciding.{IsSolution, IsHonestAfter}
-use Rattle.uc_flat_lines.proofs.Outcomes.{none_all, one_all, honest_after}
+use Rattle.uc_flat_lines.proofs.Outcomes.{none_all, one_all, honest_after, never_untold}
 use Rattle.uc_flat_lines.proofs.deciding.refutation.Goals as goal
 
 pub solution-requires-clause-there : goal.solution-requires-clause-there
@@ -25,9 +26,16 @@ returns-in-None-clause-outcome g c =
     none_all c.args.f.now c.args.k c.args.steps _ _ c.in_ok-goal.ensures.traces
     (subst (IsSolution c.goal.new.terms c.in_ok-goal.goal) c.in-None.is c.in_ok-solution.ensures.solution)
 
-pub returns-in_ok-trace-in-Some-clause-outcome : goal.returns-in_ok-trace-in-Some-clause-outcome
-returns-in_ok-trace-in-Some-clause-outcome g c =
-    one_all c.args.f.now c.args.k c.args.steps _ _ _ _ c.in_ok-solution.ensures.grown c.in_ok-goal.ensures.truth.there c.in_ok-goal.ensures.goal c.in_ok-trace-in-Some.ensures
+pub returns-in_default-clause-honest : goal.returns-in_default-clause-honest
+returns-in_default-clause-honest g c =
+    never_untold c.args.f.now c.args.budget c.args.steps _ _ c.in_ok-goal.goal c.in-Some.model c.in_ok-solution.ensures.grown c.in_ok-goal.ensures.truth.there
+    (subst (IsSolution c.goal.new.terms c.in_ok-goal.goal) c.in-Some.is c.in_ok-solution.ensures.solution) c.in_ok-goal.ensures.known
+    (subst (IsTold c.args.f.now c.args.steps c.solution.new.terms c.in_ok-goal.goal c.in-Some.model) c.in_default.is c.in_ok-trace-in-Some.ensures)
+
+pub returns-in-Some-2-clause-outcome : goal.returns-in-Some-2-clause-outcome
+returns-in-Some-2-clause-outcome g c =
+    one_all c.args.f.now c.args.k c.args.steps _ _ _ c.in-Some-2.trace c.in_ok-solution.ensures.grown c.in_ok-goal.ensures.truth.there c.in_ok-goal.ensures.goal
+    (subst (IsTold c.args.f.now c.args.steps c.solution.new.terms c.in_ok-goal.goal c.in-Some.model) c.in-Some-2.is c.in_ok-trace-in-Some.ensures)
 
 pub returns-in_err-solution-clause-honest : goal.returns-in_err-solution-clause-honest
 returns-in_err-solution-clause-honest g c =

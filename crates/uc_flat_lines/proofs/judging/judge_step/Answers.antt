@@ -1,4 +1,4 @@
-use Rattle.std.proofs.Common.{◌∙◌, ap, sym, subst, arith, refl}
+use Rattle.std.proofs.Common.{arith, refl}
 use Rattle.uc_symstep.proofs.Grown.{grows_not, grows_on}
 use Rattle.uc_obligations.proofs.Unrollings.{unrolled_grows}
 use Rattle.uc_flat_lines.proofs.Judged.{step_begin, step_more, step_end}

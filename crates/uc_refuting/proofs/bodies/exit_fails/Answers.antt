@@ -1,5 +1,3 @@
-use Rattle.std.proofs.Common.{sym}
-use Rattle.uc_operators.specs.Overflows.{first_wide, TellsWide}
 use Rattle.uc_executions.specs.Executions.{entry_at, body_met}
 use Rattle.std.specs.Prelude.{Bool}
 use Rattle.uc_meaning.specs.declared.code.CodeEnd.{CodeEnd}

@@ -1,7 +1,7 @@
-use Rattle.std.proofs.Common.{◌≡◌, ◌+◌, List, length, ap, ◌∙◌, sym, refl, arith}
+use Rattle.std.proofs.Common.{◌≡◌, ◌+◌, List, length, refl, arith}
 use Rattle.uc_meaning.specs.Runs.{Position}
 use Rattle.uc_refuting.specs.Tellings.{Nothing}
-use Rattle.uc_refuting.proofs.Told.{none_decided, all_decided, pass_begin, pass_end, pass_more, pass_no}
+use Rattle.uc_refuting.proofs.Told.{all_decided, pass_begin, pass_end, pass_more}
 use Rattle.uc_refuting.proofs.copies.are_even.Goals as goal
 
 pub loop-copy-init : goal.loop-copy-init

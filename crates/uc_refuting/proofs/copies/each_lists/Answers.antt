@@ -1,8 +1,7 @@
-use Rattle.std.proofs.Common.{◌&&◌, Some, None, subst, refl, ap, ◌∙◌, sym, rules}
+use Rattle.std.proofs.Common.{◌&&◌, Some, None, ap, ◌∙◌, sym, rules}
 use Rattle.std.specs.Prelude.{Bool, Option}
 use Rattle.std.specs.Option.{option_copied}
 use Rattle.uc_refuting.specs.Walks.{AreStates, CopyTells}
-use Rattle.uc_refuting.specs.Answers.{CopyAnswer}
 use Rattle.uc_refuting.proofs.Told.{pass_begin, pass_end, pass_end_told, pass_more, pass_no, pass_no_told, pass_told}
 use Rattle.uc_refuting.proofs.Judging.{list_begin, list_end, list_more, answer_at}
 use Rattle.uc_refuting.proofs.copies.each_lists.Goals as goal

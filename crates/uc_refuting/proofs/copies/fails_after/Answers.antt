@@ -1,7 +1,6 @@
-use Rattle.std.proofs.Common.{Some, None, subst, rules}
+use Rattle.std.proofs.Common.{Some, None, rules}
 use Rattle.std.specs.Prelude.{Bool, Option}
 use Rattle.uc_refuting.specs.declared.walk.Beginning.TheVariants.{Initial}
-use Rattle.uc_refuting.specs.Answers.{WalkAnswer}
 use Rattle.uc_refuting.specs.Refutations.{CopiesTell, AreWalked, EndTells}
 use Rattle.uc_refuting.proofs.Told.{none_decided, if_same, told_here, told_stop, told_next}
 use Rattle.uc_refuting.proofs.Judging.{walk_at, walked, not_walked, no_walk_after, after_to, after_from}

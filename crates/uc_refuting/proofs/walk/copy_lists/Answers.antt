@@ -1,7 +1,6 @@
-use Rattle.std.proofs.Common.{◌≡◌, ◌∷◌, List, Some, None, subst, rules}
+use Rattle.std.proofs.Common.{◌≡◌, ◌∷◌, subst, rules}
 use Rattle.std.specs.Prelude.{Bool, Option}
 use Rattle.std.specs.Option.{option_copied}
-use Rattle.uc_meaning.specs.Runs.{Position}
 use Rattle.uc_meaning.specs.Cells.{IsState}
 use Rattle.uc_refuting.specs.Walks.{Begins}
 use Rattle.uc_refuting.specs.Answers.{IsAnswer}

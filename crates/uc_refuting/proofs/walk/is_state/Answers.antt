@@ -1,4 +1,4 @@
-use Rattle.std.proofs.Common.{◌∙◌, subst}
+use Rattle.std.proofs.Common.{subst}
 use Rattle.std.specs.Bool.{Decides}
 use Rattle.uc_meaning.specs.Cells.{FitAll}
 use Rattle.uc_refuting.proofs.walk.is_state.Goals as goal

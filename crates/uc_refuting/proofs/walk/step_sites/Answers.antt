@@ -1,4 +1,4 @@
-use Rattle.std.proofs.Common.{ap, subst}
+use Rattle.std.proofs.Common.{subst}
 use Rattle.std.specs.Prelude.{IfOk}
 use Rattle.uc_meaning.specs.Answers.{IsStepAnswer}
 use Rattle.uc_operators.specs.Overflows.{first_wide, TellsWide}
