@@ -1,6 +1,6 @@
 -- The lines of a design are those of its formulas over cells.
 use Rattle.std.proofs.Common.{◌≡◌, ℕ, zero, suc, ◌+◌, List, [], ◌∷◌, ◌++◌, map, refl, sym, ap, ◌∙◌, subst, true, Option, Some, None, append-nil, cond, Bool}
-use Rattle.std.specs.Prelude.{if◌then◌else◌, nat_eq, All, ◌&&◌}
+use Rattle.std.specs.Prelude.{nat_eq, All, ◌&&◌}
 use Rattle.std.specs.Option.{option_map}
 use Rattle.std.specs.List.{flat_map, filter, filter_map, list_all, cons_option}
 use Rattle.std.proofs.lemmas.List.Elements.{All-head, All-tail}

@@ -1,8 +1,8 @@
 -- Traces of a design and traces over cells refute alike.
-use Rattle.std.proofs.Common.{◌≡◌, ℕ, zero, suc, ◌+◌, List, [], ◌∷◌, ◌++◌, map, length, refl, sym, ap, ◌∙◌, subst, true, false, Bool, Some, None, arith, append-nil, get_or, take, cond}
-use Rattle.std.specs.Prelude.{◌&&◌, nat_eq, slice_get, Contains}
+use Rattle.std.proofs.Common.{◌≡◌, ℕ, zero, suc, ◌+◌, List, [], ◌∷◌, ◌++◌, map, length, refl, sym, ap, ◌∙◌, subst, true, false, Bool, Some, None, arith, append-nil, get_or, take}
+use Rattle.std.specs.Prelude.{◌&&◌, slice_get, Contains}
 use Rattle.std.specs.Option.{option_map, option_and_then}
-use Rattle.std.specs.List.{flat_map, filter, filter_map, list_all, list_any, cons_option, All}
+use Rattle.std.specs.List.{flat_map, filter_map, list_all, cons_option, All}
 use Rattle.std.proofs.lemmas.Option.{slice_get-get_or, get_or_from_slice_get}
 use Rattle.std.proofs.lemmas.List.{length-map}
 use Rattle.std.proofs.lemmas.List.Elements.{All-head, All-tail, All-cons, All-nil, All-append, All-weaker, All-contains}
@@ -19,7 +19,7 @@ use Rattle.uc_meaning.specs.declared.scope.Interp.{Interp}
 use Rattle.uc_meaning.specs.declared.scope.Site.{Site}
 use Rattle.uc_meaning.specs.declared.scope.State.{State}
 use Rattle.uc_meaning.specs.Lookup.{System, axiom_in as axiom_of_decl, hyperaxiom_in, module_at, module_from}
-use Rattle.uc_meaning.specs.Cells.{InstanceAt, main_instance, instances, modules_in_use, functions_in, functions_of, FitAll as FitTypes, FitTables, IsState}
+use Rattle.uc_meaning.specs.Cells.{main_instance, instances, functions_in, functions_of, FitTables, IsState}
 use Rattle.uc_meaning.specs.Expressions.{value, is_true}
 use Rattle.uc_meaning.specs.Steps.{scope_of, state_of, IsStep}
 use Rattle.uc_meaning.specs.Runs.{Position, no_state, no_position, position_at, states_at, Continues, IsRunListing, IsRun, AxiomsAt, IsAdmitted, HyperaxiomsIn, HyperaxiomsAt, of_arity, copies_scope}
@@ -33,7 +33,7 @@ use Rattle.uc_flat.specs.Unrolled.{holds_in, axioms_hold}
 use Rattle.uc_flat.specs.Executions.{FitAll, IsInitial as IsInitialOver, IsStep as IsStepOver}
 use Rattle.uc_flat_traces.specs.declared.trace.FlatPosition.{FlatPosition}
 use Rattle.uc_flat_traces.specs.declared.trace.FlatTrace.{FlatTrace}
-use Rattle.uc_flat_traces.specs.Traces.{constant_types as types_of_constants, HasConstants, IsRun as IsRunOver, RefutesFlat}
+use Rattle.uc_flat_traces.specs.Traces.{HasConstants, IsRun as IsRunOver, RefutesFlat}
 use Rattle.uc_flat_expressions.specs.declared.typed.TypedExpression.{TypedExpression}
 use Rattle.uc_flat_expressions.specs.declared.typed.Meant.{Meant}
 use Rattle.uc_flat_expressions.specs.Types.{is_boolean}

@@ -57,6 +57,7 @@ fn record<M: Meter>(
     ensures recorded { IsRecorded terms.now (M.opened meter.new) (M.here meter.new) log.new }
     ensures opened { M.opened meter.new ≡ M.opened meter.old }
     ensures total { M.total meter.new + M.here meter.old ≡ M.total meter.old + M.here meter.new }
+    ensures few { M.here meter.new ≤ M.here meter.old + 1 }
     ensures ok { OnOk result (log.new ≡ log.old ++ Learnt clause hints ∷ []) }
     ensures err { OnErr result (log.new ≡ log.old) }
 {
@@ -81,6 +82,7 @@ fn repeat_empty<M: Meter>(
     ensures recorded { IsRecorded terms.now (M.opened meter.new) (M.here meter.new) log.new }
     ensures opened { M.opened meter.new ≡ M.opened meter.old }
     ensures total { M.total meter.new + M.here meter.old ≡ M.total meter.old + M.here meter.new }
+    ensures few { M.here meter.new ≤ M.here meter.old + 1 }
     ensures stay { Extends log.old log.new }
     ensures ok { OnOk result (GivesEmpty log.new) }
 {
@@ -161,6 +163,7 @@ impl State {
         ensures recorded { IsRecorded terms.now (M.opened meter.new) (M.here meter.new) log.new }
         ensures opened { M.opened meter.new ≡ M.opened meter.old }
         ensures total { M.total meter.new + M.here meter.old ≡ M.total meter.old + M.here meter.new }
+        ensures few { M.here meter.new ≤ M.here meter.old + 1 }
         ensures stay { Extends log.old log.new }
         ensures ok { IfOk result (λ refuted. Concluded self.old log.old (known_now (M.opened meter.old) log.new) self.new log.new refuted) }
         ensures waiting { IfOk result (λ refuted. refuted ≡ false → Waiting self.new) }
@@ -203,6 +206,7 @@ impl State {
         ensures candidate { result ≡ Ok Candidate → Satisfies (valuation self.new.values.items) (known_now (M.opened meter.new) log.new).clauses }
         ensures refuted { result ≡ Ok Refuted → AcceptsFor terms.now (M.opened meter.new) log.new }
         ensures budget { result ≡ Err Budget → M.here meter.new ≡ budget }
+        ensures within { M.here meter.old ≤ budget → M.here meter.new ≤ budget }
         ensures enough { M.here meter.old + 2 ^ inputs_count self.old.inputs.items ≤ budget → result ≢ Err Budget }
         ensures unit { M.here meter.old + 1 ≤ budget → UnitRefutable self.old → result ≢ Err Budget }
     {

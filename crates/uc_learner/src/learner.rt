@@ -117,6 +117,7 @@ impl Learner {
         ensures candidate { result ≡ Ok Candidate → Satisfies (valuation self.new.values) (known_now (M.opened meter.new) log.new).clauses }
         ensures refuted { result ≡ Ok Refuted → AcceptsFor terms.now (M.opened meter.new) log.new }
         ensures budget { result ≡ Err Budget → M.here meter.new ≡ budget }
+        ensures within { M.here meter.old ≤ budget → M.here meter.new ≤ budget }
         ensures enough { M.here meter.old + 2 ^ inputs_of (known_now (M.opened meter.old) log.old).circuit ≤ budget → result ≢ Err Budget }
         ensures unit { M.here meter.old + 1 ≤ budget → IsUnitRefutable (length self.old.inputs) self.old.clauses → result ≢ Err Budget }
     {

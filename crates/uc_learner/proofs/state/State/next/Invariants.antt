@@ -15,6 +15,7 @@ invariant-loop-conflict g l = record {
   opened : g.M.Meter.opened l.meter ≡ g.M.Meter.opened l.fn.meter;
   total : g.M.Meter.total l.meter + g.M.Meter.here l.fn.meter ≡ g.M.Meter.total l.fn.meter + g.M.Meter.here l.meter;
   holds : Holds l.self (known_now (g.M.Meter.opened l.meter) l.log);
+  within : g.M.Meter.here l.fn.meter ≤ l.budget → g.M.Meter.here l.meter ≤ l.budget;
   none_empty : NoneEmpty l.self.clauses.items;
   stay : Extends l.fn.log l.log;
   count : length l.log + left_of l.self ≤ length l.fn.log + 2 ^ inputs_count l.fn.self.inputs.items;
