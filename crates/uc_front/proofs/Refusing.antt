@@ -1,5 +1,6 @@
 -- The refusals of the passes as refusals of the whole.
 use Rattle.std.proofs.Common.{◌≡◌, inl, inr, ℕ, List, length, Option, None, Some, sym, ap, subst, ◌∙◌}
+use Rattle.std.specs.Prelude.{Result, Ok, Err, IfErr}
 use Rattle.uc_lexer.specs.Places.{place_of}
 use Rattle.uc_syntax.specs.declared.declaration.Module.{Module}
 use Rattle.uc_forms.specs.Answer.{Answer, spelled, wrong, too_deep, too_many}
@@ -97,6 +98,11 @@ pub by_building : (held : List ℕ → Option (List ℕ)) (files : List (List �
 by_building held files sources NoMemory a h = tt
 by_building held files sources ReadFault a h = tt
 by_building held files sources (Refused r) a h = inr (inr (sources, a, h))
+
+pub ends_building : {A : Type 0} (held : List ℕ → Option (List ℕ)) (files : List (List ℕ)) (sources : List Source) (r : Result A FrontError) → AreSources held files sources →
+    IfErr r (IsTextError (IsUnbuilt files sources)) → IfErr r (IsFrontError (IsRefused held files))
+ends_building held files sources (Ok x) a h = tt
+ends_building held files sources (Err e) a h = by_building held files sources e a h
 
 -- texts and their tokens are sources
 pub sources_are : (held : List ℕ → Option (List ℕ)) (files texts : List (List ℕ)) (sources : List Source) → AreTexts held files texts → texts_of sources ≡ texts → AreTexts held files (texts_of sources)
