@@ -1,5 +1,6 @@
 -- The refusals of the passes as refusals of the whole.
 use Rattle.std.proofs.Common.{◌≡◌, inl, inr, ℕ, List, length, Option, None, Some, sym, ap, subst, ◌∙◌}
+use Rattle.std.specs.Prelude.{Result, Ok, Err, IfErr}
 use Rattle.uc_lexer.specs.Places.{place_of}
 use Rattle.uc_syntax.specs.declared.declaration.Module.{Module}
 use Rattle.uc_forms.specs.Answer.{Answer, spelled, wrong, too_deep, too_many}
@@ -11,11 +12,11 @@ use Rattle.uc_front.specs.declared.refusal.Refusal.{Refusal}
 use Rattle.uc_front.specs.declared.refusal.Refusal.TheVariants.{NoFile, TooLong, BadByte, BadNumber, OpenComment, Syntax, TooDeep, TooManyNames, NoMain, BreaksRule, NotBuilt}
 use Rattle.uc_front.specs.Sources.{AreTexts, AreSources, texts_of}
 use Rattle.uc_syntax.specs.Contents.{Contents, design_of}
-use Rattle.uc_meaning.specs.Lookup.{system_of}
+use Rattle.uc_meaning.specs.Lookup.{System, system_of}
 use Rattle.uc_rules.specs.Declarations.{KeepsRules, IsFirstFault}
-use Rattle.uc_front.specs.Denotes.{names_of, AreSpelled, main_in, main_name, IsDesignOf}
+use Rattle.uc_front.specs.Denotes.{names_of, AreSpelled, main_in, main_name, IsDesignOf, IsKept}
 use Rattle.uc_front.specs.Refused.{IsUnread, IsUnlexed, place_at, refusal_of, IsUnspelled, IsUnbuilt, IsRefused}
-use Rattle.uc_front.specs.Errors.{IsFrontError, IsTextError, IsRuleFault}
+use Rattle.uc_front.specs.Errors.{IsFrontError, IsTextError, IsRuleFault, IsStopped}
 
 unspelled : (files : List (List ℕ)) (sources : List Source) (r : Refusal) → IsUnspelled (names_of files sources) sources r → IsUnbuilt files sources r
 unspelled files sources r h = by h.3 h.7
@@ -61,6 +62,26 @@ by_rules files sources d main (Refused r) denoted whole h = by r h
     by NoMain h = absurd h
     by (NotBuilt p) h = absurd h
 
+-- of running
+pub by_running : (files : List (List ℕ)) (sources : List Source) (system : System) (e : FrontError) → IsDesignOf files sources system → IsKept system → IsTextError (IsStopped system) e →
+    IsTextError (IsUnbuilt files sources) e
+by_running files sources system NoMemory denoted keeps h = tt
+by_running files sources system ReadFault denoted keeps h = h
+by_running files sources system (Refused r) denoted keeps h = by r h
+  where
+    by : (r : Refusal) → IsStopped system r → IsUnbuilt files sources r
+    by (NotBuilt p) h = (system, denoted, keeps, h.0, h.1)
+    by (BreaksRule fault) h = absurd h
+    by (NoFile n) h = absurd h
+    by (TooLong n) h = absurd h
+    by (BadByte p) h = absurd h
+    by (BadNumber p) h = absurd h
+    by (OpenComment p) h = absurd h
+    by (Syntax p) h = absurd h
+    by (TooDeep p) h = absurd h
+    by (TooManyNames p) h = absurd h
+    by NoMain h = absurd h
+
 -- of reading a design
 pub by_reading : (held : List ℕ → Option (List ℕ)) (files : List (List ℕ)) (e : FrontError) → IsFrontError (IsUnread held files) e → IsFrontError (IsRefused held files) e
 by_reading held files NoMemory h = tt
@@ -77,6 +98,11 @@ pub by_building : (held : List ℕ → Option (List ℕ)) (files : List (List �
 by_building held files sources NoMemory a h = tt
 by_building held files sources ReadFault a h = tt
 by_building held files sources (Refused r) a h = inr (inr (sources, a, h))
+
+pub ends_building : {A : Type 0} (held : List ℕ → Option (List ℕ)) (files : List (List ℕ)) (sources : List Source) (r : Result A FrontError) → AreSources held files sources →
+    IfErr r (IsTextError (IsUnbuilt files sources)) → IfErr r (IsFrontError (IsRefused held files))
+ends_building held files sources (Ok x) a h = tt
+ends_building held files sources (Err e) a h = by_building held files sources e a h
 
 -- texts and their tokens are sources
 pub sources_are : (held : List ℕ → Option (List ℕ)) (files texts : List (List ℕ)) (sources : List Source) → AreTexts held files texts → texts_of sources ≡ texts → AreTexts held files (texts_of sources)

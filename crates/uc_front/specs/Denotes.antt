@@ -1,5 +1,5 @@
 -- Which design files denote.
-use Rattle.std.specs.Prelude.{◌≡◌, ◌⊎◌, ℕ, Bool, codes, List, [], ◌∷◌, ◌++◌, map, fold, slice_get, slice_index_or, Option, Some}
+use Rattle.std.specs.Prelude.{◌≡◌, ◌⊎◌, ℕ, Bool, codes, List, [], ◌∷◌, ◌++◌, map, fold, slice_get, slice_index_or, Option, Some, None}
 use Rattle.std.specs.Str.{bytes_eq}
 use Rattle.std.specs.List.{position_from}
 use Rattle.uc_syntax.specs.declared.declaration.Module.{Module}
@@ -14,6 +14,7 @@ use Rattle.uc_rules.specs.declared.fault.Fault.{Fault}
 use Rattle.uc_rules.specs.Declarations.{KeepsRules, IsFirstFault}
 use Rattle.uc_order_rules.specs.Order.{KeepsOrder, IsFirstOrderFault}
 use Rattle.uc_runnable.specs.Runnable.{IsRunnable}
+use Rattle.uc_outside.specs.Outside.{outside_in}
 use Rattle.uc_front.specs.declared.lexing.Source.{Source}
 use Rattle.uc_front.specs.Sources.{AreSources}
 
@@ -85,6 +86,11 @@ IsKept system = IsTyped system × KeepsOrder system
 abbrev pub IsFirstBroken : System → Fault → Type 0
 IsFirstBroken system fault = IsFirstFault (contents_of system) main_name fault ⊎ (IsTyped system × IsFirstOrderFault system fault)
 
+-- The design runs today: none of its forms is one that does not, and there is one over cells for it.
+pub record RunsToday (system : System) : Type 0 where
+  pub inside : outside_in system.modules system.main ≡ None
+  pub runnable : IsRunnable system
+
 -- It denotes one that keeps the rules and runs today.
 abbrev pub IsAccepted : (List ℕ → Option (List ℕ)) → List (List ℕ) → System → Type 0
-IsAccepted held files system = Denotes held files system × IsKept system × IsRunnable system
+IsAccepted held files system = Denotes held files system × IsKept system × RunsToday system

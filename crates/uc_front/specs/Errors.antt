@@ -7,8 +7,9 @@ use Rattle.uc_order_rules.specs.Order.{IsFirstOrderFault}
 use Rattle.uc_front.specs.declared.error.FrontError.{FrontError}
 use Rattle.uc_front.specs.declared.error.FrontError.TheVariants.{NoMemory, ReadFault, Refused}
 use Rattle.uc_front.specs.declared.refusal.Refusal.{Refusal}
-use Rattle.uc_front.specs.declared.refusal.Refusal.TheVariants.{NoFile, TooLong, BreaksRule}
-use Rattle.uc_front.specs.Denotes.{main_name}
+use Rattle.uc_front.specs.declared.refusal.Refusal.TheVariants.{NoFile, TooLong, BreaksRule, NotBuilt}
+use Rattle.uc_front.specs.Denotes.{main_name, RunsToday}
+use Rattle.uc_front.specs.Refused.{IsLeftAt}
 
 -- a refusal is right
 abbrev pub IsFrontError : (Refusal → Type 0) → FrontError → Type 0
@@ -36,3 +37,8 @@ IsRuleFault d main other = ⊥
 abbrev pub IsOrderFault : System → Refusal → Type 0
 IsOrderFault system (BreaksRule fault) = IsFirstOrderFault system fault
 IsOrderFault system other = ⊥
+
+-- a design is refused since it does not run today, where it is at fault
+abbrev pub IsStopped : System → Refusal → Type 0
+IsStopped system (NotBuilt p) = (RunsToday system → ⊥) × IsLeftAt system p
+IsStopped system other = ⊥

@@ -13,14 +13,13 @@ use Rattle.uc_forms.specs.Answer.{Answer, spelled, wrong, too_deep, too_many}
 use Rattle.uc_grammar.specs.declared.word.Word.{Word}
 use Rattle.uc_meaning.specs.Lookup.{System}
 use Rattle.uc_runnable.specs.Unfit.{unfit_of}
-use Rattle.uc_runnable.specs.Runnable.{IsRunnable}
 use Rattle.uc_outside.specs.Outside.{outside_in}
 use Rattle.uc_front.specs.declared.lexing.Source.{Source}
 use Rattle.uc_front.specs.declared.refusal.Refusal.{Refusal}
 use Rattle.uc_front.specs.declared.refusal.Refusal.TheVariants.{NoFile, TooLong, BadByte, BadNumber, OpenComment, Syntax, TooDeep, TooManyNames, NoMain, BreaksRule, NotBuilt}
 use Rattle.uc_front.specs.Sources.{AreTexts, AreLexed, AreSources, texts_of}
 use Rattle.uc_front.specs.Refusals.{front}
-use Rattle.uc_front.specs.Denotes.{names_of, HasAnswer, AreSpelled, main_in, IsDesignOf, IsKept, IsFirstBroken}
+use Rattle.uc_front.specs.Denotes.{names_of, HasAnswer, AreSpelled, main_in, IsDesignOf, IsKept, IsFirstBroken, RunsToday}
 
 -- Reading refuses: no text has the name of the file of this number; or its text and those before it pass the limit.
 abbrev pub IsUnread : (List ℕ → Option (List ℕ)) → List (List ℕ) → Refusal → Type 0
@@ -72,7 +71,7 @@ IsUnbuilt files sources (TooManyNames p) = IsUnspelled (names_of files sources) 
 IsUnbuilt files sources NoMain = (modules : List Module) × AreSpelled (names_of files sources) sources modules × (main_in (names_of files sources) modules ≡ None)
 IsUnbuilt files sources (BreaksRule fault) = (system : System) × IsDesignOf files sources system × IsFirstBroken system fault
 IsUnbuilt files sources (NotBuilt p) =
-    (system : System) × IsDesignOf files sources system × IsKept system × (IsRunnable system → ⊥) × IsLeftAt system p
+    (system : System) × IsDesignOf files sources system × IsKept system × (RunsToday system → ⊥) × IsLeftAt system p
 IsUnbuilt files sources other = ⊥
 
 -- Which refusals are right for what is held under the files' names: a pass refuses with it, and the passes before accept all files.

@@ -3,13 +3,12 @@
 ghost use Rattle.std.specs.Prelude.{◌≡◌, ◌∷◌, [], ◌≤◌, ◌<◌, codes, length, map, slice_get, slice_index_or, Some, IsOk, IfOk, IfErr};
 ghost use Rattle.std.specs.List.{concat, position_from};
 ghost use Rattle.std.specs.Str.{bytes_eq};
-ghost use Rattle.uc_runnable.specs.Runnable.{IsRunnable};
 ghost use Rattle.uc_meaning.specs.Lookup.{system_of};
 ghost use Rattle.uc_rules.specs.Declarations.{KeepsRules, main_number};
 ghost use Rattle.uc_order_rules.specs.Order.{KeepsOrder};
 ghost use Rattle.uc_syntax.specs.Contents.{design_of};
-ghost use Rattle.uc_front.specs.Denotes.{AreSpelled, IsDesignOf, IsKept, names_of, is_main, main_in, main_name};
-ghost use Rattle.uc_front.specs.Errors.{IsOrderFault, IsRuleFault, IsTextError};
+ghost use Rattle.uc_front.specs.Denotes.{AreSpelled, IsDesignOf, IsKept, RunsToday, names_of, is_main, main_in, main_name};
+ghost use Rattle.uc_front.specs.Errors.{IsOrderFault, IsRuleFault, IsStopped, IsTextError};
 ghost use Rattle.uc_front.specs.Refused.{IsUnbuilt, IsUnspelled};
 ghost use Rattle.uc_front.specs.Sources.{words_of, AreLexed, texts_of};
 
@@ -17,7 +16,7 @@ use crate::error::FrontError;
 use crate::lexing::Source;
 use crate::parsing::{intern_all, parse_all};
 use crate::reading::MAX_FILES;
-use crate::refusal::{Refusal, left_at};
+use crate::refusal::{Refusal, front};
 use std::alloc::Global;
 use uc_lexer::MAX_TEXT;
 use uc_order::{OrderError, order};
@@ -38,7 +37,7 @@ pub(crate) fn design_of(
     requires lexed { AreLexed 0 sources.now }
     ensures denotes { IfOk result (IsDesignOf (words_of files.now) sources.now) }
     ensures kept { IfOk result IsKept }
-    ensures runs { IfOk result IsRunnable }
+    ensures runs { IfOk result RunsToday }
     ensures refused { IfErr result (IsTextError (IsUnbuilt (words_of files.now) sources.now)) }
 {
     let design = spelled(alloc, files, sources)?;
@@ -51,18 +50,8 @@ pub(crate) fn design_of(
         return Err(FrontError::NoMemory);
     };
     let kept = checked(alloc, design, main)?;
-    let outside = outside_in(kept.modules().as_slice(), main);
-    match Runnable::of(alloc, kept, main) {
-        Ok(runnable) => {
-            runnable.keeps();
-            Ok(runnable)
-        }
-        Err(NotRunnable::NoMemory) => Err(FrontError::NoMemory),
-        Err(NotRunnable::NotBuilt(unfit)) => {
-            let place = left_at(outside, unfit);
-            Err(FrontError::Refused(Refusal::NotBuilt(place)))
-        }
-    }
+    let runnable = running(alloc, kept, main)?;
+    Ok(runnable)
 }
 
 /// The design of the modules that the texts spell.
@@ -111,6 +100,32 @@ fn ordered(alloc: Global, typed: TypedDesign) -> Result<Design, FrontError>
         }
         Err(OrderError::NoMemory) => Err(FrontError::NoMemory),
         Err(OrderError::Fault(fault)) => Err(FrontError::Refused(Refusal::BreaksRule(fault))),
+    }
+}
+
+/// The same design with one over cells, if it runs today.
+#[tactic(auto, using(crate::proofs::Stopped::stopped_outside, crate::proofs::Stopped::stopped_inside, crate::proofs::Stopped::runs_today))]
+fn running(alloc: Global, design: Design, main: u32) -> Result<Runnable, FrontError>
+    ensures same { IfOk result (λ r. r ≡ system_of design main) }
+    ensures runs { IfOk result RunsToday }
+    ensures refused { IfErr result (IsTextError (IsStopped (system_of design main))) }
+{
+    match outside_in(design.modules().as_slice(), main) {
+        Some(place) => {
+            drop(design);
+            Err(FrontError::Refused(Refusal::NotBuilt(place)))
+        }
+        None => match Runnable::of(alloc, design, main) {
+            Ok(runnable) => {
+                runnable.keeps();
+                Ok(runnable)
+            }
+            Err(NotRunnable::NoMemory) => Err(FrontError::NoMemory),
+            Err(NotRunnable::NotBuilt(unfit)) => {
+                let place = unfit.unwrap_or(front(0));
+                Err(FrontError::Refused(Refusal::NotBuilt(place)))
+            }
+        },
     }
 }
 

@@ -1,7 +1,6 @@
 //! Why texts are refused.
 
-ghost use Rattle.std.specs.Prelude.{◌≡◌, unwrap_or};
-ghost use Rattle.std.specs.Option.{option_or};
+ghost use Rattle.std.specs.Prelude.{◌≡◌};
 ghost use Rattle.uc_front.specs.Refusals.{front, number_of, place_of};
 
 use uc_lexer::Place;
@@ -84,12 +83,4 @@ pub(crate) fn front(file: u16) -> Place
         line: 1,
         col: 1,
     }
-}
-
-/// Where a design that does not run is at fault: at the first form that does not run, if there, else where its one module is at fault, if
-/// there, else at the front of the first file.
-pub(crate) fn left_at(outside: Option<Place>, unfit: Option<Place>) -> Place
-    ensures { result ≡ unwrap_or (option_or outside unfit) (front 0) }
-{
-    outside.or(unfit).unwrap_or(front(0))
 }

@@ -19,12 +19,11 @@ use Rattle.uc_rules.specs.Faults.{IsFirst, IsIn}
 use Rattle.uc_rules.specs.Declarations.{design_faults}
 use Rattle.uc_order_rules.specs.Order.{order_faults}
 use Rattle.uc_meaning.specs.Lookup.{System}
-use Rattle.uc_runnable.specs.Runnable.{IsRunnable}
 use Rattle.uc_front.specs.declared.lexing.Source.{Source}
 use Rattle.uc_front.specs.declared.refusal.Refusal.{Refusal}
 use Rattle.uc_front.specs.declared.refusal.Refusal.TheVariants.{NoFile, TooLong, BadByte, BadNumber, OpenComment, Syntax, TooDeep, TooManyNames, NoMain, BreaksRule, NotBuilt}
 use Rattle.uc_front.specs.Sources.{AreTexts, AreLexed, AreSources, texts_of}
-use Rattle.uc_front.specs.Denotes.{most_levels, most_names, names_of, HasAnswer, AreSpelled, main_in, main_name, contents_of, IsDesignOf, IsKept, IsFirstBroken}
+use Rattle.uc_front.specs.Denotes.{most_levels, most_names, names_of, HasAnswer, AreSpelled, main_in, main_name, contents_of, IsDesignOf, IsKept, IsFirstBroken, RunsToday}
 use Rattle.uc_front.specs.Refused.{IsUnread, IsFirstFault, IsUnlexed, refusal_of, IsUnspelled, IsUnbuilt}
 use Rattle.uclid_laws.specs.Laws.{OneDesign, NeverBoth}
 use Rattle.uclid_laws.proofs.Distinct.{names_distinct}
@@ -230,7 +229,7 @@ never_broken : (system : System) (fault : Fault) → IsKept system → IsFirstBr
 never_broken system fault keeps (inl first) = no_first fault (design_faults (contents_of system) main_name) keeps.0 first
 never_broken system fault keeps (inr first) = no_first fault (order_faults system) keeps.1 first.1
 
-never_unbuilt : (files : List (List ℕ)) (sources : List Source) (system : System) (r : Refusal) → IsDesignOf files sources system → IsKept system → IsRunnable system → IsUnbuilt files sources r → ⊥
+never_unbuilt : (files : List (List ℕ)) (sources : List Source) (system : System) (r : Refusal) → IsDesignOf files sources system → IsKept system → RunsToday system → IsUnbuilt files sources r → ⊥
 never_unbuilt files sources system r d keeps runs h = by r h
   where
     distinct : AreDistinct (names_of files sources)
@@ -248,7 +247,7 @@ never_unbuilt files sources system r d keeps runs h = by r h
         let e : Some system.main ≡ None = sym d.main_is ∙ (λ i. main_in (d.names_are i) (modules i)) ∙ h.2 in
         cc e
     by (BreaksRule fault) h = never_broken h.0 fault (subst IsKept (one_of_sources files sources system h.0 d h.1) keeps) h.2
-    by (NotBuilt p) h = h.3 (subst IsRunnable (one_of_sources files sources system h.0 d h.1) runs)
+    by (NotBuilt p) h = h.3 (subst RunsToday (one_of_sources files sources system h.0 d h.1) runs)
     by (NoFile n) h = h
     by (TooLong n) h = h
     by (BadByte p) h = h
