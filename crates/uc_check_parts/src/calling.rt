@@ -17,7 +17,7 @@ use crate::left::all_left;
 use crate::seen::{Seen, with_names, with_targets};
 use std::alloc::{AllocError, Global};
 use uc_frame::Part;
-use uc_items::Items;
+use uc_items::{Items, beside};
 use uc_layout::Layout;
 use uc_lookup::procedure_of;
 use uc_meaning::Scope;
@@ -51,10 +51,18 @@ pub fn left_by_call(
                 violated,
                 used,
             };
-            check_left(alloc, layout, scope, &after, seen, targets, name)
+            let asked = check_left(alloc, layout, scope, &after, seen, targets, name);
+            drop(after);
+            asked
         }
-        Ending::Stopped => Ok(None),
-        Ending::BadChoice(_) => Ok(None),
+        Ending::Stopped => {
+            drop(written);
+            Ok(None)
+        }
+        Ending::BadChoice(_) => {
+            drop(written);
+            Ok(None)
+        }
     }
 }
 
@@ -71,11 +79,31 @@ fn check_left(
     ensures value { IfOk result (λ o. Asks (scope_in scope.now) seen (λ w. kept_if (all_left layout.now (scope_in scope.now) after.now targets.now (modified_by layout.now (scope_in scope.now) name)) (writes (call_parts layout.now (scope_in scope.now) targets.now (modified_by layout.now (scope_in scope.now) name)) w)) o) }
     ensures wide { TellsWide (first_wide (left_met layout.now (scope_in scope.now) after.now targets.now (modified_by layout.now (scope_in scope.now) name))) result }
 {
-    let names = modified_by(alloc, layout, scope, name)?;
-    let names = names.as_slice();
+    let names = modified_by(alloc, layout, scope, name);
+    let (seen, names) = beside(seen, names)?;
+    let asked = check_parts(alloc, layout, scope, after, seen, targets, names.as_slice());
+    drop(names);
+    asked
+}
+
+/// The same, by the names that the procedure modifies.
+fn check_parts(
+    alloc: Global,
+    layout: &Layout,
+    scope: &ScopeRef<'_>,
+    after: &Scope,
+    seen: Seen,
+    targets: &[Target],
+    names: &[u32],
+) -> Result<Option<Seen>, EvalError>
+    ensures value { IfOk result (λ o. Asks (scope_in scope.now) seen (λ w. kept_if (all_left layout.now (scope_in scope.now) after.now targets.now names.now) (writes (call_parts layout.now (scope_in scope.now) targets.now names.now) w)) o) }
+    ensures wide { TellsWide (first_wide (left_met layout.now (scope_in scope.now) after.now targets.now names.now)) result }
+{
     let after = ScopeRef::of(after);
-    let holds = all_left(alloc, layout, scope, &after, targets, names)?;
+    let holds = all_left(alloc, layout, scope, &after, targets, names);
+    let (seen, holds) = beside(seen, holds)?;
     if !holds {
+        drop(seen);
         return Ok(None);
     }
     let seen = with_targets(alloc, layout, scope, seen, targets)?;

@@ -68,7 +68,9 @@ fn part(alloc: Global, whole: Said, fields: &[u32]) -> Result<Said, AllocError>
 {
     let mut here = whole;
     for name in fields {
-        here = field(alloc, &here, *name)?;
+        let inner = field(alloc, &here, *name);
+        drop(here);
+        here = inner?;
     }
     Ok(here)
 }

@@ -31,8 +31,9 @@ pub fn judged(
     ensures value { IfOk result (λ w. Comes (scope_in scope.now) seen (watched_site (is_true layout.now (scope_in scope.now) formula.now) place) w) }
     ensures wide { TellsWide (first_wide (met layout.now (scope_in scope.now) formula.now)) result }
 {
-    let holds = is_true(alloc, layout, scope, formula)?;
-    let seen = listed(alloc, scope, seen, holds, place)?;
+    let holds = is_true(alloc, layout, scope, formula);
+    let (before, holds) = beside(seen, holds)?;
+    let seen = listed(alloc, scope, before, holds, place)?;
     Ok(seen)
 }
 
@@ -47,8 +48,14 @@ pub fn assumed(
     ensures value { IfOk result (λ o. Asks (scope_in scope.now) seen (kept_if (is_true layout.now (scope_in scope.now) formula.now)) o) }
     ensures wide { TellsWide (first_wide (met layout.now (scope_in scope.now) formula.now)) result }
 {
-    let holds = is_true(alloc, layout, scope, formula)?;
-    if holds { Ok(Some(seen)) } else { Ok(None) }
+    let holds = is_true(alloc, layout, scope, formula);
+    let (seen, holds) = beside(seen, holds)?;
+    if holds {
+        Ok(Some(seen))
+    } else {
+        drop(seen);
+        Ok(None)
+    }
 }
 
 /// What is seen with one more site, unless the formula is kept.
@@ -64,7 +71,8 @@ fn listed(
     if is_kept {
         return Ok(seen);
     }
-    let path = Path::from_slice(alloc, scope.path)?;
+    let path = Path::from_slice(alloc, scope.path);
+    let (seen, path) = beside(seen, path)?;
     let site = Site {
         path,
         place,

@@ -8,12 +8,14 @@ ghost use Rattle.uc_scopes.specs.Scopes.{scope_in};
 ghost use Rattle.uc_check_parts.specs.Asked.{one_left_met};
 
 use crate::fields::{fields_before, part_of_name};
+use crate::target::says;
 use std::alloc::Global;
+use uc_items::beside;
 use uc_layout::Layout;
 use uc_operators::EvalError;
+use uc_readings::Said;
 use uc_scopes::ScopeRef;
 use uc_syntax::Target;
-use uc_values::same;
 
 /// Whether targets and names are in the new state as a call leaves them.
 pub(crate) fn all_left(
@@ -66,7 +68,9 @@ fn is_target_left(
     ensures wide { TellsWide (first_wide (one_left_met layout.now (scope_in scope.now) (scope_in after.now) target.now.name)) result }
 {
     let fields = fields_before(alloc, target.parts.as_slice())?;
-    is_left(alloc, layout, scope, after, target.name, fields.as_slice())
+    let holds = is_left(alloc, layout, scope, after, target.name, fields.as_slice());
+    drop(fields);
+    holds
 }
 
 /// Whether a part of a name is in the new state as a call leaves it.
@@ -82,6 +86,8 @@ fn is_left(
     ensures wide { TellsWide (first_wide (one_left_met layout.now (scope_in scope.now) (scope_in after.now) name)) result }
 {
     let new = part_of_name(alloc, layout, scope, name, true, fields)?;
-    let left = part_of_name(alloc, layout, after, name, false, fields)?;
-    Ok(same(&new.value, &left.value, &new.ty))
+    let left = part_of_name(alloc, layout, after, name, false, fields);
+    let (new, left) = beside(new, left)?;
+    let Said { ty: _, value } = left;
+    Ok(says(new, value))
 }

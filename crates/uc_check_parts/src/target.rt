@@ -12,14 +12,15 @@ ghost use Rattle.uc_check_parts.specs.Watches.{Asks};
 ghost use Rattle.uc_check_parts.specs.Asked.{check_target, one_assigned_met};
 
 use crate::fields::{fields_before, from_index, part_of_name};
-use crate::replacement::replaced;
 use crate::seen::{Seen, with_target};
 use std::alloc::Global;
-use uc_items::at;
+use uc_items::{at, beside};
 use uc_layout::Layout;
 use uc_operators::EvalError;
+use uc_readings::Said;
 use uc_scopes::ScopeRef;
 use uc_syntax::Target;
+use uc_targets::replaced;
 use uc_values::{Value, copy, same};
 
 /// What targets ask, from the left: that each has its value. Where there are more targets than values, the last ones ask nothing.
@@ -64,8 +65,10 @@ fn check_target(
     ensures value { IfOk result (λ o. Asks (scope_in scope.now) seen (check_target layout.now target.now value.now) o) }
     ensures wide { TellsWide (first_wide (one_assigned_met layout.now (scope_in scope.now) target.now)) result }
 {
-    let holds = is_assigned(alloc, layout, scope, target, value)?;
+    let holds = is_assigned(alloc, layout, scope, target, value);
+    let (seen, holds) = beside(seen, holds)?;
     if !holds {
+        drop(seen);
         return Ok(None);
     }
     let seen = with_target(alloc, layout, scope, seen, target)?;
@@ -84,10 +87,36 @@ fn is_assigned(
     ensures wide { TellsWide (first_wide (one_assigned_met layout.now (scope_in scope.now) target.now)) result }
 {
     let fields = fields_before(alloc, target.parts.as_slice())?;
-    let fields = fields.as_slice();
+    let holds = is_part_assigned(alloc, layout, scope, target, fields.as_slice(), value);
+    drop(fields);
+    holds
+}
+
+/// The same, by the fields before the first index.
+fn is_part_assigned(
+    alloc: Global,
+    layout: &Layout,
+    scope: &ScopeRef<'_>,
+    target: &Target,
+    fields: &[u32],
+    value: &Value,
+) -> Result<bool, EvalError>
+    ensures value { fields.now ≡ fields_before target.now.parts → IfOk result (λ b. b ≡ is_assigned layout.now (scope_in scope.now) target.now value.now) }
+    ensures wide { TellsWide (first_wide (one_assigned_met layout.now (scope_in scope.now) target.now)) result }
+{
     let new = part_of_name(alloc, layout, scope, target.name, true, fields)?;
-    let wanted = wanted(alloc, layout, scope, target, fields, value)?;
-    Ok(same(&new.value, &wanted, &new.ty))
+    let wanted = wanted(alloc, layout, scope, target, fields, value);
+    let (new, wanted) = beside(new, wanted)?;
+    Ok(says(new, wanted))
+}
+
+/// Whether the value of a part is another one.
+pub(crate) fn says(part: Said, value: Value) -> bool
+    ensures { result ≡ same part.value value part.ty }
+{
+    let is_same = same(&part.value, &value, &part.ty);
+    drop((part, value));
+    is_same
 }
 
 /// What the part of a target before its first index is to be: the value, put into the old part where an index follows.
@@ -106,7 +135,8 @@ fn wanted(
     if target.parts.is_empty() {
         return Ok(value);
     }
-    let old = part_of_name(alloc, layout, scope, target.name, false, fields)?;
+    let old = part_of_name(alloc, layout, scope, target.name, false, fields);
+    let (value, old) = beside(value, old)?;
     let parts = from_index(target.parts.as_slice());
     replaced(alloc, layout, scope, old, parts, value)
 }

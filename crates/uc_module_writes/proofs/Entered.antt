@@ -1,6 +1,6 @@
 -- The tables of a module's declarations.
 use Rattle.std.proofs.Common.{◌≡◌, ℕ, ◌+◌, ◌<◌, ◌≤◌, Bool, true, false, cond, List, [], ◌∷◌, ◌++◌, length, take, get_or, Option, Some, None, refl, ap, ◌∙◌, sym, subst, suc, append_assoc}
-use Rattle.std.specs.Prelude.{nat_eq}
+use Rattle.std.specs.Prelude.{nat_eq, Result, Ok, IfOk}
 use Rattle.std.specs.List.{cons_option, filter_map, find, flat_map}
 use Rattle.std.proofs.lemmas.List.{take_all}
 use Rattle.uc_syntax.proofs.Added.{append_nil}
@@ -105,6 +105,10 @@ some_declared d p some o f = ap (or_else o) (turned (nat_eq p.identifier.name f)
     turned false = refl
 
 -- a step is entered, unless one was
+-- what an answer says of the value that it gave
+pub given : {T E : Type 0} (P : T → Type 0) (r : Result T E) (x : T) → r ≡ Ok x → IfOk r P → P x
+given P r x is says = subst (λ y. IfOk y P) is says
+
 pub step_entered : (names : List ℕ) (known : ℕ → Option WrittenPairs) (i : InstanceParts) (before : Option InstanceParts) (x name : ℕ) (s : Stepped) (w : WrittenPairs) (ob nb : Option Stepped) (oc nc : Option WrittenPairs) → i.name ≡ name →
     IsStepAs names (known i.module_name) i w → s.parts ≡ w.parts → s.meet ≡ any_pair overlap w.pairs → nb ≡ or_else ob (only_if (nat_eq name x) (Some s)) → nc ≡ or_else oc (only_if (nat_eq name x) (Some w)) →
     EntersStep names known before ob oc → EntersStep names known (or_else before (if_named x (Some i))) nb nc

@@ -19,7 +19,7 @@ use Rattle.uc_step_parts.specs.declared.outer.OuterNames.{OuterNames}
 use Rattle.uc_step_parts.specs.Outer.{IsOuter}
 use Rattle.uc_step_parts.proofs.Bound.{outer_as}
 use Rattle.uc_module_writes.specs.Bound.{BindsApart}
-use Rattle.uc_module_writes.specs.Stepped.{IsIdle, IsStep, IsStepAs, MeetsOutside, joined, outer_pair, pair_by, unless}
+use Rattle.uc_module_writes.specs.Stepped.{HasStep, IsIdle, IsStep, IsStepAs, MeetsOutside, joined, outer_pair, pair_by, unless}
 
 none_some : {A B : Type 0} (x : B) → None ≡ Some x → A
 none_some x h = cc
@@ -198,16 +198,20 @@ pair_as : (t : OuterNames) (i : InstanceParts) → IsOuter t i → (ps : List (P
 pair_as t i outer [] = refl
 pair_as t i outer (p ∷ ps) = (λ k. cons_option (unless (overlap p.0 p.1) (joined (outer_as t i outer p.0 k) (outer_as t i outer p.1 k))) (pair_as t i outer ps k))
 
-pub step_made : (names : List ℕ) (inner : WrittenPairs) (i : InstanceParts) (outer : OuterNames) (none mid w : WrittenPairs) (ps slice : List Part) (qs : List (Part × Part)) → IsOuter outer i → none.parts ≡ [] → none.kept ≡ [] → none.pairs ≡ [] →
-    slice ≡ stepped_parts i ps → ps ≡ inner.parts → qs ≡ inner.pairs → SameThings mid.parts (none.parts ++ slice) → SameThings mid.kept (none.kept ++ filter (is_kept names) slice) → mid.pairs ≡ none.pairs → w.parts ≡ mid.parts → w.kept ≡ mid.kept →
-    SameThings w.pairs (mid.pairs ++ filter_map (pair_by outer) qs) → IsStep names inner i w
-step_made names inner i outer none mid w ps slice qs is no-parts no-kept no-pairs slice-is ps-is qs-is parts kept pairs parts-stay kept-stay more = record {
-  parts = λ test. ap (list_any test) parts-stay ∙ parts test ∙ (λ k. list_any test (no-parts k ++ slice-is k)) ∙ ap (λ x. list_any test (stepped_parts i x)) ps-is;
-  pairs = λ test. more test ∙ (λ k. list_any test ((pairs ∙ no-pairs) k ++ (pair_as outer i is qs ∙ ap (filter_map (outer_pair i)) qs-is) k));
-  kept = λ test.
-      ap (list_any test) kept-stay ∙ kept test ∙ ap (λ x. list_any test (x ++ filter (is_kept names) slice)) no-kept
-      ∙ sym (same_filter (is_kept names) mid.parts slice (λ t. parts t ∙ ap (λ x. list_any t (x ++ slice)) no-parts) test)
-      ∙ sym (ap (λ x. list_any test (filter (is_kept names) x)) parts-stay);
+pub has_step : (names : List ℕ) (outer : OuterNames) (none mid w : WrittenPairs) (ps : List Part) (qs : List (Part × Part)) → none.parts ≡ [] → none.kept ≡ [] → none.pairs ≡ [] → SameThings mid.parts (none.parts ++ ps) →
+    SameThings mid.kept (none.kept ++ filter (is_kept names) ps) → mid.pairs ≡ none.pairs → w.parts ≡ mid.parts → w.kept ≡ mid.kept → SameThings w.pairs (mid.pairs ++ filter_map (pair_by outer) qs) → HasStep names outer ps qs w
+has_step names outer none mid w ps qs no-parts no-kept no-pairs parts kept pairs parts-stay kept-stay more = record {
+  parts = λ test. ap (list_any test) parts-stay ∙ parts test ∙ ap (λ x. list_any test (x ++ ps)) no-parts;
+  kept = λ test. ap (list_any test) kept-stay ∙ kept test ∙ ap (λ x. list_any test (x ++ filter (is_kept names) ps)) no-kept;
+  pairs = λ test. more test ∙ ap (λ x. list_any test (x ++ filter_map (pair_by outer) qs)) (pairs ∙ no-pairs);
+}
+
+pub step_made : (names : List ℕ) (inner : WrittenPairs) (i : InstanceParts) (outer : OuterNames) (w : WrittenPairs) (ps slice : List Part) (qs : List (Part × Part)) → IsOuter outer i → slice ≡ stepped_parts i ps → ps ≡ inner.parts → qs ≡ inner.pairs →
+    HasStep names outer slice qs w → IsStep names inner i w
+step_made names inner i outer w ps slice qs is slice-is ps-is qs-is has = record {
+  parts = λ test. has.parts test ∙ ap (list_any test) (slice-is ∙ ap (stepped_parts i) ps-is);
+  pairs = λ test. has.pairs test ∙ ap (list_any test) (pair_as outer i is qs ∙ ap (filter_map (outer_pair i)) qs-is);
+  kept = λ test. has.kept test ∙ sym (same_filter (is_kept names) w.parts slice has.parts test);
 }
 
 pub idle_step : (names : List ℕ) (o : Option WrittenPairs) (i : InstanceParts) (w : WrittenPairs) → None ≡ o → w.parts ≡ [] → w.kept ≡ [] → w.pairs ≡ [] → IsStepAs names o i w

@@ -1,5 +1,5 @@
 -- What is found of the steps of instances and of modules.
-use Rattle.std.specs.Prelude.{◌≡◌, ℕ, suc, Bool, true, false, nat_eq, if◌then◌else◌, List, [], Option, Some, None}
+use Rattle.std.specs.Prelude.{◌≡◌, ℕ, suc, Bool, true, false, nat_eq, if◌then◌else◌, List, [], filter, Option, Some, None}
 use Rattle.std.specs.List.{filter_map, find}
 use Rattle.std.specs.Option.{option_and_then, option_map}
 use Rattle.indexmap.specs.IndexMap.{get}
@@ -46,6 +46,12 @@ pub record IsStep (names : List ℕ) (inner : WrittenPairs) (i : InstanceParts) 
   pub parts : SameThings w.parts (stepped_parts i inner.parts)
   pub pairs : SameThings w.pairs (filter_map (outer_pair i) inner.pairs)
   pub kept : TellsKept names w
+
+-- The step has these parts, and these pairs of the instance as pairs of the parent.
+pub record HasStep (names : List ℕ) (outer : OuterNames) (ps : List Part) (qs : List (Part × Part)) (w : WrittenPairs) : Type 0 where
+  pub parts : SameThings w.parts ps
+  pub kept : SameThings w.kept (filter (is_kept names) ps)
+  pub pairs : SameThings w.pairs (filter_map (pair_by outer) qs)
 
 -- Nothing is written where nothing is known of the instance's module.
 pub record IsIdle (w : WrittenPairs) : Type 0 where

@@ -1,6 +1,6 @@
 //! All modules of a design.
 
-ghost use Rattle.std.specs.Prelude.{◌≡◌, ℕ, suc, IfOk, OnOk};
+ghost use Rattle.std.specs.Prelude.{◌≡◌, ℕ, suc, [], None, IfOk, OnOk};
 ghost use Rattle.std.specs.List.{flat_map};
 ghost use Rattle.uc_syntax.specs.declared.declaration.Module.{Module};
 ghost use Rattle.uc_meaning.specs.Lookup.{System};
@@ -9,8 +9,9 @@ ghost use Rattle.uc_order_rules.specs.Writes.{overlap, twice_in_step, written_th
 ghost use Rattle.uc_written_pairs.specs.Found.{FindsBlock};
 ghost use Rattle.uc_way_laws.specs.AliasLaw.{IsAmong};
 ghost use Rattle.uc_module_writes.specs.Places.{place_by, place_named};
+ghost use Rattle.uc_module_writes.specs.Noted.{NotesAll};
 ghost use Rattle.uc_module_writes.specs.Premise.{NoInstanceCycles};
-ghost use Rattle.uc_module_writes.specs.Stepped.{summary_by, MeetsAmong, IsReady, NotesModule};
+ghost use Rattle.uc_module_writes.specs.Stepped.{summary_at, summary_by, AreTables, MeetsAmong, IsReady, NotesModule};
 
 use crate::bound::paired_names;
 use crate::graph::instance_graph;
@@ -37,8 +38,25 @@ pub fn note_twice_in_step(
 {
     let modules = design.system().modules;
     let names = paired_names(alloc, modules)?;
-    let places = ModulePlaces::of(alloc, modules)?;
-    note_in_order(alloc, design, &names, &places, first)?;
+    let noted = note_among(alloc, design, &names, first);
+    drop(names);
+    noted?;
+    Ok(())
+}
+
+/// The same, where the names whose parts are paired are known.
+fn note_among(
+    alloc: Global,
+    design: &DesignNames<'_>,
+    names: &NameSet,
+    first: &mut Option<Fault>,
+) -> Result<(), AllocError>
+    ensures { OnOk result (NoInstanceCycles design.now → ((m : Module) → IsAmong m design.now.modules → MeetsAmong names.now m) → first.new ≡ first_of first.old (flat_map (twice_in_step design.now) design.now.modules)) }
+{
+    let places = ModulePlaces::of(alloc, design.system().modules)?;
+    let noted = note_in_order(alloc, design, names, &places, first);
+    drop(places);
+    noted?;
     Ok(())
 }
 
@@ -52,11 +70,45 @@ fn note_in_order(
     ensures { OnOk result (NoInstanceCycles design.now → ((m : Module) → IsAmong m design.now.modules → MeetsAmong names.now m) → ((x : ℕ) → place_by places.now x ≡ place_named design.now.modules x) → first.new ≡ first_of first.old (flat_map (twice_in_step design.now) design.now.modules)) }
 {
     let graph = instance_graph(alloc, places, design.system().modules)?;
-    let ordered = needed_first(alloc, graph.as_slice())?;
-    let order = ordered.as_slice();
+    let ordered = needed_first(alloc, graph.as_slice());
+    drop(graph);
+    let ordered = ordered?;
+    let noted = note_ordered(alloc, design, names, places, ordered.as_slice(), first);
+    drop(ordered);
+    noted?;
+    Ok(())
+}
+
+fn note_ordered(
+    alloc: Global,
+    design: &DesignNames<'_>,
+    names: &NameSet,
+    places: &ModulePlaces,
+    order: &[usize],
+    first: &mut Option<Fault>,
+) -> Result<(), AllocError>
+    ensures { OnOk result (NotesAll design.now names.now places.now order.now first.old first.new) }
+{
     let mut summaries = Summaries::new(alloc);
+    let noted = note_each(alloc, design, names, places, order, &mut summaries, first);
+    drop(summaries);
+    noted?;
+    Ok(())
+}
+
+fn note_each(
+    alloc: Global,
+    design: &DesignNames<'_>,
+    names: &NameSet,
+    places: &ModulePlaces,
+    order: &[usize],
+    summaries: &mut Summaries,
+    first: &mut Option<Fault>,
+) -> Result<(), AllocError>
+    ensures { OnOk result (((k : ℕ) → summary_at summaries.old k ≡ None) → NotesAll design.now names.now places.now order.now first.old first.new) }
+{
     for place in order {
-        note_module(alloc, design, names, places, *place, &mut summaries, first)?;
+        note_module(alloc, design, names, places, *place, summaries, first)?;
     }
     Ok(())
 }
@@ -93,7 +145,7 @@ fn note_in_module(
 {
     let mut effects = Effects::new(alloc);
     let mut table = StepTable::new(alloc, names);
-    enter_all(
+    let written = note_declared(
         alloc,
         names,
         places,
@@ -101,8 +153,29 @@ fn note_in_module(
         declarations,
         &mut effects,
         &mut table,
-    )?;
-    note_written_twice(alloc, &effects, declarations, first)?;
-    let written = written_pairs(alloc, &effects, &table, declarations)?;
+        first,
+    );
+    drop((effects, table));
+    let written = written?;
+    Ok(written)
+}
+
+/// The same, with tables that have nothing yet.
+fn note_declared<'a>(
+    alloc: Global,
+    names: &NameSet,
+    places: &ModulePlaces,
+    summaries: &Summaries,
+    declarations: &'a [Decl],
+    effects: &mut Effects<'a>,
+    table: &mut StepTable<'_>,
+    first: &mut Option<Fault>,
+) -> Result<WrittenPairs, AllocError>
+    ensures faults { OnOk result (AreTables names.now (summary_by places.now summaries.now) [] effects.old table.old → (system : System) (n : ℕ) (m : Module) → m.decls ≡ declarations.now → MeetsAmong names.now m → IsReady names.now (summary_by places.now summaries.now) n system m → first.new ≡ first_of first.old (written_through (suc n) system overlap m).faults) }
+    ensures written { IfOk result (λ w. AreTables names.now (summary_by places.now summaries.now) [] effects.old table.old → (system : System) (n : ℕ) (m : Module) → m.decls ≡ declarations.now → MeetsAmong names.now m → IsReady names.now (summary_by places.now summaries.now) n system m → FindsBlock names.now (λ meets. written_through (suc n) system meets m) w) }
+{
+    enter_all(alloc, names, places, summaries, declarations, effects, table)?;
+    note_written_twice(alloc, effects, declarations, first)?;
+    let written = written_pairs(alloc, effects, table, declarations)?;
     Ok(written)
 }

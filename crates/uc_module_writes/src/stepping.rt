@@ -1,6 +1,6 @@
 //! What it is to step an instance, by what its module writes.
 
-ghost use Rattle.std.specs.Prelude.{◌≡◌, ◌++◌, filter, IfOk, OnOk};
+ghost use Rattle.std.specs.Prelude.{◌≡◌, ◌++◌, [], filter, IfOk, OnOk};
 ghost use Rattle.std.specs.List.{filter_map};
 ghost use Rattle.std.specs.Option.{option_map};
 ghost use Rattle.uc_meaning.specs.Cells.{as_list};
@@ -9,10 +9,10 @@ ghost use Rattle.uc_order_rules.specs.Writes.{overlap, stepped_parts};
 ghost use Rattle.uc_pair_laws.specs.Pairs.{any_pair, SameThings};
 ghost use Rattle.uc_step_parts.specs.Outer.{IsOuter};
 ghost use Rattle.uc_written_pairs.specs.Found.{is_kept};
-ghost use Rattle.uc_module_writes.specs.Stepped.{pair_by, IsStep};
+ghost use Rattle.uc_module_writes.specs.Stepped.{pair_by, HasStep, IsStep};
 
 use std::alloc::{AllocError, Global};
-use uc_items::Items;
+use uc_items::{Items, beside};
 use uc_step_parts::{OuterNames, outer_part, overlaps, stepped_parts};
 use uc_syntax::Binding;
 use uc_type_names::NameSet;
@@ -30,11 +30,58 @@ pub(crate) fn step_of(
     ensures { IfOk result (λ w. (i : InstanceParts) → i.name ≡ instance → i.bindings ≡ bindings.now → IsStep names.now inner.now i w) }
 {
     let outer = OuterNames::of(alloc, bindings)?;
-    let parts = stepped_parts(alloc, &outer, instance, inner.parts())?;
-    let mut step = WrittenPairs::new(alloc);
-    add_parts(alloc, names, parts.as_slice(), &mut step)?;
-    add_pairs(alloc, &outer, inner.pairs(), &mut step)?;
+    let step = step_by(alloc, names, &outer, instance, inner);
+    drop(outer);
+    let step = step?;
     Ok(step)
+}
+
+/// The same, by the names that are bound in the instance.
+fn step_by(
+    alloc: Global,
+    names: &NameSet,
+    outer: &OuterNames,
+    instance: u32,
+    inner: &WrittenPairs,
+) -> Result<WrittenPairs, AllocError>
+    ensures { IfOk result (λ w. (i : InstanceParts) → i.name ≡ instance → IsOuter outer.now i → IsStep names.now inner.now i w) }
+{
+    let parts = stepped_parts(alloc, outer, instance, inner.parts())?;
+    let step = step_with(alloc, names, outer, parts.as_slice(), inner.pairs());
+    drop(parts);
+    let step = step?;
+    Ok(step)
+}
+
+/// What has these parts, and pairs of an instance as pairs of the parent.
+fn step_with(
+    alloc: Global,
+    names: &NameSet,
+    outer: &OuterNames,
+    parts: &[Items<u32>],
+    pairs: &[(Items<u32>, Items<u32>)],
+) -> Result<WrittenPairs, AllocError>
+    ensures { IfOk result (HasStep names.now outer.now parts.now pairs.now) }
+{
+    let mut step = WrittenPairs::new(alloc);
+    let added = add_all(alloc, names, outer, parts, pairs, &mut step);
+    let (step, _) = beside(step, added)?;
+    Ok(step)
+}
+
+fn add_all(
+    alloc: Global,
+    names: &NameSet,
+    outer: &OuterNames,
+    parts: &[Items<u32>],
+    pairs: &[(Items<u32>, Items<u32>)],
+    step: &mut WrittenPairs,
+) -> Result<(), AllocError>
+    ensures { OnOk result (step.old.parts ≡ [] → step.old.kept ≡ [] → step.old.pairs ≡ [] → HasStep names.now outer.now parts.now pairs.now step.new) }
+{
+    add_parts(alloc, names, parts, step)?;
+    add_pairs(alloc, outer, pairs, step)?;
+    Ok(())
 }
 
 fn add_parts(

@@ -43,7 +43,8 @@ impl Summaries {
     pub(crate) fn insert(&mut self, place: usize, written: WrittenPairs) -> Result<(), AllocError>
         ensures { OnOk result ((k : ℕ) → summary_at self.new k ≡ (if nat_eq place k then Some written else summary_at self.old k)) }
     {
-        self.written.insert(place, written)?;
+        let before = self.written.insert(place, written)?;
+        drop(before);
         Ok(())
     }
 }

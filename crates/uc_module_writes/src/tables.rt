@@ -13,6 +13,7 @@ use crate::places::ModulePlaces;
 use crate::stepping::{step_of, stepped_from};
 use crate::summaries::Summaries;
 use std::alloc::{AllocError, Global};
+use uc_items::beside;
 use uc_lookup::InstanceParts;
 use uc_syntax::{Decl, Procedure};
 use uc_type_names::NameSet;
@@ -147,8 +148,9 @@ fn enter_step(
     ensures procedures { OnOk result ((f : ℕ) → procedure_by effects.new f ≡ procedure_by effects.old f) }
     ensures instances { OnOk result ((names : List ℕ) (known : ℕ → Option WrittenPairs) (i : InstanceMeant) (before : Option InstanceMeant) (x : ℕ) → i.name ≡ name → IsStepAs names (known i.module_name) i step → EntersStep names known before (stepped_by effects.old x) (entered_by table.old x) → EntersStep names known (or_else before (if_named x (Some i))) (stepped_by effects.new x) (entered_by table.new x)) }
 {
-    let stepped = stepped_from(alloc, &step)?;
-    effects.enter_instance(name, stepped)?;
+    let stepped = stepped_from(alloc, &step);
+    let (step, stepped) = beside(step, stepped)?;
     table.enter(name, step)?;
+    effects.enter_instance(name, stepped)?;
     Ok(())
 }

@@ -37,6 +37,10 @@ lists_one run holds place n sites is listed choices = ap (λ ss. record (running
 pub comes_with : (run r : Run) (b c : Bool) (place : Place) (n : ℕ) → b ≡ c → Comes run (site_unless b place n) r → Comes run (site_unless c place n) r
 comes_with run r b c place n same comes choices = comes choices ∙ ap (λ d. site_unless d place n (running choices run)) same
 
+-- another scope, where the sites that are listed stay
+pub placed : (run : Run) (s t : Scope) (sites : List Site) → s ≡ t → sites ≡ run.violated → Comes run (λ here. record here { scope = t }) (record { scope = s; violated = sites; used = run.used })
+placed run s t sites same stay choices i = record { scope = same i; sites = stay i; left = drop run.used choices }
+
 -- an assumed formula
 module _ (system : System) (run : Run) (e : Expr) (b : Bool) (holds : b ≡ is_true system run.scope e) where
   pub assumes_true : b ≡ true → Ends run (λ r. if is_true system r.scope e then GoesOn r else IsStopped) (Goes run)

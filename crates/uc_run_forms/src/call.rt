@@ -44,8 +44,9 @@ pub fn entered(
     ensures caller { IfOk result (λ c. c.caller ≡ run.scope.locals) }
     ensures wide { TellsWide (first_wide (all_met_in layout.now run.scope arguments.now ++ all_met_in layout.now (entry_of layout.now code.now procedure.now arguments.now run.scope) (requires_of procedure.now))) result }
 {
-    let locals = parameters(alloc, layout, &run.scope, code, procedure, arguments)?;
-    let (inside, caller) = exchanged(run, locals);
+    let locals = parameters(alloc, layout, &run.scope, code, procedure, arguments);
+    let (before, locals) = beside(run, locals)?;
+    let (inside, caller) = exchanged(before, locals);
     let begun = begun(alloc, layout, choices, inside, place, code, procedure);
     let (caller, begun) = beside(caller, begun)?;
     Ok(Entry { begun, caller })
@@ -65,7 +66,9 @@ fn parameters(
 {
     let values = values(alloc, layout, scope, arguments)?;
     let parameters = procedure.parameters.as_slice();
-    let locals = bound_locals(alloc, layout, code, parameters, values.as_slice())?;
+    let locals = bound_locals(alloc, layout, code, parameters, values.as_slice());
+    drop(values);
+    let locals = locals?;
     Ok(locals)
 }
 
@@ -143,8 +146,14 @@ pub fn returned(
             let run = handed_back(alloc, layout, caller, run, targets, results)?;
             Ok(Ending::Goes(run))
         }
-        Ending::Stopped => Ok(Ending::Stopped),
-        Ending::BadChoice(number) => Ok(Ending::BadChoice(number)),
+        Ending::Stopped => {
+            drop(caller);
+            Ok(Ending::Stopped)
+        }
+        Ending::BadChoice(number) => {
+            drop(caller);
+            Ok(Ending::BadChoice(number))
+        }
     }
 }
 
@@ -161,14 +170,34 @@ fn handed_back(
     ensures value { IfOk result (λ r. Comes run (λ here. in_scope here (write_all layout.now targets.now (results_in layout.now here.scope results.now) (with_locals here.scope caller))) r) }
     ensures wide { TellsWide (first_wide (targets_met layout.now targets.now (results_in layout.now run.scope results.now) (with_locals run.scope caller))) result }
 {
-    let values = result_values(alloc, layout, &run.scope, results)?;
-    let (outside, _) = exchanged(run, caller);
+    let values = result_values(alloc, layout, &run.scope, results);
+    let ((run, caller), values) = beside((run, caller), values)?;
+    let (outside, inner) = exchanged(run, caller);
+    drop(inner);
+    let after = written(alloc, layout, outside, targets, values.as_slice());
+    drop(values);
+    let after = after?;
+    Ok(after)
+}
+
+/// The execution after targets are written.
+fn written(
+    alloc: Global,
+    layout: &Layout,
+    run: Run,
+    targets: &[Target],
+    values: &[Value],
+) -> Result<Run, EvalError>
+    ensures value { IfOk result (λ r. Comes run (λ here. in_scope here (write_all layout.now targets.now values.now here.scope)) r) }
+    ensures wide { TellsWide (first_wide (targets_met layout.now targets.now values.now run.scope)) result }
+{
     let Run {
         scope,
         violated,
         used,
-    } = outside;
-    let scope = write_all(alloc, layout, scope, targets, values.as_slice())?;
+    } = run;
+    let scope = write_all(alloc, layout, scope, targets, values);
+    let (violated, scope) = beside(violated, scope)?;
     Ok(Run {
         scope,
         violated,

@@ -6,11 +6,13 @@ ghost use Rattle.uc_meaning.specs.Types.{type_of_written};
 ghost use Rattle.uc_meaning.specs.Code.{Goes as goes_on, declare, declare_at, choose, name_now, set_name, in_scope, push_local, names_with_types};
 ghost use Rattle.uc_run_parts.specs.Parts.{fitting};
 ghost use Rattle.uc_run_forms.specs.Choices.{IsChosen};
+ghost use Rattle.uc_run_forms.specs.declared.run.Ending.TheVariants.{BadChoice};
 ghost use Rattle.uc_run_forms.specs.Runs.{running, ending_of, Comes};
 
 use crate::local::with_local;
 use crate::run::{Ending, Run};
 use std::alloc::{AllocError, Global};
+use uc_items::beside;
 use uc_layout::Layout;
 use uc_meaning::{Local, Scope};
 use uc_run_parts::{choice, set_name};
@@ -33,7 +35,10 @@ pub fn declared(
 {
     match layout.system().module_at(run.scope.path.as_slice()) {
         Some(code) => declare_names(alloc, layout, choices, code, run, names, ty),
-        None => Ok(Ending::Stopped),
+        None => {
+            drop(run);
+            Ok(Ending::Stopped)
+        }
     }
 }
 
@@ -99,7 +104,8 @@ fn declare(
 ) -> Result<Ending, AllocError>
     ensures { IfOk result (λ e. ending_of choices.now e ≡ choose (type_of_written layout.now code.now written.now) (λ v here. goes_on (push_local name (type_of_written layout.now code.now written.now) v here)) (running choices.now run)) }
 {
-    let chosen = choice_for(alloc, layout, choices, run.used, code, written)?;
+    let chosen = choice_for(alloc, layout, choices, run.used, code, written);
+    let (run, chosen) = beside(run, chosen)?;
     match chosen {
         Some(chosen) => {
             let Chosen { ty, value } = chosen;
@@ -107,8 +113,17 @@ fn declare(
             let run = with_local(alloc, run, Local { name, ty, value })?;
             Ok(Ending::Goes(run))
         }
-        None => Ok(Ending::BadChoice(run.used)),
+        None => Ok(refused(run)),
     }
+}
+
+/// The ending where the next choice does not fit.
+fn refused(run: Run) -> Ending
+    ensures { result ≡ BadChoice run.used }
+{
+    let used = run.used;
+    drop(run);
+    Ending::BadChoice(used)
 }
 
 /// A choice with its type.
@@ -130,10 +145,14 @@ fn choice_for(
     ensures { IfOk result (λ c. IsChosen choices.now place (type_of_written layout.now code.now written.now) c) }
 {
     let ty = type_of_written(alloc, layout.tables(), code, written)?;
-    let chosen = choice(alloc, &ty, choices, place)?;
+    let chosen = choice(alloc, &ty, choices, place);
+    let (ty, chosen) = beside(ty, chosen)?;
     match chosen {
         Some(value) => Ok(Some(Chosen { ty, value })),
-        None => Ok(None),
+        None => {
+            drop(ty);
+            Ok(None)
+        }
     }
 }
 
@@ -147,13 +166,14 @@ pub fn havoc(
 ) -> Result<Ending, AllocError>
     ensures { IfOk result (λ e. ending_of choices.now e ≡ choose (name_now layout.now run.scope name).type (λ v here. goes_on (in_scope here (set_name layout.now here.scope name v))) (running choices.now run)) }
 {
-    let chosen = choice_of(alloc, layout, choices, run.used, &run.scope, name)?;
+    let chosen = choice_of(alloc, layout, choices, run.used, &run.scope, name);
+    let (run, chosen) = beside(run, chosen)?;
     match chosen {
         Some(value) => {
             let run = after_choice(choices, run);
             Ok(Ending::Goes(given(layout, run, name, value)))
         }
-        None => Ok(Ending::BadChoice(run.used)),
+        None => Ok(refused(run)),
     }
 }
 
@@ -169,7 +189,9 @@ fn choice_of(
     ensures { IfOk result (λ v. v ≡ fitting (name_now layout.now scope.now name).type (slice_get choices.now place)) }
 {
     let ty = type_now(alloc, layout, scope, name)?;
-    choice(alloc, &ty, choices, place)
+    let chosen = choice(alloc, &ty, choices, place);
+    drop(ty);
+    chosen
 }
 
 /// The execution after a name is given a value.

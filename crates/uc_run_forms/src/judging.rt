@@ -12,6 +12,7 @@ ghost use Rattle.uc_run_forms.specs.Runs.{Comes, Ends};
 use crate::run::{Ending, Run};
 use std::alloc::{AllocError, Global};
 use uc_evaluator::is_true;
+use uc_items::beside;
 use uc_layout::Layout;
 use uc_meaning::{Path, Scope, Site};
 use uc_operators::EvalError;
@@ -31,8 +32,9 @@ pub fn judged(
     ensures value { IfOk result (λ r. Comes run (site_unless (is_true layout.now run.scope formula.now) place number) r) }
     ensures wide { TellsWide (first_wide (met layout.now run.scope formula.now)) result }
 {
-    let holds = holds(alloc, layout, &run.scope, formula)?;
-    let run = listed(alloc, run, holds, place, number)?;
+    let holds = holds(alloc, layout, &run.scope, formula);
+    let (before, holds) = beside(run, holds)?;
+    let run = listed(alloc, before, holds, place, number)?;
     Ok(run)
 }
 
@@ -46,10 +48,12 @@ pub fn assumed(
     ensures value { IfOk result (λ e. Ends run (λ r. if is_true layout.now r.scope formula.now then goes_on r else is_stopped) e) }
     ensures wide { TellsWide (first_wide (met layout.now run.scope formula.now)) result }
 {
-    let holds = holds(alloc, layout, &run.scope, formula)?;
+    let holds = holds(alloc, layout, &run.scope, formula);
+    let (run, holds) = beside(run, holds)?;
     if holds {
         Ok(Ending::Goes(run))
     } else {
+        drop(run);
         Ok(Ending::Stopped)
     }
 }
@@ -69,9 +73,10 @@ pub(crate) fn judge_requires(
     let mut number: u32 = 1;
     for clause in clauses {
         if let Clause::Requires(_, formula) = clause {
-            let next = judged(alloc, layout, here, place, number, formula)?;
+            let judged = judged(alloc, layout, here, place, number, formula)?;
+            let (next, more) = beside(judged, after(number))?;
             here = next;
-            number = after(number)?;
+            number = more;
         }
     }
     Ok(here)
@@ -110,7 +115,8 @@ fn listed(
     if is_kept {
         return Ok(run);
     }
-    let path = Path::from_slice(alloc, run.scope.path.as_slice())?;
+    let path = Path::from_slice(alloc, run.scope.path.as_slice());
+    let (run, path) = beside(run, path)?;
     let site = Site {
         path,
         place,
@@ -121,7 +127,7 @@ fn listed(
         violated,
         used,
     } = run;
-    let violated = list_site(violated, site)?;
+    let (scope, violated) = beside(scope, list_site(violated, site))?;
     Ok(Run {
         scope,
         violated,

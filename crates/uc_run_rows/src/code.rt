@@ -1,10 +1,11 @@
-use crate::layout::layout_of;
+use crate::cells::{array, record, with};
+use crate::layout::{formula_of, layout_of};
 use Outcome::{BadChoice, Ends, Leaves, NoMemory, NotRead, NotTruth, Stopped};
 use std::alloc::{AllocError, Global};
 use std::process::Abort;
 use std::test::Fail;
 use uc_evaluator::eval_expr;
-use uc_items::{Boxed, Items};
+use uc_items::{Items, beside};
 use uc_layout::Layout;
 use uc_meaning::{CodeEnd, Interp, Path, Scope, State, WideOp};
 use uc_operators::EvalError;
@@ -139,36 +140,24 @@ const ROWS: [(&[u8], &[u8], Outcome); 32] = [
     (b"y = 8; y = i.out + 1;", b"y == 9", Ends(true, 0, 0)),
 ];
 
-/// The array of whole numbers that is 5 at 3, and else 0.
-fn array(alloc: Global) -> Result<Value, AllocError> {
-    let mut exceptions = Items::new(alloc);
-    exceptions.push((Value::Int(3), Value::Int(5)))?;
-    Ok(Value::Arr(Boxed::new(alloc, Value::Int(0))?, exceptions))
-}
-
-fn record(alloc: Global) -> Result<Value, AllocError> {
-    let mut parts = Items::new(alloc);
-    parts.push(Value::Int(2))?;
-    parts.push(Value::Bool(true))?;
-    Ok(Value::Rec(parts))
-}
-
 fn state(alloc: Global) -> Result<State, AllocError> {
-    let mut cells = Items::new(alloc);
-    cells.push(Value::Int(1))?;
-    cells.push(Value::Int(2))?;
-    cells.push(Value::Int(i128::MAX))?;
-    cells.push(array(alloc)?)?;
-    cells.push(record(alloc)?)?;
-    cells.push(Value::Bool(false))?;
-    cells.push(Value::Int(0))?;
+    let cells = with(Items::new(alloc), Value::Int(1))?;
+    let cells = with(cells, Value::Int(2))?;
+    let cells = with(cells, Value::Int(i128::MAX))?;
+    let (cells, array) = beside(cells, array(alloc))?;
+    let cells = with(cells, array)?;
+    let (cells, record) = beside(cells, record(alloc))?;
+    let cells = with(cells, record)?;
+    let cells = with(cells, Value::Bool(false))?;
+    let cells = with(cells, Value::Int(0))?;
     Ok(State { cells })
 }
 
 fn scope(alloc: Global) -> Result<Scope, AllocError> {
+    let before = state(alloc)?;
     Ok(Scope {
         path: Path::main(alloc),
-        before: state(alloc)?,
+        before,
         after: None,
         at_entry: None,
         copies: Items::new(alloc),
@@ -187,13 +176,6 @@ fn init_of(module: &Module) -> Option<&[Stmt]> {
     })
 }
 
-fn formula_of(module: &Module) -> Option<&Expr> {
-    module.decls.as_slice().iter().find_map(|decl| match decl {
-        Decl::Invariant(_, _, formula) => Some(formula),
-        _ => None,
-    })
-}
-
 fn outcome_of(
     alloc: Global,
     layout: &Layout,
@@ -207,11 +189,12 @@ fn outcome_of(
                 violated,
                 used,
             },
-        ) => match eval_expr(alloc, layout, &scope, formula) {
-            Ok(Value::Bool(holds)) => Ends(holds, violated.len(), used),
-            Ok(_) => NotTruth,
-            Err(_) => NoMemory,
-        },
+        ) => {
+            let said = eval_expr(alloc, layout, &scope, formula);
+            let sites = violated.len();
+            drop((scope, violated));
+            end_of(said, sites, used)
+        }
         Ok(CodeEnd::Stopped) => Stopped,
         Ok(CodeEnd::BadChoice(number)) => BadChoice(number),
         Err(EvalError::Wide(wide)) => Leaves(wide.op),
@@ -219,32 +202,53 @@ fn outcome_of(
     }
 }
 
-/// What comes of the init block of the first module of a text.
-fn run(alloc: Global, text: &[u8]) -> Result<Outcome, AllocError> {
-    let Some(layout) = layout_of(alloc, text)? else {
-        return Ok(NotRead);
-    };
+fn end_of(said: Result<Value, EvalError>, sites: usize, used: usize) -> Outcome {
+    match said {
+        Ok(value) => {
+            let outcome = truth_of(&value, sites, used);
+            drop(value);
+            outcome
+        }
+        Err(_) => NoMemory,
+    }
+}
+
+fn truth_of(value: &Value, sites: usize, used: usize) -> Outcome {
+    match value {
+        Value::Bool(holds) => Ends(*holds, sites, used),
+        _ => NotTruth,
+    }
+}
+
+/// What comes of the init block of a layout's main.
+fn run(alloc: Global, layout: &Layout) -> Result<Outcome, AllocError> {
     let [main, ..] = layout.system().modules else {
         return Ok(NotRead);
     };
     let (Some(code), Some(formula)) = (init_of(main), formula_of(main)) else {
         return Ok(NotRead);
     };
+    let scope = scope(alloc)?;
     let choices = [Value::Int(5), Value::Bool(true), Value::Int(7)];
-    let end = run_code(alloc, &layout, scope(alloc)?, code, &choices);
-    Ok(outcome_of(alloc, &layout, formula, end))
+    let end = run_code(alloc, layout, scope, code, &choices);
+    Ok(outcome_of(alloc, layout, formula, end))
+}
+
+/// The same of a text.
+fn found(alloc: Global, code: &[u8], formula: &[u8]) -> Result<Outcome, AllocError> {
+    let Some(layout) = layout_of(alloc, &[FRONT, code, MIDDLE, formula, BACK])? else {
+        return Ok(NotRead);
+    };
+    let outcome = run(alloc, &layout);
+    drop(layout);
+    outcome
 }
 
 #[test]
 fn code_ends_as_it_says(rt: HostRuntime) -> Result<(), Fail> {
     let alloc = rt.alloc();
     for (code, formula, expected) in ROWS {
-        let mut text = Vec::from_slice(alloc, FRONT)?;
-        text.extend_from_slice(code)?;
-        text.extend_from_slice(MIDDLE)?;
-        text.extend_from_slice(formula)?;
-        text.extend_from_slice(BACK)?;
-        let found = run(alloc, text.as_slice())?;
+        let found = found(alloc, code, formula)?;
         assert_eq!(rt; found, expected, "{code:?}");
     }
     Ok(())

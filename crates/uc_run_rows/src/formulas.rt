@@ -1,13 +1,14 @@
-use crate::layout::layout_of;
+use crate::layout::{formula_of, layout_of};
 use Answer::{False, Leaves, NoMemory, NotRead, NotTruth, True};
 use std::alloc::{AllocError, Global};
 use std::process::Abort;
 use std::test::Fail;
+use crate::cells::{array, record, with};
 use uc_evaluator::eval_expr;
-use uc_items::{Boxed, Items};
+use uc_items::{Items, beside};
+use uc_layout::Layout;
 use uc_meaning::{Interp, Path, Scope, State, WideOp};
 use uc_operators::EvalError;
-use uc_syntax::Decl;
 use uc_values::{Table, Value};
 
 /// What a formula is found to be.
@@ -55,86 +56,96 @@ const ROWS: [(&[u8], Answer); 22] = [
     (b"x", NotTruth),
 ];
 
-/// The array of whole numbers that is 5 at 3, and else 0.
-fn array(alloc: Global) -> Result<Value, AllocError> {
-    let mut exceptions = Items::new(alloc);
-    exceptions.push((Value::Int(3), Value::Int(5)))?;
-    Ok(Value::Arr(Boxed::new(alloc, Value::Int(0))?, exceptions))
-}
-
-fn record(alloc: Global) -> Result<Value, AllocError> {
-    let mut parts = Items::new(alloc);
-    parts.push(Value::Int(2))?;
-    parts.push(Value::Bool(true))?;
-    Ok(Value::Rec(parts))
-}
-
 fn state(alloc: Global) -> Result<State, AllocError> {
-    let mut cells = Items::new(alloc);
-    cells.push(Value::Int(7))?;
-    cells.push(Value::Int(i128::MAX))?;
-    cells.push(Value::Bv(4, 12))?;
-    cells.push(array(alloc)?)?;
-    cells.push(record(alloc)?)?;
-    cells.push(Value::Int(9))?;
+    let cells = with(Items::new(alloc), Value::Int(7))?;
+    let cells = with(cells, Value::Int(i128::MAX))?;
+    let cells = with(cells, Value::Bv(4, 12))?;
+    let (cells, array) = beside(cells, array(alloc))?;
+    let cells = with(cells, array)?;
+    let (cells, record) = beside(cells, record(alloc))?;
+    let cells = with(cells, record)?;
+    let cells = with(cells, Value::Int(9))?;
     Ok(State { cells })
 }
 
-fn interpretation(alloc: Global) -> Result<Interp, AllocError> {
-    let mut consts = Items::new(alloc);
-    consts.push(Value::Int(3))?;
+fn tables(alloc: Global) -> Result<Items<Table>, AllocError> {
     let mut tables = Items::new(alloc);
     tables.push(Table {
         rows: Items::new(alloc),
         default: Value::Int(4),
     })?;
+    Ok(tables)
+}
+
+fn interpretation(alloc: Global) -> Result<Interp, AllocError> {
+    let consts = with(Items::new(alloc), Value::Int(3))?;
+    let (consts, tables) = beside(consts, tables(alloc))?;
     Ok(Interp { consts, tables })
 }
 
 fn scope(alloc: Global) -> Result<Scope, AllocError> {
+    let before = state(alloc)?;
+    let (before, interp) = beside(before, interpretation(alloc))?;
     Ok(Scope {
         path: Path::main(alloc),
-        before: state(alloc)?,
+        before,
         after: None,
         at_entry: None,
         copies: Items::new(alloc),
         locals: Items::new(alloc),
-        interp: interpretation(alloc)?,
+        interp,
     })
 }
 
-/// What the formula of the first invariant of a text is.
-fn judged(alloc: Global, scope: &Scope, text: &[u8]) -> Result<Answer, AllocError> {
-    let Some(layout) = layout_of(alloc, text)? else {
-        return Ok(NotRead);
-    };
+fn answer_of(said: Result<Value, EvalError>) -> Answer {
+    match said {
+        Ok(value) => {
+            let answer = truth_of(&value);
+            drop(value);
+            answer
+        }
+        Err(EvalError::Wide(wide)) => Leaves(wide.op),
+        Err(EvalError::NoMemory) => NoMemory,
+    }
+}
+
+fn truth_of(value: &Value) -> Answer {
+    match value {
+        Value::Bool(true) => True,
+        Value::Bool(false) => False,
+        _ => NotTruth,
+    }
+}
+
+/// What the formula of the first invariant of a layout's main is.
+fn judged(alloc: Global, layout: &Layout) -> Result<Answer, AllocError> {
     let [main, ..] = layout.system().modules else {
         return Ok(NotRead);
     };
-    for declaration in main.decls.as_slice() {
-        if let Decl::Invariant(_, _, formula) = declaration {
-            let answer = match eval_expr(alloc, &layout, scope, formula) {
-                Ok(Value::Bool(true)) => True,
-                Ok(Value::Bool(false)) => False,
-                Ok(_) => NotTruth,
-                Err(EvalError::Wide(wide)) => Leaves(wide.op),
-                Err(EvalError::NoMemory) => NoMemory,
-            };
-            return Ok(answer);
-        }
-    }
-    Ok(NotRead)
+    let Some(formula) = formula_of(main) else {
+        return Ok(NotRead);
+    };
+    let scope = scope(alloc)?;
+    let said = eval_expr(alloc, layout, &scope, formula);
+    drop(scope);
+    Ok(answer_of(said))
+}
+
+/// The same of a text.
+fn found(alloc: Global, formula: &[u8]) -> Result<Answer, AllocError> {
+    let Some(layout) = layout_of(alloc, &[FRONT, formula, BACK])? else {
+        return Ok(NotRead);
+    };
+    let answer = judged(alloc, &layout);
+    drop(layout);
+    answer
 }
 
 #[test]
 fn formulas_are_what_they_say(rt: HostRuntime) -> Result<(), Fail> {
     let alloc = rt.alloc();
-    let scope = scope(alloc)?;
     for (formula, expected) in ROWS {
-        let mut text = Vec::from_slice(alloc, FRONT)?;
-        text.extend_from_slice(formula)?;
-        text.extend_from_slice(BACK)?;
-        let answer = judged(alloc, &scope, text.as_slice())?;
+        let answer = found(alloc, formula)?;
         assert_eq!(rt; answer, expected);
     }
     Ok(())

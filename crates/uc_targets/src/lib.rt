@@ -10,4 +10,5 @@ mod replacement;
 mod target;
 
 pub use assignment::{assign, values};
+pub use replacement::replaced;
 pub use target::{write, write_all};

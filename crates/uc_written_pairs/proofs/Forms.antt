@@ -14,7 +14,6 @@ use Rattle.uc_syntax.specs.declared.statement.Stmt.TheOpen.Stmt-F.{Local as Loca
 use Rattle.uc_syntax.specs.declared.statement.Stmt.TheViews.{roll-Stmt, Block, If, Case, For}
 use Rattle.uc_syntax.specs.declared.statement.Stmt.TheVariants.{Local, Skip, Assert, Assume, Havoc, Assign, Call, Next}
 use Rattle.uc_syntax.specs.declared.statement.Stmt.TheFolds.{fold-roll-Stmt}
-use Rattle.uc_syntax.proofs.Added.{append_nil}
 use Rattle.uc_meaning.specs.Code.{turns}
 use Rattle.uc_order_rules.specs.Paths.{Stretch, nothing, in_turn, one_of, times}
 use Rattle.uc_order_rules.specs.Writes.{Meets, Part, part_of_name, part_of_target, stepped_at, writes_at, writes_form}
@@ -23,7 +22,7 @@ use Rattle.uc_written_once.specs.Effects.{modified_by}
 use Rattle.uc_written_once.proofs.Single.{twice_mapped}
 use Rattle.uc_written_pairs.specs.declared.written.WrittenPairs.{WrittenPairs}
 use Rattle.uc_written_pairs.specs.declared.steps.StepTable.{StepTable}
-use Rattle.uc_written_pairs.specs.Found.{Code, Finds, FindsInTurn, FindsOneOf, FindsSteps, GoesOn, GoesOnWith, GoesOr, GoesOrWith, Steps, arm_stretches, single, stretch_of, stretches}
+use Rattle.uc_written_pairs.specs.Found.{Code, Finds, FindsArms, FindsCode, FindsInTurn, FindsOneOf, FindsSteps, GoesOn, GoesOnWith, GoesOrLast, Steps, arm_stretches, last_stretches, single, stretch_of, stretches}
 use Rattle.uc_written_pairs.proofs.Going.{on_block, on_equal, on_idle, on_parts, on_then}
 
 some_left : (n count : ℕ) → count ≡ min n (2 ^ 128 - 1) → 0 < count → 0 < n
@@ -88,22 +87,16 @@ module _ (e : Effects) (steps : Steps) where
     unfolding stretch_of roll-Stmt denote.Hole.Carrier.roll
     form_block block = fold-roll-Stmt (Stretch Part) (writes_form (modified_by e) (steps meets) meets) (BlockForm place block)
 
-    form_if_alone : (as' : List (Arm Stmt)) → S meets (If place as' None) ≡ one_of (arm_stretches e steps as' meets)
+    form_if : (as' : List (Arm Stmt)) (o : Option (List Stmt)) → S meets (If place as' o) ≡ one_of (arm_stretches e steps as' meets ++ last_stretches e steps o meets)
     unfolding stretch_of through roll-Stmt denote.Hole.Carrier.roll
-    form_if_alone as' = fold-roll-Stmt (Stretch Part) (writes_form (modified_by e) (steps meets) meets) (IfForm place as' None) ∙ ap one_of (append_nil _ ∙ of_arms meets as')
-
-    form_if_else : (as' : List (Arm Stmt)) (code : List Stmt) → S meets (If place as' (Some code)) ≡ one_of (arm_stretches e steps as' meets ++ in_turn (map (S meets) code) ∷ [])
-    unfolding stretch_of through roll-Stmt denote.Hole.Carrier.roll
-    form_if_else as' code =
+    form_if as' None = fold-roll-Stmt (Stretch Part) (writes_form (modified_by e) (steps meets) meets) (IfForm place as' None) ∙ ap (λ ws. one_of (ws ++ [])) (of_arms meets as')
+    form_if as' (Some code) =
         fold-roll-Stmt (Stretch Part) (writes_form (modified_by e) (steps meets) meets) (IfForm place as' (Some code)) ∙ ap (λ ws. one_of (ws ++ in_turn (map (S meets) code) ∷ [])) (of_arms meets as')
 
-    form_case_alone : (as' : List (Arm Stmt)) → S meets (Case place as' None) ≡ one_of (arm_stretches e steps as' meets)
+    form_case : (as' : List (Arm Stmt)) (o : Option (List Stmt)) → S meets (Case place as' o) ≡ one_of (arm_stretches e steps as' meets ++ last_stretches e steps o meets)
     unfolding stretch_of through roll-Stmt denote.Hole.Carrier.roll
-    form_case_alone as' = fold-roll-Stmt (Stretch Part) (writes_form (modified_by e) (steps meets) meets) (CaseForm place as' None) ∙ ap one_of (append_nil _ ∙ of_arms meets as')
-
-    form_case_else : (as' : List (Arm Stmt)) (code : List Stmt) → S meets (Case place as' (Some code)) ≡ one_of (arm_stretches e steps as' meets ++ in_turn (map (S meets) code) ∷ [])
-    unfolding stretch_of through roll-Stmt denote.Hole.Carrier.roll
-    form_case_else as' code =
+    form_case as' None = fold-roll-Stmt (Stretch Part) (writes_form (modified_by e) (steps meets) meets) (CaseForm place as' None) ∙ ap (λ ws. one_of (ws ++ [])) (of_arms meets as')
+    form_case as' (Some code) =
         fold-roll-Stmt (Stretch Part) (writes_form (modified_by e) (steps meets) meets) (CaseForm place as' (Some code)) ∙ ap (λ ws. one_of (ws ++ in_turn (map (S meets) code) ∷ [])) (of_arms meets as')
 
     form_for : (i : Identifier) (type : Option TypeExpr) (from to : RangeBound) (code : List Stmt) → S meets (For place i type from to code) ≡ in_turn (times (length (turns from to)) (in_turn (map (S meets) code)))
@@ -184,36 +177,19 @@ module _ (e : Effects) (t : StepTable) (old new : WrittenPairs) (s : Stmt) (plac
 
   -- Conditionals.
 
-  module _ (as' shown : List (Arm Stmt)) (none either : WrittenPairs) (o : Option (List Stmt)) (same : shown ≡ as') (begins : FindsOneOf ns (λ meets. []) none) (arms : GoesOrWith e t shown none either) where
-    found_arms : (steps : Steps) → FindsSteps t steps → FindsOneOf ns (arm_stretches e steps as') either
-    found_arms steps finds = subst (λ a. FindsOneOf ns (arm_stretches e steps a) either) same (arms steps finds (λ meets. []) begins)
+  module _ (as' shown : List (Arm Stmt)) (o : Option (List Stmt)) (others either : WrittenPairs) (same : shown ≡ as') (arms : FindsArms e t shown others) (last : GoesOrLast e t o others either)
+      (on : (names : List ℕ) (stretch : Meets → Stretch Part) → Finds names stretch either → GoesOn names (λ meets. stretch meets ∷ []) old new) where
+    found_all : (steps : Steps) → FindsSteps t steps → FindsOneOf ns (λ meets. arm_stretches e steps as' meets ++ last_stretches e steps o meets) either
+    found_all steps finds = last steps finds (arm_stretches e steps as') (subst (λ a. FindsOneOf ns (arm_stretches e steps a) others) same (arms steps finds))
 
-    pub if_alone_on : s ≡ If place as' o → o ≡ None → ((arms : Code) → FindsOneOf ns arms either → GoesOn ns (λ meets. one_of (arms meets) ∷ []) old new) → GoesOnWith e t (s ∷ []) old new
-    if_alone_on is otherwise on =
-        goes_as (λ steps meets. one_of (arm_stretches e steps as' meets)) (If place as' None) (is ∙ ap (If place as') otherwise) (λ steps meets. form_if_alone e steps place meets as')
-        (λ steps finds. on (arm_stretches e steps as') (found_arms steps finds))
+    abbrev chosen : Steps → Meets → Stretch Part
+    chosen steps meets = one_of (arm_stretches e steps as' meets ++ last_stretches e steps o meets)
 
-    pub case_alone_on : s ≡ Case place as' o → o ≡ None → ((arms : Code) → FindsOneOf ns arms either → GoesOn ns (λ meets. one_of (arms meets) ∷ []) old new) → GoesOnWith e t (s ∷ []) old new
-    case_alone_on is otherwise on =
-        goes_as (λ steps meets. one_of (arm_stretches e steps as' meets)) (Case place as' None) (is ∙ ap (Case place as') otherwise) (λ steps meets. form_case_alone e steps place meets as')
-        (λ steps finds. on (arm_stretches e steps as') (found_arms steps finds))
+    pub if_on : s ≡ If place as' o → GoesOnWith e t (s ∷ []) old new
+    if_on is = goes_as chosen (If place as' o) is (λ steps meets. form_if e steps place meets as' o) (λ steps finds. on ns (chosen steps) (found_all steps finds))
 
-    module _ (code shown_code : List Stmt) (later : WrittenPairs) (otherwise : o ≡ Some code) (same_code : shown_code ≡ code) (last : (steps : Steps) → FindsSteps t steps → GoesOr ns (λ meets. in_turn (stretches e steps shown_code meets) ∷ []) either later)
-        (on : (names : List ℕ) (stretch : Meets → Stretch Part) → Finds names stretch later → GoesOn names (λ meets. stretch meets ∷ []) old new) where
-      found_all : (steps : Steps) → FindsSteps t steps → FindsOneOf ns (λ meets. arm_stretches e steps as' meets ++ in_turn (stretches e steps code meets) ∷ []) later
-      found_all steps finds =
-          subst (λ b. FindsOneOf ns (λ meets. arm_stretches e steps as' meets ++ in_turn (stretches e steps b meets) ∷ []) later) same_code (last steps finds (arm_stretches e steps as') (found_arms steps finds))
-
-      abbrev chosen : Steps → Meets → Stretch Part
-      chosen steps meets = one_of (arm_stretches e steps as' meets ++ in_turn (stretches e steps code meets) ∷ [])
-
-      pub if_else_on : s ≡ If place as' o → GoesOnWith e t (s ∷ []) old new
-      if_else_on is =
-          goes_as chosen (If place as' (Some code)) (is ∙ ap (If place as') otherwise) (λ steps meets. form_if_else e steps place meets as' code) (λ steps finds. on ns (chosen steps) (found_all steps finds))
-
-      pub case_else_on : s ≡ Case place as' o → GoesOnWith e t (s ∷ []) old new
-      case_else_on is =
-          goes_as chosen (Case place as' (Some code)) (is ∙ ap (Case place as') otherwise) (λ steps meets. form_case_else e steps place meets as' code) (λ steps finds. on ns (chosen steps) (found_all steps finds))
+    pub case_on : s ≡ Case place as' o → GoesOnWith e t (s ∷ []) old new
+    case_on is = goes_as chosen (Case place as' o) is (λ steps meets. form_case e steps place meets as' o) (λ steps finds. on ns (chosen steps) (found_all steps finds))
 
   -- Loops.
 
@@ -229,10 +205,10 @@ module _ (e : Effects) (t : StepTable) (old new : WrittenPairs) (s : Stmt) (plac
         stays_idle (For place i type from to code) is
         (λ steps meets. form_for e steps place meets i type from to code ∙ ap (λ m. in_turn (times m (in_turn (stretches e steps code meets)))) (none_left n count counted h) ∙ never (in_turn (stretches e steps code meets)))
 
-    pub turns_on : (shown : List Stmt) (empty turn : WrittenPairs) (b : Bool) → 0 < count → shown ≡ code → FindsInTurn ns (λ meets. []) empty → GoesOnWith e t shown empty turn → b ≡ nat_lt 1 count →
+    pub turns_on : (shown : List Stmt) (turn : WrittenPairs) (b : Bool) → 0 < count → shown ≡ code → FindsCode e t shown turn → b ≡ nat_lt 1 count →
         ((names : List ℕ) (body : Code) (m : ℕ) → 0 < m → b ≡ nat_lt 1 m → FindsInTurn names body turn → GoesOn names (λ meets. in_turn (times m (in_turn (body meets))) ∷ []) old new) → GoesOnWith e t (s ∷ []) old new
-    turns_on shown empty turn b h same begins block often on =
+    turns_on shown turn b h same found often on =
         goes_as loop (For place i type from to code) is (λ steps meets. form_for e steps place meets i type from to code)
         (λ steps finds.
         on ns (stretches e steps code) n (some_left n count counted h) (often ∙ ap (nat_lt 1) counted ∙ cut_off n)
-        (subst (λ x. FindsInTurn ns (stretches e steps x) turn) same (block steps finds (λ meets. []) begins)))
+        (subst (λ x. FindsInTurn ns (stretches e steps x) turn) same (found steps finds)))

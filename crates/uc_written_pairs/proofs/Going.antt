@@ -1,10 +1,11 @@
 -- Code that goes on.
 use Rattle.std.proofs.Common.{◌≡◌, ℕ, zero, suc, ◌+◌, ◌<◌, ◌≤◌, Bool, true, false, cond, List, [], ◌∷◌, ◌++◌, length, take, get_or, map, Option, Some, None, refl, ap, ◌∙◌, sym, subst, arith, append_assoc}
-use Rattle.std.specs.Prelude.{◌||◌, ◌&&◌, not, filter, nat_lt}
+use Rattle.std.specs.Prelude.{◌||◌, ◌&&◌, not, filter, nat_lt, Result, Ok, IfOk, OnOk}
 use Rattle.std.specs.List.{flat_map, list_any}
 use Rattle.std.proofs.lemmas.List.{take_all, map-append}
 use Rattle.uc_lexer.specs.declared.place.Place.{Place}
 use Rattle.uc_syntax.specs.declared.place.Identifier.{Identifier}
+use Rattle.uc_syntax.specs.declared.statement.Arm.{Arm}
 use Rattle.uc_syntax.specs.declared.statement.Stmt.{Stmt}
 use Rattle.uc_syntax.specs.declared.declaration.Decl.{Decl}
 use Rattle.uc_meaning.specs.Lookup.{next_in}
@@ -24,7 +25,7 @@ use Rattle.uc_written_once.specs.declared.effects.Effects.{Effects}
 use Rattle.uc_written_once.specs.Effects.{modified_by}
 use Rattle.uc_written_once.proofs.Single.{twice_mapped}
 use Rattle.uc_written_pairs.specs.declared.steps.StepTable.{StepTable}
-use Rattle.uc_written_pairs.specs.Found.{Code, Finds, FindsBlock, FindsInTurn, FindsOneOf, FindsStep, FindsStepAs, FindsSteps, GoesOn, GoesOnWith, GoesOr, Steps, TellsKept, is_kept, single, stretch_of, stretches}
+use Rattle.uc_written_pairs.specs.Found.{Code, Finds, FindsArms, FindsBlock, FindsCode, FindsInTurn, FindsOneOf, FindsStep, FindsStepAs, FindsSteps, GoesOn, GoesOnWith, GoesOr, GoesOrLast, Steps, TellsKept, arm_stretches, is_kept, single, stretch_of, stretches}
 
 or_false : (b : Bool) → (b || false) ≡ b
 or_false true = refl
@@ -38,6 +39,10 @@ or_assoc false b c = refl
 pub breaks_is : (b : Bool) (rule : Rule) (place : Place) → not (is_empty (breaks_where b rule place)) ≡ b
 breaks_is true rule place = refl
 breaks_is false rule place = refl
+
+-- what a call says that returned of what it changed, which was held beside it
+pub held_on : {T U E : Type 0} (P : T → Type 0) (after held : T) (r : Result U E) (u : U) → (held ≡ after) × (r ≡ Ok u) → OnOk r (P after) → P held
+held_on P after held r u both on = subst P (sym both.0) (subst (λ x. OnOk x (P after)) both.1 on)
 
 module _ (names : List ℕ) where
   abbrev keep : Part → Bool
@@ -274,39 +279,6 @@ module _ (names : List ℕ) where
     kept = a.kept;
   }
 
-  or_equal : (more other : Code) (old new : WrittenPairs) → ((meets : Meets) → more meets ≡ other meets) → GoesOr names more old new → GoesOr names other old new
-  or_equal more other old new e = subst (λ (j : Code). GoesOr names j old new) (λ k meets. e meets k)
-
-  or_then : (more next : Code) (old mid new : WrittenPairs) → GoesOr names more old mid → GoesOr names next mid new → GoesOr names (λ meets. more meets ++ next meets) old new
-  or_then more next old mid new first second arms a =
-      let b = second (λ meets. arms meets ++ more meets) (first arms a) in
-      record {
-        paired =
-            paired_equal keep (λ meets. one_of ((arms meets ++ more meets) ++ next meets)) (λ meets. one_of (arms meets ++ (more meets ++ next meets))) new.parts new.pairs
-            (λ meets before. ap (λ ss. one_of ss before) (append_assoc (arms meets) (more meets) (next meets))) b.paired;
-        kept = b.kept;
-      }
-
-  module _ {X : Type 0} (f : X → Meets → Stretch Part) where
-    pub record OrFrom (xs : List X) (old : WrittenPairs) (k : ℕ) (now : WrittenPairs) : Type 0 where
-      pub on : GoesOr names (λ meets. map (λ x. f x meets) (take k xs)) old now
-
-    pub or_begin : (xs : List X) (old : WrittenPairs) → OrFrom xs old 0 old
-    or_begin [] old = record { on = or_nothing old }
-    or_begin (x ∷ xs) old = record { on = or_nothing old }
-
-    pub or_more : (xs : List X) (old now later : WrittenPairs) (k : ℕ) (x d : X) → OrFrom xs old k now → k < length xs → x ≡ get_or xs k d → GoesOr names (λ meets. f x meets ∷ []) now later → OrFrom xs old (k + 1) later
-    or_more xs old now later k x d held within at next = record {
-      on =
-          or_equal (λ meets. map (λ y. f y meets) (take k xs) ++ f x meets ∷ []) (λ meets. map (λ y. f y meets) (take (k + 1) xs)) old later
-          (λ meets. sym (map-append (λ y. f y meets) (take k xs) (x ∷ [])) ∙ ap (map (λ y. f y meets)) (sym (take_turn xs k x d within at)))
-          (or_then (λ meets. map (λ y. f y meets) (take k xs)) (λ meets. f x meets ∷ []) old now later held.on next);
-    }
-
-    pub or_end : (xs : List X) (old now : WrittenPairs) (k : ℕ) → OrFrom xs old k now → length xs ≤ k → GoesOr names (λ meets. map (λ x. f x meets) xs) old now
-    or_end xs old now k held past =
-        or_equal (λ meets. map (λ x. f x meets) (take k xs)) (λ meets. map (λ x. f x meets) xs) old now (λ meets. ap (map (λ x. f x meets)) (take_all k xs past)) held.on
-
 pub above_one : (n : ℕ) → true ≡ nat_lt 1 n → 1 < n
 above_one n h = grind (arith, h)
 
@@ -352,12 +324,49 @@ module _ (e : Effects) (t : StepTable) where
   pub block_as : (shown code : List Stmt) (old new : WrittenPairs) → shown ≡ code → GoesOnWith e t shown old new → GoesOnWith e t code old new
   block_as shown code old new same = subst (λ b. GoesOnWith e t b old new) same
 
-  -- an arm
-  pub arm_on : (body shown : List Stmt) (none own either next : WrittenPairs) → none.parts ≡ [] → none.kept ≡ [] → none.pairs ≡ [] → shown ≡ body → (steps : Steps) → GoesOn t.names.now (stretches e steps shown) none own →
-      ((names : List ℕ) (arms arm : Code) → FindsOneOf names arms either → FindsInTurn names arm own → FindsOneOf names (λ meets. arms meets ++ in_turn (arm meets) ∷ []) next) →
-      GoesOr t.names.now (λ meets. in_turn (stretches e steps body meets) ∷ []) either next
-  arm_on body shown none own either next p k q same steps on or arms found =
-      or t.names.now arms (stretches e steps body) found (subst (λ b. FindsInTurn t.names.now (stretches e steps b) own) same (on (λ meets. []) (turn_empty t.names.now none p k q)))
+  -- a block by itself
+  pub code_found : (code : List Stmt) (none w : WrittenPairs) → none.parts ≡ [] → none.kept ≡ [] → none.pairs ≡ [] → GoesOnWith e t code none w → FindsCode e t code w
+  code_found code none w p k q on steps finds = on steps finds (λ meets. []) (turn_empty t.names.now none p k q)
+
+  code_as : {E : Type 0} (shown code : List Stmt) (own : WrittenPairs) (r : Result WrittenPairs E) → shown ≡ code → IfOk r (FindsCode e t shown) → r ≡ Ok own → FindsCode e t code own
+  code_as shown code own r same finds ok = subst (λ b. FindsCode e t b own) same (subst (λ x. IfOk x (FindsCode e t shown)) ok finds)
+
+  -- Arms.
+
+  abbrev Joins : WrittenPairs → WrittenPairs → WrittenPairs → Type 0
+  Joins others own either = (names : List ℕ) (arms arm : Code) → FindsOneOf names arms others → FindsInTurn names arm own → FindsOneOf names (λ meets. arms meets ++ in_turn (arm meets) ∷ []) either
+
+  -- the arms before place k
+  pub record ArmsFrom (as' : List (Arm Stmt)) (k : ℕ) (now : WrittenPairs) : Type 0 where
+    pub found : FindsArms e t (take k as') now
+
+  pub arms_begin : (as' : List (Arm Stmt)) (none : WrittenPairs) → none.parts ≡ [] → none.kept ≡ [] → none.pairs ≡ [] → ArmsFrom as' 0 none
+  arms_begin [] none p k q = record { found = λ steps finds. one_empty t.names.now none p k q }
+  arms_begin (a ∷ as') none p k q = record { found = λ steps finds. one_empty t.names.now none p k q }
+
+  pub arms_more : {E : Type 0} (as' : List (Arm Stmt)) (now others own later : WrittenPairs) (k : ℕ) (a d : Arm Stmt) (shown : List Stmt) (r : Result WrittenPairs E) → ArmsFrom as' k now → k < length as' → a ≡ get_or as' k d → shown ≡ a.body →
+      IfOk r (FindsCode e t shown) → (others ≡ now) × (r ≡ Ok own) → Joins others own later → ArmsFrom as' (k + 1) later
+  arms_more as' now others own later k a d shown r held within at same finds both joins = record {
+    found = λ steps ties.
+        let more : Code = λ meets. arm_stretches e steps (take k as') meets ++ in_turn (stretches e steps a.body meets) ∷ [] in
+        let is : (meets : Meets) → more meets ≡ arm_stretches e steps (take (k + 1) as') meets = λ meets.
+        sym (map-append (λ (x : Arm Stmt). in_turn (stretches e steps x.body meets)) (take k as') (a ∷ [])) ∙ ap (λ xs. arm_stretches e steps xs meets) (sym (take_turn as' k a d within at)) in
+        subst (λ (j : Code). FindsOneOf t.names.now j later) (λ i meets. is meets i)
+        (joins t.names.now (arm_stretches e steps (take k as')) (stretches e steps a.body) (subst (FindsOneOf t.names.now (arm_stretches e steps (take k as'))) (sym both.0) (held.found steps ties))
+        (code_as shown a.body own r same finds both.1 steps ties));
+  }
+
+  pub arms_end : (as' : List (Arm Stmt)) (now : WrittenPairs) (k : ℕ) → ArmsFrom as' k now → length as' ≤ k → FindsArms e t as' now
+  arms_end as' now k held past = subst (λ xs. FindsArms e t xs now) (take_all k as' past) held.found
+
+  pub last_none : (o : Option (List Stmt)) (w : WrittenPairs) → o ≡ None → GoesOrLast e t o w w
+  last_none o w is = subst (λ x. GoesOrLast e t x w w) (sym is) (λ steps finds. or_nothing t.names.now w)
+
+  pub last_some : {E : Type 0} (o : Option (List Stmt)) (code shown : List Stmt) (before others own later : WrittenPairs) (r : Result WrittenPairs E) → o ≡ Some code → shown ≡ code → IfOk r (FindsCode e t shown) → (others ≡ before) × (r ≡ Ok own) →
+      Joins others own later → GoesOrLast e t o before later
+  last_some o code shown before others own later r is same finds both joins =
+      subst (λ x. GoesOrLast e t x before later) (sym is)
+      (λ steps ties arms found. joins t.names.now arms (stretches e steps code) (subst (FindsOneOf t.names.now arms) (sym both.0) found) (code_as shown code own r same finds both.1 steps ties))
 
   -- the whole block
   own_found : (code : List Stmt) (w : WrittenPairs) (steps : Steps) → FindsInTurn t.names.now (stretches e steps code) w → FindsBlock t.names.now (λ meets. written_by (modified_by e) (steps meets) meets code []) w

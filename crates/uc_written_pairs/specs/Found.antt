@@ -84,12 +84,25 @@ stretches e steps code meets = map (stretch_of e steps meets) code
 abbrev pub arm_stretches : Effects → Steps → List (Arm Stmt) → Code
 arm_stretches e steps as' meets = map (λ a. in_turn (stretches e steps a.body meets)) as'
 
--- what is found goes on with a block, or with arms
+-- the block of an `else` or a `default`, as one more arm
+abbrev pub last_stretches : Effects → Steps → Option (List Stmt) → Code
+last_stretches e steps None meets = []
+last_stretches e steps (Some block) meets = in_turn (stretches e steps block meets) ∷ []
+
+-- what is found goes on with a block
 abbrev pub GoesOnWith : Effects → StepTable → List Stmt → WrittenPairs → WrittenPairs → Type 0
 GoesOnWith e t code old new = (steps : Steps) → FindsSteps t steps → GoesOn t.names.now (stretches e steps code) old new
 
-abbrev pub GoesOrWith : Effects → StepTable → List (Arm Stmt) → WrittenPairs → WrittenPairs → Type 0
-GoesOrWith e t as' old new = (steps : Steps) → FindsSteps t steps → GoesOr t.names.now (arm_stretches e steps as') old new
+-- what is found of a block, or of arms
+abbrev pub FindsCode : Effects → StepTable → List Stmt → WrittenPairs → Type 0
+FindsCode e t code w = (steps : Steps) → FindsSteps t steps → FindsInTurn t.names.now (stretches e steps code) w
+
+abbrev pub FindsArms : Effects → StepTable → List (Arm Stmt) → WrittenPairs → Type 0
+FindsArms e t as' w = (steps : Steps) → FindsSteps t steps → FindsOneOf t.names.now (arm_stretches e steps as') w
+
+-- what is found of arms goes on with the last one
+abbrev pub GoesOrLast : Effects → StepTable → Option (List Stmt) → WrittenPairs → WrittenPairs → Type 0
+GoesOrLast e t otherwise old new = (steps : Steps) → FindsSteps t steps → GoesOr t.names.now (last_stretches e steps otherwise) old new
 
 -- What was found of a next block, judged by what meets.
 pub record FindsBlock (names : List ℕ) (along : Meets → Along Part) (w : WrittenPairs) : Type 0 where

@@ -48,9 +48,11 @@ impl<'a> StepTable<'a> {
         ensures steps { OnOk result ((i : ℕ) → entered_by self.new i ≡ or_else (entered_by self.old i) (only_if (nat_eq name i) (Some step))) }
     {
         if self.steps.contains_key(&name) {
+            drop(step);
             return Ok(());
         }
-        self.steps.insert(name, step)?;
+        let before = self.steps.insert(name, step)?;
+        drop(before);
         Ok(())
     }
 }

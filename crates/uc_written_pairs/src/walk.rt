@@ -3,15 +3,15 @@
 ghost use Rattle.std.specs.Prelude.{◌≡◌, ◌∷◌, [], ℕ, List, IfOk, OnOk};
 ghost use Rattle.std.specs.List.{flat_map};
 ghost use Rattle.uc_meaning.specs.Lookup.{next_in};
-ghost use Rattle.uc_order_rules.specs.Paths.{in_turn};
 ghost use Rattle.uc_order_rules.specs.Writes.{written_by};
 ghost use Rattle.uc_written_once.specs.Effects.{modified_by};
-ghost use Rattle.uc_written_pairs.specs.Found.{stretches, FindsBlock, FindsSteps, GoesOnWith, GoesOr, GoesOrWith, Steps};
+ghost use Rattle.uc_written_pairs.specs.Found.{FindsArms, FindsBlock, FindsCode, FindsSteps, GoesOnWith, GoesOrLast, Steps};
 
 use crate::leaves::{write_modified, write_name, write_step, write_targets};
 use crate::steps::StepTable;
 use crate::written::WrittenPairs;
 use std::alloc::{AllocError, Global};
+use uc_items::{Items, beside};
 use uc_lone_faults::turn_count;
 use uc_syntax::{Arm, Decl, Stmt};
 use uc_written_once::{Effects, next_block};
@@ -26,7 +26,8 @@ pub fn written_pairs(
     ensures { IfOk result (λ w. (modified : ℕ → List ℕ) (steps : Steps) → ((f : ℕ) → modified_by effects.now f ≡ modified f) → FindsSteps table.now steps → FindsBlock table.now.names.now (λ meets. written_by modified (steps meets) meets (flat_map next_in declarations.now) []) w) }
 {
     let mut all = WrittenPairs::new(alloc);
-    find_in_declarations(alloc, effects, table, declarations, &mut all)?;
+    let found = find_in_declarations(alloc, effects, table, declarations, &mut all);
+    let (all, _) = beside(all, found)?;
     Ok(all)
 }
 
@@ -62,40 +63,21 @@ fn find_in_statement(
             Ok(())
         }
         Stmt::If(_, arms, otherwise) => {
-            let mut either = WrittenPairs::new(alloc);
-            find_in_arms(alloc, effects, table, arms.as_slice(), &mut either)?;
-            match otherwise {
-                None => {
-                    all.then(alloc, &either)?;
-                    Ok(())
-                }
-                Some(block) => {
-                    find_in_last(alloc, effects, table, block.as_slice(), &mut either)?;
-                    all.then(alloc, &either)?;
-                    Ok(())
-                }
-            }
+            let others = found_in_arms(alloc, effects, table, arms.as_slice())?;
+            let either = found_in_otherwise(alloc, effects, table, otherwise, others)?;
+            all.then_all(alloc, either)?;
+            Ok(())
         }
         Stmt::Case(_, arms, otherwise) => {
-            let mut either = WrittenPairs::new(alloc);
-            find_in_arms(alloc, effects, table, arms.as_slice(), &mut either)?;
-            match otherwise {
-                None => {
-                    all.then(alloc, &either)?;
-                    Ok(())
-                }
-                Some(block) => {
-                    find_in_last(alloc, effects, table, block.as_slice(), &mut either)?;
-                    all.then(alloc, &either)?;
-                    Ok(())
-                }
-            }
+            let others = found_in_arms(alloc, effects, table, arms.as_slice())?;
+            let either = found_in_otherwise(alloc, effects, table, otherwise, others)?;
+            all.then_all(alloc, either)?;
+            Ok(())
         }
         Stmt::For(_, _, _, from, to, body) => {
             let count = turn_count(*from, *to);
             if count > 0 {
-                let mut turn = WrittenPairs::new(alloc);
-                find_in_block(alloc, effects, table, body.as_slice(), &mut turn)?;
+                let turn = found_in_block(alloc, effects, table, body.as_slice())?;
                 all.then_turns(alloc, turn, count > 1)?;
             }
             Ok(())
@@ -140,42 +122,59 @@ fn find_in_block(
     Ok(())
 }
 
+/// What a block writes by itself.
 #[cycle(find_pairs)]
-fn find_in_arms(
-    alloc: Global,
-    effects: &Effects<'_>,
-    table: &StepTable<'_>,
-    arms: &[Arm<Stmt>],
-    either: &mut WrittenPairs,
-) -> Result<(), AllocError>
-    ensures { OnOk result (GoesOrWith effects.now table.now arms.now either.old either.new) }
-{
-    for arm in arms {
-        let mut own = WrittenPairs::new(alloc);
-        let block = arm.body.as_slice();
-        for statement in block {
-            find_in_statement(alloc, effects, table, statement, &mut own)?;
-        }
-        either.or(alloc, &own)?;
-    }
-    Ok(())
-}
-
-/// The block of an `else` or a `default`.
-#[cycle(find_pairs)]
-fn find_in_last(
+fn found_in_block(
     alloc: Global,
     effects: &Effects<'_>,
     table: &StepTable<'_>,
     block: &[Stmt],
-    either: &mut WrittenPairs,
-) -> Result<(), AllocError>
-    ensures { OnOk result ((steps : Steps) → FindsSteps table.now steps → GoesOr table.now.names.now (λ meets. in_turn (stretches effects.now steps block.now meets) ∷ []) either.old either.new) }
+) -> Result<WrittenPairs, AllocError>
+    ensures { IfOk result (FindsCode effects.now table.now block.now) }
 {
     let mut own = WrittenPairs::new(alloc);
-    for statement in block {
-        find_in_statement(alloc, effects, table, statement, &mut own)?;
+    let found = find_in_block(alloc, effects, table, block, &mut own);
+    let (own, _) = beside(own, found)?;
+    Ok(own)
+}
+
+/// What arms write by themselves.
+#[cycle(find_pairs)]
+fn found_in_arms(
+    alloc: Global,
+    effects: &Effects<'_>,
+    table: &StepTable<'_>,
+    arms: &[Arm<Stmt>],
+) -> Result<WrittenPairs, AllocError>
+    ensures { IfOk result (FindsArms effects.now table.now arms.now) }
+{
+    let mut either = WrittenPairs::new(alloc);
+    for arm in arms {
+        let own = found_in_block(alloc, effects, table, arm.body.as_slice());
+        let (others, own) = beside(either, own)?;
+        either = others.or_all(alloc, own)?;
     }
-    either.or(alloc, &own)?;
-    Ok(())
+    Ok(either)
+}
+
+/// What is written on other paths, and on the path of the block of an `else` or a `default`.
+#[cycle(find_pairs)]
+fn found_in_otherwise(
+    alloc: Global,
+    effects: &Effects<'_>,
+    table: &StepTable<'_>,
+    otherwise: &Option<Items<Stmt>>,
+    others: WrittenPairs,
+) -> Result<WrittenPairs, AllocError>
+    ensures { IfOk result (GoesOrLast effects.now table.now otherwise.now others) }
+{
+    match otherwise {
+        None => Ok(others),
+        Some(block) => {
+            let own = found_in_block(alloc, effects, table, block.as_slice());
+            let (others, own) = beside(others, own)?;
+            let either = others.or_all(alloc, own)?;
+            Ok(either)
+        }
+    }
 }

@@ -1,6 +1,6 @@
 //! What code writes.
 
-ghost use Rattle.std.specs.Prelude.{◌≡◌, ◌<◌, ◌++◌, ◌∷◌, [], ℕ, List, filter, nat_lt, OnOk};
+ghost use Rattle.std.specs.Prelude.{◌≡◌, ◌<◌, ◌++◌, ◌∷◌, [], ℕ, List, filter, nat_lt, IfOk, OnOk};
 ghost use Rattle.uc_order_rules.specs.Paths.{in_turn, one_of, times, Stretch};
 ghost use Rattle.uc_order_rules.specs.Writes.{Meets, Part};
 ghost use Rattle.uc_pair_laws.specs.Pairs.{SameThings};
@@ -9,7 +9,7 @@ ghost use Rattle.uc_written_pairs.specs.Found.{is_kept, single, Code, Finds, Fin
 
 use crate::sets::{PairSet, PartSet};
 use std::alloc::{AllocError, Global};
-use uc_items::Items;
+use uc_items::{Items, beside};
 use uc_type_names::NameSet;
 
 /// The parts that code writes, those of some names among them, and the pairs of these that it writes on one path, the earlier first.
@@ -109,7 +109,7 @@ impl WrittenPairs {
     }
 
     /// Adds what is written on other paths.
-    pub(crate) fn or(&mut self, alloc: Global, other: &WrittenPairs) -> Result<(), AllocError>
+    fn or(&mut self, alloc: Global, other: &WrittenPairs) -> Result<(), AllocError>
         ensures { OnOk result ((names : List ℕ) (arms arm : Code) → FindsOneOf names arms self.old → FindsInTurn names arm other.now → FindsOneOf names (λ meets. arms meets ++ in_turn (arm meets) ∷ []) self.new) }
     {
         self.pairs.add_copies(alloc, other.pairs.as_slice())?;
@@ -127,6 +127,30 @@ impl WrittenPairs {
         Ok(())
     }
 
+    /// The same as `then`, of what is at hand only for this.
+    pub(crate) fn then_all(&mut self, alloc: Global, next: WrittenPairs) -> Result<(), AllocError>
+        ensures { OnOk result ((names : List ℕ) (stretch : Meets → Stretch Part) → Finds names stretch next → GoesOn names (λ meets. stretch meets ∷ []) self.old self.new) }
+    {
+        let added = self.then(alloc, &next);
+        drop(next);
+        added
+    }
+
+    /// This and what is written on other paths.
+    pub(crate) fn or_all(
+        self,
+        alloc: Global,
+        other: WrittenPairs,
+    ) -> Result<WrittenPairs, AllocError>
+        ensures { IfOk result (λ w. (names : List ℕ) (arms arm : Code) → FindsOneOf names arms self → FindsInTurn names arm other → FindsOneOf names (λ meets. arms meets ++ in_turn (arm meets) ∷ []) w) }
+    {
+        let mut either = self;
+        let added = either.or(alloc, &other);
+        drop(other);
+        let (either, _) = beside(either, added)?;
+        Ok(either)
+    }
+
     /// Adds what is written next in a loop of at least one turn, by what one turn writes.
     pub(crate) fn then_turns(
         &mut self,
@@ -136,13 +160,8 @@ impl WrittenPairs {
     ) -> Result<(), AllocError>
         ensures { OnOk result ((names : List ℕ) (body : Code) (n : ℕ) → 0 < n → is_repeated ≡ nat_lt 1 n → FindsInTurn names body turn → GoesOn names (λ meets. in_turn (times n (in_turn (body meets))) ∷ []) self.old self.new) }
     {
-        if !is_repeated {
-            self.then(alloc, &turn)?;
-            return Ok(());
-        }
-        let mut turn = turn;
-        turn.repeat(alloc)?;
-        self.then(alloc, &turn)?;
+        let turns = repeat_where(alloc, turn, is_repeated)?;
+        self.then_all(alloc, turns)?;
         Ok(())
     }
 
@@ -155,9 +174,39 @@ impl WrittenPairs {
     ) -> Result<(), AllocError>
         ensures { OnOk result ((place : Place) → GoesOn names.now (λ meets. single place part meets ∷ []) self.old self.new) }
     {
-        let mut one = WrittenPairs::new(alloc);
-        one.add_part(alloc, names, part)?;
-        self.then(alloc, &one)?;
+        let one = part_alone(alloc, names, part)?;
+        self.then_all(alloc, one)?;
         Ok(())
     }
+}
+
+/// What all turns of a loop write, by what one turn writes.
+fn repeat_where(
+    alloc: Global,
+    turn: WrittenPairs,
+    is_repeated: bool,
+) -> Result<WrittenPairs, AllocError>
+    ensures { IfOk result (λ w. (names : List ℕ) (body : Code) (n : ℕ) → 0 < n → is_repeated ≡ nat_lt 1 n → FindsInTurn names body turn → Finds names (λ meets. in_turn (times n (in_turn (body meets)))) w) }
+{
+    if !is_repeated {
+        return Ok(turn);
+    }
+    let mut turns = turn;
+    let repeated = turns.repeat(alloc);
+    let (turns, _) = beside(turns, repeated)?;
+    Ok(turns)
+}
+
+/// A statement that writes one part.
+fn part_alone(
+    alloc: Global,
+    names: &NameSet,
+    part: Items<u32>,
+) -> Result<WrittenPairs, AllocError>
+    ensures { IfOk result (λ w. (place : Place) → Finds names.now (single place part) w) }
+{
+    let mut one = WrittenPairs::new(alloc);
+    let added = one.add_part(alloc, names, part);
+    let (one, _) = beside(one, added)?;
+    Ok(one)
 }

@@ -4,7 +4,7 @@ use Rattle.uc_lexer.specs.Text.{Tokens}
 use Rattle.uc_words.proofs.Below.{names_below, files_below}
 use Rattle.uc_words.proofs.Places.{files_are}
 use Rattle.uc_mentions.proofs.Laws.{answer_names, answer_files}
-use Rattle.uc_run_rows.proofs.layout.layout_of.Goals as goal
+use Rattle.uc_run_rows.proofs.layout.text_layout.Goals as goal
 
 one_more : {A : Type 0} (before all : List A) (x : A) → before ≡ [] → all ≡ before ++ x ∷ [] → 0 < length all
 one_more {A = A} before all x none is = subst (λ (xs : List A). 0 < length xs) (sym is) (subst (λ (ys : List A). 0 < length (ys ++ x ∷ [])) (sym none) (omega arith))
