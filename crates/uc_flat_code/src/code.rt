@@ -122,7 +122,7 @@ fn choice(
 
 /// Arms and the code where no condition is true, joined from the last one on.
 #[tactic(auto, unfolding(crate::specs::Code::joined_arms), using(crate::proofs::Forms::joined_last))]
-fn joined_arms(
+pub fn joined_arms(
     alloc: Global,
     arms: Items<FlatArm>,
     rest: Items<Statement>,

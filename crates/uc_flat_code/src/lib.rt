@@ -8,5 +8,6 @@ mod reading;
 mod simple;
 mod writing;
 
-pub use code::flat_code;
+pub use code::{flat_code, joined_arms};
+pub use simple::{assigned, assume, havoc, written};
 pub use writing::{FlatArm, Writing, Written};

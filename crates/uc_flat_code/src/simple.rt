@@ -63,7 +63,7 @@ fn behind(alloc: Global, shift: u32, old: u32, ty: &Ty) -> Result<Written, FlatE
 }
 
 /// The cell that a name writes, where its prime is as it must be.
-fn written(
+pub fn written(
     alloc: Global,
     names: &[Meant],
     writing: Writing,
@@ -95,11 +95,7 @@ fn havocked(
 }
 
 /// A condition is assumed.
-pub(crate) fn assume(
-    alloc: Global,
-    names: &[Meant],
-    e: &Expr,
-) -> Result<Items<Statement>, FlatError>
+pub fn assume(alloc: Global, names: &[Meant], e: &Expr) -> Result<Items<Statement>, FlatError>
     ensures { IsAnswer (option_and_then assume_of (flat_of names.now e.now)) result }
 {
     let t = flat_expression(alloc, names, e)?;
@@ -109,7 +105,7 @@ pub(crate) fn assume(
 }
 
 /// A cell takes any value of its type, which is a choice where targets have no prime.
-pub(crate) fn havoc(
+pub fn havoc(
     alloc: Global,
     names: &[Meant],
     writing: Writing,
@@ -125,7 +121,7 @@ pub(crate) fn havoc(
 
 /// A cell, or a part of it behind fields, takes a value of its type.
 #[tactic(auto, unfolding(crate::specs::Walk::behind))]
-fn assigned(
+pub fn assigned(
     alloc: Global,
     target: Written,
     parts: &[TargetPart],

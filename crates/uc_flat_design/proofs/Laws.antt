@@ -2,7 +2,7 @@
 use Rattle.std.proofs.Common.{◌≡◌, ℕ, zero, suc, List, [], ◌∷◌, ◌++◌, map, length, take, drop, refl, sym, ap, ◌∙◌, subst, true, Option, Some, None, arith, append-nil}
 use Rattle.std.specs.Prelude.{slice_get}
 use Rattle.std.specs.List.{flat_map, list_all}
-use Rattle.std.proofs.lemmas.List.{length-map, take_all}
+use Rattle.std.proofs.lemmas.List.{length-map}
 use Rattle.uc_syntax.specs.declared.declaration.Module.{Module}
 use Rattle.uc_values.specs.declared.ty.Ty.{Ty}
 use Rattle.uc_values.specs.declared.value.Value.{Value}
@@ -25,14 +25,16 @@ use Rattle.uc_flat.specs.Executions.{FitAll, IsInitial as IsInitialOver, IsStep 
 use Rattle.uc_flat_names.specs.Names.{StandsAlone, names_over_cells, types_of, constant_types, flat_constant}
 use Rattle.uc_flat_names.specs.Constants.{SharesConstants}
 use Rattle.uc_flat_names.proofs.Cells.{stands_alone}
-use Rattle.uc_flat_design.specs.Sequential.{running, placed, AreAt, EndAlike}
-use Rattle.uc_flat_design.proofs.Sequential.{sequential_holds}
+use Rattle.uc_flat_init.specs.CellTypes.{cell_type_of}
+use Rattle.uc_flat_init_law.specs.Law.{running, placed, AreAt, EndAlike}
+use Rattle.uc_flat_init_law.proofs.Walk.{init_code_means}
 use Rattle.uc_flat_design.specs.Next.{primed_behind, step_code, IsAsked, IsReached, IsNextCode}
 use Rattle.uc_flat_design.proofs.Stepping.{found_holds, asks_holds, fits_hold}
 use Rattle.uc_flat_design.specs.Design.{flat_cell, next_names, next_arranged, IsFlatOf}
 use Rattle.uc_flat_design.specs.Laws.{IsInitialThere, IsInitialHere, InitialLaw, IsStepThere, IsStepHere, StepLaw}
-use Rattle.uc_flat_design.proofs.Tables.{fit_cells, fit_types, all_plain, no_instances, init_table}
+use Rattle.uc_flat_design.proofs.Tables.{fit_cells, fit_types, all_plain, all_valid, no_instances}
 use Rattle.uc_flat_design.proofs.NextTable.{next_table}
+use Rattle.uc_flat_design.proofs.InitPlain.{code_plain}
 use Rattle.uc_flat_order.specs.Arranged.{IsTakenFrom}
 use Rattle.uc_guarded.specs.Laws.{is_plain}
 use Rattle.uc_flat_order.proofs.PlainCode.{plain_if_taken}
@@ -57,15 +59,15 @@ types_are (c ∷ cells) = ap (λ ts. c.type ∷ ts) (types_are cells)
 pub flat_types : (system : System) (code : Module) (f : Flat) → IsFlatOf system code f → cell_types f ≡ types_of system
 flat_types system code f d = ap cell_types d.is ∙ types_are (cells_of system)
 
--- the init code has no further cells
-pub no_further : (system : System) (code : Module) (f : Flat) → IsFlatOf system code f → f.further ≡ []
-no_further system code f d = ap (λ (g : Flat). g.further) d.is
+-- the further cells and the init code are those of the init block
+pub flat_further : (system : System) (code : Module) (f : Flat) (d : IsFlatOf system code f) → f.further ≡ d.init.further
+flat_further system code f d = ap (λ (g : Flat). g.further) d.is
 
-pub flat_init_types : (system : System) (code : Module) (f : Flat) → IsFlatOf system code f → init_types f ≡ types_of system
-flat_init_types system code f d = ap (wider_types (cell_types f)) (no_further system code f d) ∙ append-nil (cell_types f) ∙ flat_types system code f d
+pub flat_init_types : (system : System) (code : Module) (f : Flat) (d : IsFlatOf system code f) → init_types f ≡ wider_types (types_of system) d.init.further
+flat_init_types system code f d = ap (wider_types (cell_types f)) (flat_further system code f d) ∙ ap (λ ts. wider_types ts d.init.further) (flat_types system code f d)
 
-not_widened : (system : System) (code : Module) (f : Flat) → IsFlatOf system code f → (m : Model) (cells : List Value) → widened m (cell_types f) f.further cells ≡ cells
-not_widened system code f d m cells = ap (λ es. widened m (cell_types f) es cells) (no_further system code f d) ∙ append-nil cells
+flat_widened : (system : System) (code : Module) (f : Flat) (d : IsFlatOf system code f) (m : Model) (cells : List Value) → widened m (cell_types f) f.further cells ≡ widened m (types_of system) d.init.further cells
+flat_widened system code f d m cells = ap (λ es. widened m (cell_types f) es cells) (flat_further system code f d) ∙ ap (λ ts. widened m ts d.init.further cells) (flat_types system code f d)
 
 constants_are : (parts : List ConstantParts) → map (λ (c : FlatConstant). c.ty) (map flat_constant parts) ≡ map (λ (c : ConstantParts). c.type) parts
 constants_are [] = refl
@@ -90,28 +92,31 @@ init_is system code f d i cells left =
     below_none : (system : System) (code : Module) (f : Flat) → IsFlatOf system code f → instances_below system (main_instance code) ≡ []
     below_none system code f d = ap (flat_map _) (alone_of system code f d).alone
 
--- the next block has no assert, loop, call or step of an instance inside
+-- the blocks have no assert, loop, call or step of an instance inside
+pub init_plain : (system : System) (code : Module) (f : Flat) → IsFlatOf system code f → list_all is_plain (init_of code) ≡ true
+init_plain system code f d = code_plain (cell_type_of system code) (names_over_cells system code) (length (cells_of system)) (init_of code) d.init d.init_is
+
 pub next_plain : (system : System) (code : Module) (f : Flat) → IsFlatOf system code f → list_all is_plain (next_of code) ≡ true
 next_plain system code f d =
     plain_if_taken (next_names system code) (primed_behind (length (cells_of system))) (next_arranged system code) (next_of code) d.next (block_taken (next_names system code) (length (cells_of system)) (next_of code)) d.next_is
 
 -- an ending over cells from one of the design, and the other way round
-from_ending : (i : Interp) (types : List Ty) (others : List Value) (e : Ending) (o : Option Placed) (r : Running) → EndAlike i types others e o → e ≡ Goes r → (p : Placed) × (o ≡ Some p) × AreAt i types others r p
-from_ending i types others (Goes q) (Some p) r h e = (p, refl, subst (λ z. AreAt i types others z p) (goes_same q r e) h)
+from_ending : (types : List Ty) (others : List Value) (e : Ending) (o : Option Placed) (r : Running) → EndAlike types others e o → e ≡ Goes r → (p : Placed) × (o ≡ Some p) × AreAt types others r p
+from_ending types others (Goes q) (Some p) r h e = (p, refl, subst (λ z. AreAt types others z p) (goes_same q r e) h)
   where
     goes_same : (a b : Running) → Goes a ≡ Goes b → a ≡ b
     goes_same a b g = cc
-from_ending i types others (Goes q) None r h e = absurd h
-from_ending i types others Stopped o r h e = absurd (cc)
-from_ending i types others (Unfit rest) o r h e = absurd (cc)
+from_ending types others (Goes q) None r h e = absurd h
+from_ending types others Stopped o r h e = absurd (cc)
+from_ending types others (Unfit rest) o r h e = absurd (cc)
 
-to_ending : (i : Interp) (types : List Ty) (others : List Value) (e : Ending) (o : Option Placed) (p : Placed) → EndAlike i types others e o → o ≡ Some p → (r : Running) × (e ≡ Goes r) × AreAt i types others r p
-to_ending i types others (Goes r) (Some q) p h e = (r, refl, subst (AreAt i types others r) (some_same q p e) h)
-to_ending i types others (Goes r) None p h e = absurd h
-to_ending i types others Stopped (Some q) p h e = absurd h
-to_ending i types others Stopped None p h e = absurd (none_some p e)
-to_ending i types others (Unfit rest) (Some q) p h e = absurd h
-to_ending i types others (Unfit rest) None p h e = absurd (none_some p e)
+to_ending : (types : List Ty) (others : List Value) (e : Ending) (o : Option Placed) (p : Placed) → EndAlike types others e o → o ≡ Some p → (r : Running) × (e ≡ Goes r) × AreAt types others r p
+to_ending types others (Goes r) (Some q) p h e = (r, refl, subst (AreAt types others r) (some_same q p e) h)
+to_ending types others (Goes r) None p h e = absurd h
+to_ending types others Stopped (Some q) p h e = absurd h
+to_ending types others Stopped None p h e = absurd (none_some p e)
+to_ending types others (Unfit rest) (Some q) p h e = absurd h
+to_ending types others (Unfit rest) None p h e = absurd (none_some p e)
 
 fit_length : (types : List Ty) (values : List Value) → FitAll types values → length values ≡ length types
 unfolding FitAll
@@ -137,19 +142,26 @@ whole (x ∷ xs) zero = refl
 whole (x ∷ xs) (suc n) = ap (λ ys. x ∷ ys) (whole xs n)
 
 module _ (system : System) (code : Module) (f : Flat) (i : Interp) (m : Model) (d : IsFlatOf system code f) (shared : SharesConstants system i m) where
-  abbrev alike : (others cells left : List Value) → FitAll (types_of system) cells → EndAlike i (types_of system) others (run_by system (bodies system) (init_of code) (running i cells left)) (run_all m (types_of system) d.init (placed others cells left))
-  alike others cells left fit = sequential_holds system (bodies system) i m (types_of system) (names_over_cells system code) (init_of code) d.init others cells left (init_table system code (alone_of system code f d) m d.types d.constants i shared) d.init_is fit
+  abbrev wide : List Ty
+  wide = wider_types (types_of system) d.init.further
 
-  -- the init code over the cells of the design
-  same_init : (others cells left : List Value) → run_all m (init_types f) f.init (placed others (widened m (cell_types f) f.further cells) left) ≡ run_all m (types_of system) d.init (placed others cells left)
+  -- the cells before all init code
+  abbrev start : List Value → List Value
+  start cells = widened m (types_of system) d.init.further cells
+
+  abbrev alike : (others cells left : List Value) → FitAll (types_of system) cells → EndAlike (types_of system) others (run_by system (bodies system) (init_of code) (running i cells left)) (run_all m wide d.init.code (placed others (start cells) left))
+  alike others cells left fit =
+      init_code_means system code i m (bodies system) (init_of code) d.init others cells left (alone_of system code f d) shared (all_valid (constant_types system) d.constants) (all_valid (types_of system) d.types) d.init_is fit
+
+  -- the init code over the cells of the design and its further cells
+  same_init : (others cells left : List Value) → run_all m (init_types f) f.init (placed others (widened m (cell_types f) f.further cells) left) ≡ run_all m wide d.init.code (placed others (start cells) left)
   same_init others cells left =
-      ap (λ cs. run_all m (init_types f) f.init (placed others cs left)) (not_widened system code f d m cells)
-      ∙ ap (λ ts. run_all m ts f.init (placed others cells left)) (flat_init_types system code f d)
-      ∙ ap (λ (g : Flat). run_all m (types_of system) g.init (placed others cells left)) d.is
+      ap (λ cs. run_all m (init_types f) f.init (placed others cs left)) (flat_widened system code f d m cells)
+      ∙ ap (λ ts. run_all m ts f.init (placed others (start cells) left)) (flat_init_types system code f d)
+      ∙ ap (λ (g : Flat). run_all m wide g.init (placed others (start cells) left)) d.is
 
-  -- the cells of the state are all cells
-  all_kept : (cells : List Value) → FitAll (types_of system) cells → take (length (cell_types f)) cells ≡ cells
-  all_kept cells fit = take_all (length (cell_types f)) cells (omega (arith, fit_length (types_of system) cells fit, ap length (flat_types system code f d)))
+  count : length (cell_types f) ≡ length (types_of system)
+  count = ap length (flat_types system code f d)
 
   initial_there : (s : State) (choices : List Value) (sites : List Site) → IsInitial system i s choices sites → IsInitialThere f m s choices sites
   initial_there s choices sites h =
@@ -158,21 +170,23 @@ module _ (system : System) (code : Module) (f : Flat) (i : Interp) (m : Model) (
       let left = drop n choices in
       let fit = fit_cells (types_of system) first h.begins in
       let e = sym (init_is system code f d i first left) ∙ h.ends in
-      let a = from_ending i (types_of system) [] (run_by system (bodies system) (init_of code) (running i first left)) (run_all m (types_of system) d.init (placed [] first left)) h.end (alike [] first left fit) e in
+      let a = from_ending (types_of system) [] (run_by system (bodies system) (init_of code) (running i first left)) (run_all m wide d.init.code (placed [] (start first) left)) h.end (alike [] first left fit) e in
+      let p = a.0 in
       let at = a.2 in
-      let same : s ≡ state_of at.cells = sym h.reaches ∙ ap (λ (r : Running). r.scope.before) at.design in
-      let none : at.left ≡ [] = sym (ap (λ (r : Running). r.left) at.design) ∙ h.uses_all in
+      let same : s ≡ state_of (take (length (types_of system)) p.cells) = sym h.reaches ∙ at.state in
+      let none : p.left ≡ [] = sym at.left ∙ h.uses_all in
+      let end : p ≡ placed [] p.cells [] = λ j. record { cells = p.cells; left = none j; others = at.untaken j; sites = at.none j } in
       record {
-        no_sites = sym h.lists ∙ ap (λ (r : Running). r.sites) at.design;
+        no_sites = sym h.lists ∙ at.no_sites;
         initial = record {
           firsts = first;
           rest = left;
           others = [];
-          last = s.cells;
+          last = p.cells;
           begins = subst (λ ts. FitAll ts first) (sym (flat_types system code f d)) fit;
           all = whole choices n;
-          ends = same_init [] first left ∙ a.1 ∙ ap Some (at.flat ∙ ap (placed [] at.cells) none) ∙ ap (λ (q : State). Some (placed [] q.cells [])) (sym same);
-          reaches = all_kept s.cells (subst (FitAll (types_of system)) (sym (ap (λ (q : State). q.cells) same)) at.fit);
+          ends = same_init [] first left ∙ a.1 ∙ ap Some end;
+          reaches = ap (λ k. take k p.cells) count ∙ sym (ap (λ (q : State). q.cells) same);
         };
       }
 
@@ -183,21 +197,21 @@ module _ (system : System) (code : Module) (f : Flat) (i : Interp) (m : Model) (
       let even : n ≡ length h.firsts = omega (arith, fit_length (types_of system) h.firsts fit, length-map (cells_of system) (λ (c : Cell). c.type)) in
       let e = sym (same_init h.others h.firsts h.rest) ∙ h.ends in
       let end : Placed = record { cells = h.last; left = []; others = []; sites = sites } in
-      let a = to_ending i (types_of system) h.others (run_by system (bodies system) (init_of code) (running i h.firsts h.rest)) (run_all m (types_of system) d.init (placed h.others h.firsts h.rest)) end (alike h.others h.firsts h.rest fit) e in
+      let a = to_ending (types_of system) h.others (run_by system (bodies system) (init_of code) (running i h.firsts h.rest)) (run_all m wide d.init.code (placed h.others (start h.firsts) h.rest)) end (alike h.others h.firsts h.rest fit) e in
       let at = a.2 in
       let first : take n choices ≡ h.firsts = ap (take n) h.all ∙ take_front h.firsts h.rest n even in
       let left : drop n choices ≡ h.rest = ap (drop n) h.all ∙ drop_front h.firsts h.rest n even in
-      let same : at.cells ≡ cells = sym (all_kept at.cells at.fit) ∙ ap (take (length (cell_types f))) (sym (ap (λ (p : Placed). p.cells) at.flat)) ∙ h.reaches in
+      let same : take (length (types_of system)) h.last ≡ cells = ap (λ k. take k h.last) (sym count) ∙ h.reaches in
       record {
-        no_sites = ap (λ (p : Placed). p.sites) at.flat;
+        no_sites = at.none;
         fits = fit_types (types_of system) cells (subst (FitAll (types_of system)) same at.fit);
         initial = record {
           begins = subst (FitTypes (types_of system)) (sym first) (fit_types (types_of system) h.firsts fit);
           end = a.0;
           ends = ap (λ xs. init system (running i xs (drop n choices))) first ∙ ap (λ xs. init system (running i h.firsts xs)) left ∙ init_is system code f d i h.firsts h.rest ∙ a.1;
-          reaches = ap (λ (r : Running). r.scope.before) at.design ∙ ap state_of same;
-          uses_all = ap (λ (r : Running). r.left) at.design ∙ sym (ap (λ (p : Placed). p.left) at.flat);
-          lists = ap (λ (r : Running). r.sites) at.design;
+          reaches = at.state ∙ ap state_of same;
+          uses_all = at.left;
+          lists = at.no_sites;
         };
       }
 

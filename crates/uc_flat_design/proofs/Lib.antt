@@ -1,10 +1,4 @@
-pub mod Options
 pub mod Formulas
-pub mod Turns
-pub mod Fields
-pub mod Replacing
-pub mod Sparing
-pub mod Sequential
 pub mod Effects
 pub mod Parts
 pub mod Equal
@@ -17,4 +11,5 @@ pub mod Orders
 pub mod Stepping
 pub mod Tables
 pub mod NextTable
+pub mod InitPlain
 pub mod Laws

@@ -40,13 +40,15 @@ use Rattle.uc_flat_names.proofs.Cells.{cell_type}
 use Rattle.uc_flat_names.proofs.Meaning.{name_in_cell, no_instance, names_hold}
 use Rattle.uc_flat_design.specs.Tables.{IsSaid}
 use Rattle.uc_flat_design.specs.Next.{between, with_new, IsNextTable}
-use Rattle.uc_flat_design.specs.Design.{is_cell_type, next_names}
-use Rattle.uc_flat_design.proofs.Options.{some_same}
+use Rattle.uc_flat_init.specs.CellTypes.{is_cell_type}
+use Rattle.uc_flat_design.specs.Design.{next_names}
+use Rattle.uc_flat_init_law.proofs.Options.{some_same}
 use Rattle.uc_flat_design.proofs.Effects.{none_some}
 use Rattle.uc_flat_design.proofs.Halves.{get_behind, part_behind}
-use Rattle.uc_flat_design.proofs.Turns.{fit_part}
+use Rattle.uc_flat_init_law.proofs.Turns.{fit_part}
 use Rattle.uc_flat_design.proofs.Told.{fit_length, there_below}
-use Rattle.uc_flat_design.proofs.Tables.{all_valid, zeros_fit, zero_interpretation, zero_model, zero_shared, IsEntry, entry}
+use Rattle.uc_flat_init_law.proofs.Entries.{IsEntry, entry}
+use Rattle.uc_flat_design.proofs.Tables.{all_valid, zeros_fit, zero_interpretation, zero_model, zero_shared}
 
 -- ---- names between two states
 

@@ -18,8 +18,8 @@ use Rattle.uc_ops.specs.Meaning.{part}
 use Rattle.uc_flat.specs.Executions.{FitAll}
 use Rattle.uc_same_values.specs.Same.{has_no_array}
 use Rattle.uc_same_values.proofs.Same.{same_holds}
-use Rattle.uc_flat_design.proofs.Options.{then_some, some_same}
-use Rattle.uc_flat_design.proofs.Fields.{placed, placed_same, placed_other, stays_part, part_type_same, IsPath, path_part}
+use Rattle.uc_flat_init_law.proofs.Options.{then_some, some_same}
+use Rattle.uc_flat_init_law.proofs.Fields.{placed, placed_same, placed_other, stays_part, part_type_same, IsPath, path_part}
 use Rattle.uc_flat_once.specs.declared.once.Part.{Part}
 use Rattle.uc_flat_once.specs.Once.{overlaps, touched}
 use Rattle.uc_flat_design.specs.Next.{types_in}

@@ -4,9 +4,6 @@ use Rattle.std.specs.Prelude.{◌&&◌, nat_lt, if◌then◌else◌, slice_get, 
 use Rattle.std.specs.List.{list_all, filter_map}
 use Rattle.std.proofs.lemmas.List.Elements.{All-cons, All-nil}
 use Rattle.uc_syntax.specs.declared.expression.Expr.{Expr}
-use Rattle.uc_syntax.specs.declared.type_expression.TypeExpr.{TypeExpr}
-use Rattle.uc_syntax.specs.declared.declaration.VariableKind.{VariableKind}
-use Rattle.uc_syntax.specs.declared.declaration.VariableKind.TheVariants.{Variable, Input, Output, Constant as constant_kind}
 use Rattle.uc_syntax.specs.declared.declaration.Decl.{Decl}
 use Rattle.uc_syntax.specs.declared.declaration.Decl.TheVariants.{Instance}
 use Rattle.uc_syntax.specs.declared.declaration.Module.{Module}
@@ -23,31 +20,28 @@ use Rattle.uc_values.proofs.Shapes.{and_true, all_mapped}
 use Rattle.uc_values.proofs.Fitting.{zero-fits}
 use Rattle.uc_meaning.specs.declared.scope.Interp.{Interp}
 use Rattle.uc_meaning.specs.declared.scope.Scope.{Scope}
-use Rattle.uc_meaning.specs.Lookup.{System, instance_in, variable_of}
-use Rattle.uc_meaning.specs.Types.{label_of, type_of_written}
-use Rattle.uc_meaning.specs.Cells.{cell_of, FitAll as FitTypes}
-use Rattle.uc_meaning.specs.Expressions.{reads, reading, label_count}
+use Rattle.uc_meaning.specs.Lookup.{System, instance_in}
+use Rattle.uc_meaning.specs.Cells.{FitAll as FitTypes}
+use Rattle.uc_meaning.specs.Expressions.{reading}
 use Rattle.uc_meaning.specs.Plain.{IsTop}
 use Rattle.uc_meaning.specs.Steps.{state_of}
 use Rattle.uc_ops.specs.declared.model.Model.{Model}
 use Rattle.uc_ops.specs.Typing.{Valid, AllValid}
-use Rattle.uc_ops.specs.Meaning.{part}
 use Rattle.uc_flat.specs.Executions.{FitAll}
 use Rattle.uc_flat_expressions.specs.declared.typed.TypedExpression.{TypedExpression}
-use Rattle.uc_flat_expressions.specs.declared.typed.Meant.TheVariants.{Unknown, Cell, Label, Constant}
 use Rattle.uc_flat_expressions.specs.Expressions.{flat_of}
 use Rattle.uc_flat_meaning.specs.Sayings.{Says}
 use Rattle.uc_flat_meaning.proofs.Telling.{flat_says}
-use Rattle.uc_flat_names.specs.Names.{StandsAlone, of_label, of_cell_number, of_kind, of_variable, by_label, meant_in, counted, names_over_cells, types_of, names_of_constants, constant_types}
+use Rattle.uc_flat_names.specs.Names.{StandsAlone, names_over_cells, types_of, names_of_constants, constant_types}
 use Rattle.uc_flat_names.specs.Constants.{SharesConstants}
-use Rattle.uc_flat_names.proofs.Cells.{HasCells, cell_type}
-use Rattle.uc_flat_names.proofs.Meaning.{counted_at, mapped_at, name_in_cell, names_hold, constants_hold}
+use Rattle.uc_flat_names.proofs.Meaning.{names_hold, constants_hold}
 use Rattle.uc_flat_names.proofs.Sharing.{shares_first}
-use Rattle.uc_flat_design.specs.Tables.{IsSaid, IsTable}
-use Rattle.uc_flat_design.specs.Sequential.{now}
+use Rattle.uc_flat_design.specs.Tables.{IsSaid}
+use Rattle.uc_flat_init_law.specs.Law.{now}
 use Rattle.uc_same_values.specs.Same.{has_no_array, no_array_form}
 use Rattle.uc_same_values.proofs.Same.{no_array-Rec}
-use Rattle.uc_flat_design.specs.Design.{is_finite, is_finite_form, is_cell_type, is_built}
+use Rattle.uc_flat_init.specs.CellTypes.{is_finite, is_finite_form, is_cell_type}
+use Rattle.uc_flat_design.specs.Design.{is_built}
 
 -- ---- fitting values, by the definitions of designs and of cells
 
@@ -129,66 +123,6 @@ no_instances (d ∷ decls) h = let b = and_true h in rw (no_instance d b.0) (no_
 
 -- ---- tables
 
-some_same : {A : Type 0} (x y : A) → Some x ≡ Some y → x ≡ y
-some_same x y h = cc
-
--- A name that stands for a cell is that of a variable with this cell.
-pub record IsEntry (system : System) (code : Module) (x k : ℕ) (ty : Ty) : Type 0 where
-  pub kind : VariableKind
-  pub type : TypeExpr
-  pub no_label : label_of system code x ≡ None
-  pub variable : variable_of code x ≡ Some (kind, type)
-  pub has_cells : HasCells kind
-  pub cell : cell_of system [] x ≡ Some k
-  pub own : type_of_written system code type ≡ ty
-
-no_cell_label : (system : System) (l : ℕ × ℕ) (k : ℕ) (o : Option ℕ) (ty : Ty) → of_label system l ≡ Cell k o ty → ⊥
-no_cell_label system l k o ty h = by_test (nat_lt l.1 (label_count system l.0)) h
-  where
-    by_test : (b : Bool) → (if b then Label l.0 (label_count system l.0) l.1 else Unknown) ≡ Cell k o ty → ⊥
-    by_test true e = cc
-    by_test false e = cc
-
-no_cell_unknown : (k : ℕ) (o : Option ℕ) (ty : Ty) → Unknown ≡ Cell k o ty → ⊥
-no_cell_unknown k o ty h = cc
-
-no_cell_constant : (j k : ℕ) (o : Option ℕ) (u ty : Ty) → Constant j u ≡ Cell k o ty → ⊥
-no_cell_constant j k o u ty h = cc
-
-same_number : (k j : ℕ) (o p : Option ℕ) (t u : Ty) → Cell k o t ≡ Cell j p u → k ≡ j
-same_number k j o p t u h = cc
-
-same_type : (k j : ℕ) (o p : Option ℕ) (t u : Ty) → Cell k o t ≡ Cell j p u → t ≡ u
-same_type k j o p t u h = cc
-
-entry_cell : (system : System) (code : Module) (x k : ℕ) (p : Option ℕ) (ty : Ty) (kind : VariableKind) (type : TypeExpr) → label_of system code x ≡ None → variable_of code x ≡ Some (kind, type) → HasCells kind
-    → (o : Option ℕ) → cell_of system [] x ≡ o → of_cell_number o (type_of_written system code type) ≡ Cell k p ty → IsEntry system code x k ty
-entry_cell system code x k p ty kind type l v h None c e = absurd (no_cell_unknown k p ty e)
-entry_cell system code x k p ty kind type l v h (Some j) c e =
-    record { kind = kind; type = type; no_label = l; variable = v; has_cells = h; cell = c ∙ ap Some (same_number j k None p (type_of_written system code type) ty e); own = same_type j k None p (type_of_written system code type) ty e }
-
-entry_kind : (system : System) (code : Module) (x k : ℕ) (p : Option ℕ) (ty : Ty) (kind : VariableKind) (type : TypeExpr) → label_of system code x ≡ None → variable_of code x ≡ Some (kind, type)
-    → of_kind system code x type kind ≡ Cell k p ty → IsEntry system code x k ty
-entry_kind system code x k p ty Variable type l v e = entry_cell system code x k p ty Variable type l v tt (cell_of system [] x) refl e
-entry_kind system code x k p ty Input type l v e = entry_cell system code x k p ty Input type l v tt (cell_of system [] x) refl e
-entry_kind system code x k p ty Output type l v e = entry_cell system code x k p ty Output type l v tt (cell_of system [] x) refl e
-entry_kind system code x k p ty constant_kind type l v e = absurd (no_cell_constant _ k p _ ty e)
-
-entry_variable : (system : System) (code : Module) (x k : ℕ) (p : Option ℕ) (ty : Ty) → label_of system code x ≡ None → (o : Option (VariableKind × TypeExpr)) → variable_of code x ≡ o
-    → of_variable system code x o ≡ Cell k p ty → IsEntry system code x k ty
-entry_variable system code x k p ty l None v e = absurd (no_cell_unknown k p ty e)
-entry_variable system code x k p ty l (Some d) v e = entry_kind system code x k p ty d.0 d.1 l v e
-
-entry_label : (system : System) (code : Module) (x k : ℕ) (p : Option ℕ) (ty : Ty) → (o : Option (ℕ × ℕ)) → label_of system code x ≡ o → by_label system code x o ≡ Cell k p ty → IsEntry system code x k ty
-entry_label system code x k p ty (Some l) q e = absurd (no_cell_label system l k p ty e)
-entry_label system code x k p ty None q e = entry_variable system code x k p ty q (variable_of code x) refl e
-
-pub entry : (system : System) (code : Module) (x k : ℕ) (p : Option ℕ) (ty : Ty) → slice_get (names_over_cells system code) x ≡ Some (Cell k p ty) → IsEntry system code x k ty
-entry system code x k p ty h =
-    let y = mapped_at (meant_in system code) (counted 0 (length system.names)) x (Cell k p ty) h in
-    let is : y.0 ≡ x = omega (arith, counted_at 0 (length system.names) x y.0 y.1) in
-    entry_label system code x k p ty (label_of system code x) refl (ap (meant_in system code) (sym is) ∙ y.2)
-
 -- Where all constants have the values that count as 0: an interpretation, and a model.
 abbrev pub zero_interpretation : System → Interp
 zero_interpretation system = record { consts = map zero_of (constant_types system); tables = [] }
@@ -221,28 +155,12 @@ module _ (system : System) (code : Module) (alone : StandsAlone system code) (m 
       flat_says system s (constant_types system) m (types_of system) cells (names_over_cells system code) e t
       (names_hold system code s m cells alone top shared (all_valid (constant_types system) constants_fit) before (all_valid (types_of system) cell_types) fit) h
 
-  said : (s : Scope) (cells : List Value) (top : IsTop s) → SharesConstants system s.interp m → s.before ≡ state_of cells → FitAll (types_of system) cells → (e : Expr) (t : TypedExpression) → flat_of (names_over_cells system code) e ≡ Some t
-      → IsSaid system m (types_of system) s cells e t
-  said s cells top shared before fit e t h =
-      let x = says s cells top shared before fit e t h in
+  -- the same in main, with one state
+  pub init_said : (i : Interp) → SharesConstants system i m → (cells : List Value) → FitAll (types_of system) cells → (e : Expr) (t : TypedExpression) → flat_of (names_over_cells system code) e ≡ Some t
+      → IsSaid system m (types_of system) (now i cells) cells e t
+  init_said i shared cells fit e t h =
+      let x = says (now i cells) cells (record { path = refl; locals = refl }) shared refl fit e t h in
       record { same = x.value; fit = ap (fits t.ty) (sym x.value) ∙ x.fit }
-
-  -- the table in main, with one state
-  pub init_table : (i : Interp) → SharesConstants system i m → IsTable system m (types_of system) (names_over_cells system code) (now i)
-  init_table i shared = record {
-    expressions = λ cells fit e t h. said (now i cells) cells (top cells) shared refl fit e t h;
-    cells = λ x k p ty h.
-        let a = entry system code x k p ty h in
-        record {
-          cell = a.cell;
-          typed = cell_type system code x k a.kind a.type alone a.has_cells a.variable a.cell ∙ ap Some a.own;
-          read = λ cells fit.
-              name_in_cell system code alone (now i cells) (top cells) (reading system) x k false a.kind a.type a.no_label a.variable a.has_cells a.cell ∙ ap (λ t. reads t (part cells k)) a.own;
-        };
-  }
-    where
-      top : (cells : List Value) → IsTop (now i cells)
-      top cells = record { path = refl; locals = refl }
 
 -- what stands for an expression says it where all cells and constants have the values that count as 0
 pub says_at_zeros : (system : System) (code : Module) → StandsAlone system code → list_all is_cell_type (types_of system) ≡ true → list_all is_cell_type (constant_types system) ≡ true

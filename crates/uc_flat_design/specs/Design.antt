@@ -1,16 +1,11 @@
 -- The design over numbered cells of a design of one module.
-use Rattle.std.specs.Prelude.{◌≡◌, ℕ, ◌+◌, Bool as Truth, true, false, ◌&&◌, if◌then◌else◌, List, [], ◌∷◌, ◌++◌, map, length, Option, Some, None}
+use Rattle.std.specs.Prelude.{◌≡◌, ℕ, ◌+◌, Bool as Truth, true, false, if◌then◌else◌, List, [], ◌∷◌, ◌++◌, map, length, Option, Some, None}
 use Rattle.std.specs.Option.{option_map, option_and_then}
 use Rattle.std.specs.List.{list_all}
 use Rattle.uc_syntax.specs.declared.declaration.Decl.{Decl}
 use Rattle.uc_syntax.specs.declared.declaration.Decl.TheVariants.{OpaqueType, TypeAlias, TypeImport, Variables, Init, Next, Invariant, Axiom, Control}
 use Rattle.uc_syntax.specs.declared.declaration.Module.{Module}
 use Rattle.uc_syntax.specs.declared.statement.Stmt.{Stmt}
-use Rattle.uc_values.specs.declared.ty.Ty.{Ty}
-use Rattle.uc_values.specs.declared.ty.Ty.TheFolds.{fold-Ty}
-use Rattle.uc_values.specs.declared.ty.Ty.TheOpen.{Ty-F}
-use Rattle.uc_values.specs.declared.ty.Ty.TheOpen.Ty-F.{Int as integer_type, Un as open_type, Rec as record_type, Arr as array_type}
-use Rattle.uc_values.specs.Types.{is_valid}
 use Rattle.uc_meaning.specs.Lookup.{System, init_of, next_of}
 use Rattle.uc_meaning.specs.Cells.{Cell, cells_of}
 use Rattle.uc_flat.specs.declared.flat.Cell.{Cell as FlatCell}
@@ -23,26 +18,13 @@ use Rattle.uc_flat_expressions.specs.Types.{is_boolean}
 use Rattle.uc_flat_expressions.specs.Expressions.{flat_of}
 use Rattle.uc_flat_names.specs.Names.{names_over_cells, types_of, names_of_constants, constant_types, flat_constants}
 use Rattle.uc_flat_code.specs.Code.{code_of}
-use Rattle.uc_flat_design.specs.Sequential.{plainly}
+use Rattle.uc_flat_init.specs.declared.made.MadeCode.{MadeCode}
+use Rattle.uc_flat_init.specs.CellTypes.{is_cell_type, cell_type_of}
+use Rattle.uc_flat_init.specs.Init.{init_code}
 use Rattle.uc_flat_once.specs.declared.once.Part.{Part}
 use Rattle.uc_flat_once.specs.Once.{written_by}
 use Rattle.uc_flat_order.specs.Arranged.{block_arranged}
 use Rattle.uc_flat_design.specs.Next.{primed_behind, names_between, step_code}
-
-abbrev pub is_finite_form : Ty-F Truth → Truth
-is_finite_form (record_type fields) = list_all (λ f. f.ty) fields
-is_finite_form integer_type = false
-is_finite_form (open_type number) = false
-is_finite_form (array_type index element) = false
-is_finite_form other = true
-
--- booleans, bit-vectors, enums, and records of these
-abbrev pub is_finite : Ty → Truth
-is_finite = fold-Ty Truth is_finite_form
-
--- the types that cells and constants may have
-abbrev pub is_cell_type : Ty → Truth
-is_cell_type ty = is_valid ty && is_finite ty
 
 -- The declarations that are built: types, variables, inputs, outputs and constants, blocks, invariants, axioms and the control block.
 abbrev pub is_built : Decl → Truth
@@ -83,14 +65,14 @@ formulas_from read k (d ∷ decls) = option_and_then (λ xs. option_map (λ ys. 
 abbrev pub flat_cell : Cell → FlatCell
 flat_cell c = record { path = c.path; name = c.name; ty = c.type }
 
--- the design over cells by its code, its axioms and its other formulas
-abbrev pub flat_with : System → List Statement → List Statement → List Formula → List Formula → Flat
+-- the design over cells by its code, its axioms and its other formulas; the further cells are those of its init code
+abbrev pub flat_with : System → MadeCode → List Statement → List Formula → List Formula → Flat
 flat_with system init next axioms formulas = record {
   cells = map flat_cell (cells_of system);
   constants = flat_constants system;
   functions = [];
-  further = [];
-  init = init;
+  further = init.further;
+  init = init.code;
   step = step_code (cells_of system) next;
   sites = [];
   formulas = axioms ++ formulas;
@@ -112,12 +94,12 @@ pub record IsFlatOf (system : System) (code : Module) (f : Flat) : Type 0 where
   pub declarations : list_all is_built code.decls ≡ true
   pub types : list_all is_cell_type (types_of system) ≡ true
   pub constants : list_all is_cell_type (constant_types system) ≡ true
-  pub init : List Statement
+  pub init : MadeCode
   pub next : List Statement
   pub after : List Part
   pub axioms : List Formula
   pub formulas : List Formula
-  pub init_is : code_of (names_over_cells system code) plainly (init_of code) ≡ Some init
+  pub init_is : init_code (cell_type_of system code) (names_over_cells system code) (length (cells_of system)) (init_of code) ≡ Some init
   pub next_is : code_of (next_names system code) (primed_behind (length (cells_of system))) (next_arranged system code) ≡ Some next
   pub once : written_by (next_names system code) (length (cells_of system)) (next_arranged system code) [] ≡ Some after
   pub axioms_are : formulas_from (axiom_in (names_of_constants system code)) 0 code.decls ≡ Some axioms

@@ -1,15 +1,9 @@
-//! The design over numbered cells of a design of one module, and the laws that both do the same: the code of its blocks, its initial states
-//! and its steps.
+//! The design over numbered cells of a design of one module, and the laws that both do the same: the code of its `next` block, its initial
+//! states and its steps.
 #![tactic(auto)]
 
 ghost use Rattle.uc_flat_design.specs.Laws.{InitialLaw, StepLaw};
 ghost use Rattle.uc_flat_design.specs.Next.{StepFitsLaw, StepFoundLaw, StepIsLaw};
-ghost use Rattle.uc_flat_design.specs.Sequential.{SequentialLaw};
-
-/// Init code of a design and its code over cells end alike.
-pub fn sequential_code()
-    ensures { SequentialLaw }
-{}
 
 /// Each step of a `next` block is one of the code over the cells of both states of its statements, or of its slices, in some
 /// order, run in this order, where no way through them writes a part of a cell after it was written there, or read in the new state.

@@ -28,15 +28,13 @@ use Rattle.uc_flat_expressions.specs.Types.{is_boolean}
 use Rattle.uc_flat_expressions.specs.Expressions.{flat_of}
 use Rattle.uc_flat_names.specs.Names.{names_over_cells, names_of_constants}
 use Rattle.uc_flat_names.proofs.Cells.{alone_instances}
-use Rattle.uc_flat_design.specs.Sequential.{plainly}
-use Rattle.uc_flat_design.proofs.Options.{then_some, map_some, if_some, some_same}
-use Rattle.uc_flat_design.proofs.Sequential.{arms_in, else_in}
+use Rattle.uc_flat_init_law.proofs.Options.{then_some, map_some, if_some, some_same}
+use Rattle.uc_flat_init_law.proofs.Forms.{arms_in, else_in}
 use Rattle.uc_flat_design.specs.Design.{is_built, condition_of, invariant_in, axiom_in, formulas_from, IsFlatOf}
 use Rattle.uc_flat_design.proofs.Formulas.{formula_of, axioms_read, invariants_read}
-use Rattle.uc_flat_design.proofs.Laws.{main_is, alone_of, next_plain}
+use Rattle.uc_flat_design.proofs.Laws.{main_is, alone_of, init_plain, next_plain}
 use Rattle.uc_flat_refutations.specs.Laws.{singles_of, LinesLaw}
 use Rattle.uc_guarded.specs.Laws.{all_true, plain_form, is_plain}
-use Rattle.uc_flat_order.proofs.PlainCode.{code_plain}
 
 -- ---- no sites
 
@@ -155,7 +153,7 @@ init_none : (system : System) (code : Module) (f : Flat) → IsFlatOf system cod
 unfolding init_sites sites_in_order
 init_none system code f d =
     ap (λ is. sites_in_order system (flat_map (λ i. sites_in system (init_of i.code) i.path) is)) (alone_instances system code (alone_of system code f d))
-    ∙ ap (λ ss. sites_in_order system (ss ++ [])) (no_sites system (init_of code) (code_plain (names_over_cells system code) plainly (init_of code) d.init d.init_is))
+    ∙ ap (λ ss. sites_in_order system (ss ++ [])) (no_sites system (init_of code) (init_plain system code f d))
 
 step_none : (system : System) (code : Module) (f : Flat) → IsFlatOf system code f → step_sites system ≡ []
 unfolding step_sites sites_in_order

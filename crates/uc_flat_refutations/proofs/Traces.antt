@@ -43,11 +43,11 @@ use Rattle.uc_flat_names.specs.Constants.{SharesConstants}
 use Rattle.uc_flat_names.proofs.Sharing.{shares_first}
 use Rattle.uc_flat_names.proofs.Cells.{alone_instances}
 use Rattle.uc_flat_names.proofs.Meaning.{mapped_at}
-use Rattle.uc_flat_design.proofs.Options.{then_some, map_some, if_some, some_same}
-use Rattle.uc_flat_design.proofs.Sequential.{truth_holds}
+use Rattle.uc_flat_init_law.proofs.Options.{then_some, map_some, if_some, some_same}
+use Rattle.uc_flat_init_law.proofs.Forms.{truth_holds}
 use Rattle.uc_flat_design.specs.Design.{is_built, condition_of, invariant_in, axiom_in, formulas_from, IsFlatOf}
 use Rattle.uc_flat_design.proofs.Formulas.{formula_of as own_formula, invariants_read}
-use Rattle.uc_flat_design.proofs.Tables.{fit_cells, fit_types, init_table, axiom_says}
+use Rattle.uc_flat_design.proofs.Tables.{fit_cells, fit_types, init_said, axiom_says}
 use Rattle.uc_flat_design.proofs.Laws.{main_is, alone_of, flat_types, flat_constant_types, initial_holds, step_holds}
 use Rattle.uc_flat_refutations.specs.Laws.{line_of, interpretation_of, FoundLaw, RefutedLaw}
 use Rattle.uc_flat_refutations.proofs.Judging.{axioms_copied}
@@ -210,7 +210,7 @@ module _ (system : System) (code : Module) (f : Flat) (d : IsFlatOf system code 
     unfolding repeated
     says_same x single a cells fit =
         truth_holds (value system (scope_of i [] (state_of cells)) a.formula)
-        ∙ ap truth_of (((init_table system code (alone_of system code f d) m d.types d.constants i shares).expressions cells (fit_cells (types_of system) cells fit) a.formula a.typed a.flat).same
+        ∙ ap truth_of ((init_said system code (alone_of system code f d) m d.types d.constants i shares cells (fit_cells (types_of system) cells fit) a.formula a.typed a.flat).same
         ∙ ap (λ ts. value_of m ts cells a.typed.expression) (sym (append-nil (types_of system)) ∙ ap (λ ts. ts ++ []) (sym (flat_types system code f d)))
         ∙ ap (λ n. value_of m (repeated n (cell_types f)) cells a.typed.expression) (sym single)
         ∙ ap (value_of m (repeated x.copies (cell_types f)) cells) (sym a.is_condition))

@@ -14,11 +14,10 @@ ghost use Rattle.uc_symstep.specs.Unrolled.{IsSeen};
 ghost use Rattle.uc_symstep.specs.Known.{IsKnown, KnowsState};
 ghost use Rattle.uc_obligations.specs.Unrolling.{AllReadTyped};
 
-use crate::truths::{both, negated, truth};
 use std::alloc::{AllocError, Global};
 use std::slice::from_ref;
 use uc_flat::Flat;
-use uc_symstep::{SymState, sym_formula};
+use uc_symstep::{SymState, both, literal, negated, sym_formula};
 use uc_terms::{TermId, Terms};
 
 /// A term that is true where every axiom is.
@@ -28,7 +27,7 @@ pub(crate) fn axioms_term(terms: &mut Terms, alloc: Global, f: &Flat) -> Result<
     ensures known { IfOk result (λ t. (supply : List AType) → AllReadTyped supply f.now.formulas → IsKnown supply terms.new t) }
     ensures grown { Grows terms.old terms.new }
 {
-    let mut all = truth(terms, alloc)?;
+    let mut all = literal(terms, alloc, true)?;
     for place in 0..f.axioms {
         let one = sym_formula(terms, alloc, f, place, &[])?;
         all = both(terms, alloc, all, one)?;

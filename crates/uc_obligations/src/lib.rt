@@ -9,7 +9,6 @@
 mod axioms;
 mod goals;
 mod reading;
-mod truths;
 mod unrolling;
 
 pub use goals::{build, goal};

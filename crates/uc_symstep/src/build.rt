@@ -15,7 +15,8 @@ use std::alloc::{AllocError, Global};
 use uc_terms::{Op, TermId, Terms};
 use uc_values::{Ty, Value};
 
-pub(crate) fn literal(terms: &mut Terms, alloc: Global, b: bool) -> Result<TermId, AllocError>
+/// The constant true or false.
+pub fn literal(terms: &mut Terms, alloc: Global, b: bool) -> Result<TermId, AllocError>
     ensures ok { IfOk result (λ t. IsTerm terms.old terms.new t Bool (λ m. Truth b)) }
     ensures known { IfOk result (λ t. (supply : List AType) → IsKnown supply terms.new t) }
     ensures grown { Grows terms.old terms.new }
@@ -24,7 +25,8 @@ pub(crate) fn literal(terms: &mut Terms, alloc: Global, b: bool) -> Result<TermI
     Ok(t)
 }
 
-pub(crate) fn negated(terms: &mut Terms, alloc: Global, t: TermId) -> Result<TermId, AllocError>
+/// The truth value that a term has not.
+pub fn negated(terms: &mut Terms, alloc: Global, t: TermId) -> Result<TermId, AllocError>
     requires there { t < length terms.old }
     requires boolean { type_at terms.old t ≡ Bool }
     ensures ok { IfOk result (λ r. IsTerm terms.old terms.new r Bool (λ m. Truth (not (truth_of (value m terms.old t))))) }
@@ -35,12 +37,8 @@ pub(crate) fn negated(terms: &mut Terms, alloc: Global, t: TermId) -> Result<Ter
     Ok(r)
 }
 
-pub(crate) fn both(
-    terms: &mut Terms,
-    alloc: Global,
-    a: TermId,
-    b: TermId,
-) -> Result<TermId, AllocError>
+/// Whether two terms are true.
+pub fn both(terms: &mut Terms, alloc: Global, a: TermId, b: TermId) -> Result<TermId, AllocError>
     requires there { (a < length terms.old) × (b < length terms.old) }
     requires boolean { (type_at terms.old a ≡ Bool) × (type_at terms.old b ≡ Bool) }
     ensures ok { IfOk result (λ r. IsTerm terms.old terms.new r Bool (λ m. Truth (truth_of (value m terms.old a) && truth_of (value m terms.old b)))) }

@@ -11,6 +11,7 @@ mod simple;
 mod state;
 mod unroll;
 
+pub use build::{both, literal, negated};
 pub use code::sym_code;
 pub use design::{sym_formula, sym_init, sym_step};
 pub use formula::sym_expression;

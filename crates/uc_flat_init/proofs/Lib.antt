@@ -1,0 +1,6 @@
+pub mod CellTypes
+pub mod Zeros
+pub mod Names
+pub mod Orders
+pub mod Targets
+pub mod Forms

@@ -1,0 +1,4 @@
+pub mod CellTypes
+pub mod Zero
+pub mod Init
+pub mod Walk

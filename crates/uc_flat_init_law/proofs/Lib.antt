@@ -1,0 +1,11 @@
+pub mod Options
+pub mod Forms
+pub mod Turns
+pub mod Fields
+pub mod Replacing
+pub mod Zeros
+pub mod Entries
+pub mod Further
+pub mod Locals
+pub mod Names
+pub mod Walk
