@@ -1,8 +1,10 @@
 -- What stands before a selection, by what the rules' definitions say of it.
-use Rattle.std.specs.Prelude.{◌≡◌, ℕ, List}
+use Rattle.std.specs.Prelude.{◌≡◌, ℕ, List, Option, Some, None}
+use Rattle.uc_values.specs.declared.ty.Ty.{Ty}
 use Rattle.uc_syntax.specs.declared.declaration.Module.{Module}
 use Rattle.uc_meaning.specs.Lookup.{System}
 use Rattle.uc_rules.specs.Expressions.{Standing as Meant, ValueOf, StateOf, Inside as InsideMeant, Wrong as WrongMeant, Broken as BrokenMeant}
+use Rattle.uc_rules.specs.declared.fault.Fault.{Fault}
 use Rattle.uc_rules.specs.Names.{names_one_of}
 use Rattle.uc_rules.specs.Reads.{define_reads}
 use Rattle.uc_name_table.specs.Senses.{module_in}
@@ -15,6 +17,11 @@ standing_meant ms (State t) = StateOf t
 standing_meant ms (Inside place home) = InsideMeant place (module_in ms home)
 standing_meant ms (Wrong f) = WrongMeant f
 standing_meant ms Broken = BrokenMeant
+
+-- a value, unless there is a fault
+abbrev pub value_unless : Option Fault → Option Ty → Meant
+value_unless None t = ValueOf t
+value_unless (Some f) t = WrongMeant f
 
 -- these names are those of the defines of a module that read state
 unfoldable pub KnowsReads : System → Module → List ℕ → Type 0

@@ -11,7 +11,7 @@ ghost use Rattle.uc_rules.specs.Types.{parameter_types, type_of};
 
 use crate::scope::Scope;
 use std::alloc::{AllocError, Global};
-use uc_items::Items;
+use uc_items::{Items, beside};
 use uc_name_table::Called;
 use uc_rules::{Outcome, Rule};
 use uc_syntax::{Parameter, TypeExpr};
@@ -50,7 +50,7 @@ impl<'a, 'd> Scope<'a, 'd> {
         ensures { IfOk result (λ o. o ≡ applied (type_of self.now.system self.now.home ty.now) (parameter_types self.now.system self.now.home parameters.now) arguments.now) }
     {
         let gives = self.type_of(alloc, ty)?;
-        let types = self.parameter_types(alloc, parameters)?;
+        let (gives, types) = beside(gives, self.parameter_types(alloc, parameters))?;
         Ok(applied(gives, types.as_slice(), arguments))
     }
 

@@ -127,7 +127,8 @@ impl<'a, 'd> Scope<'a, 'd> {
     {
         let mut scope = self;
         scope.in_ensures = false;
-        scope.modifies = Some(modified);
+        let before = scope.modifies.replace(modified);
+        drop(before);
         scope
     }
 

@@ -4,7 +4,7 @@ ghost use Rattle.std.specs.Prelude.{◌≡◌, List, Some, IfOk};
 ghost use Rattle.uc_syntax.specs.declared.declaration.Module.{Module};
 ghost use Rattle.uc_rules.specs.Expressions.{Wrong as WrongMeant, standing, standing_type, told};
 ghost use Rattle.uc_rules.specs.Faults.{broken};
-ghost use Rattle.uc_read_names.specs.Reading.{standing_meant};
+ghost use Rattle.uc_read_names.specs.Reading.{standing_meant, value_unless};
 
 use std::alloc::{AllocError, Global};
 use uc_rules::{Fault, Outcome, Rule};
@@ -28,6 +28,16 @@ pub(crate) fn wrong(rule: Rule, place: Place) -> Standing
     ensures { (ms : List Module) → standing_meant ms result ≡ WrongMeant (broken rule place) }
 {
     Standing::Wrong(Fault { rule, place })
+}
+
+/// A value, unless there is a fault.
+pub(crate) fn value_unless(fault: Option<Fault>, ty: Option<Ty>) -> Standing
+    ensures { (ms : List Module) → standing_meant ms result ≡ value_unless fault ty }
+{
+    match fault {
+        None => Standing::Value(ty),
+        Some(fault) => Standing::Wrong(fault),
+    }
 }
 
 impl Standing {
