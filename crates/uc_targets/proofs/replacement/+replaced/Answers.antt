@@ -1,11 +1,11 @@
-use Rattle.std.proofs.Common.{◌≡◌, ◌∙◌, ◌∷◌, ap, sym, subst, rules}
+use Rattle.std.proofs.Common.{◌≡◌, ◌∙◌, ◌∷◌, ap, sym, rules}
 use Rattle.uc_values.specs.declared.value.Value.{Value}
 use Rattle.uc_values.specs.Values.{with_field}
-use Rattle.uc_values.specs.Arrays.{at, store}
-use Rattle.uc_meaning.specs.Expressions.{element_type, fields_of, field_number, reads}
+use Rattle.uc_values.specs.Arrays.{store}
+use Rattle.uc_meaning.specs.Expressions.{fields_of, field_number}
 use Rattle.uc_meaning.specs.Overflow.{met}
 use Rattle.uc_meaning.specs.Code.{replaced}
-use Rattle.uc_operators.specs.Overflows.{first_wide, TellsWide}
+use Rattle.uc_operators.specs.Overflows.{first_wide}
 use Rattle.uc_scopes.specs.Scopes.{scope_in}
 use Rattle.uc_readings.specs.declared.said.Said.{Said}
 use Rattle.uc_readings.specs.Readings.{reading_of}
@@ -40,7 +40,7 @@ returns-in_ok-outer-in-Field-clause-value t c =
     let second = c.in_ok-outer-in-Field.ensures in
     let whole = second.0 ∙ ap (λ p. p.0) first.0 in
     c.changed.ensures
-    ∙ ap (λ (w : Said). with_field w.value (field_number (fields_of w.ty) c.in-Field.name.name) _) whole
+    ∙ ap (λ (w : Said). with_field w.value (field_number (fields_of w.ty) c.in-Field.name.name) c.in_ok-outer-in-Field.part) whole
     ∙ field_replaced c.args.layout.now (scope_in c.args.scope.now) c.args.parts.now c.in-Some.first.now c.in-Some.rest.now split c.in-Field.field-0 c.in-Field.name c.in-Field.is (reading_of c.args.whole) _ _ c.args.new
     (given _ _ _ first.1 c.field-inner.ensures) (given _ _ _ second.1 c.replaced-part.ensures.value ∙ ap (replaced c.args.layout.now (scope_in c.args.scope.now) _ c.in-Some.rest.now) (ap (λ p. p.1) first.0))
 
@@ -76,7 +76,7 @@ returns-in_ok-value-in-Element-clause-value t c =
     let whole = ap (λ p. p.0) second.0 ∙ ap (λ p. p.0) first.0 in
     let index = ap (λ p. p.1) second.0 in
     c.in_ok-value-in-Element.ensures
-    ∙ (λ i. store (whole i).value (index i) _)
+    ∙ (λ i. store (whole i).value (index i) c.in_ok-outer-in-Element.part)
     ∙ element_replaced c.args.layout.now (scope_in c.args.scope.now) c.args.parts.now c.in-Some.first.now c.in-Some.rest.now split c.in-Element.field-0 c.in-Element.index c.in-Element.is (reading_of c.args.whole) _ _ _ c.args.new
     (given _ _ _ first.1 c.found_element-found.ensures.index) (given _ _ _ first.1 c.found_element-found.ensures.element)
     (given _ _ _ second.1 c.replaced-part-in-Element.ensures.value ∙ ap (replaced c.args.layout.now (scope_in c.args.scope.now) _ c.in-Some.rest.now) (ap (λ p. p.1) first.0))
