@@ -31,9 +31,9 @@ use Rattle.uc_log.specs.Problems.{Question}
 use Rattle.uc_solver.specs.declared.answer.Answer.{Answer}
 use Rattle.uc_solver.specs.declared.answer.Answer.TheVariants.{Model as Found, Refuted}
 use Rattle.uc_solver.specs.declared.answer.SolveError.{SolveError}
-use Rattle.uc_solver.specs.declared.answer.SolveError.TheVariants.{Budget}
+use Rattle.uc_solver.specs.declared.answer.SolveError.TheVariants.{NoMemory, Budget}
 use Rattle.uc_solver.specs.Answers.{IsRight, IsCause}
-use Rattle.uc_flat_lines.specs.Deciding.{IsSolution}
+use Rattle.uc_flat_lines.specs.Deciding.{IsSolution, IsSpentFor, solution_of}
 
 data IsKind (op : Op) : Type 0 where
   symbol : (number : ℕ) (ty : Ty) → op ≡ Symbol number ty → IsKind op
@@ -131,13 +131,16 @@ no_model old new goal w two w' there even finite on never m h =
     })
 
 -- from what the solver answers
-pub refuted_none : (old new : List Node) (goal : ℕ) (opened : Option Question) (log : List Entry) (r : Result Answer SolveError) → WellTyped old → NoTwoEqual old → WellTyped new → goal < length old → EvenlyTyped old goal
-    → IsFiniteTerm old goal → GoesOn old new → r ≡ Ok (Refuted log) → IfOk r (IsRight new goal opened) → IsSolution old goal None
-refuted_none old new goal opened log r w two w' there even finite on e h =
-    no_model old new goal w two w' there even finite on (subst (λ x. IfOk x (IsRight new goal opened)) e h).no_model
+pub solution_is : (old new : List Node) (goal : ℕ) (opened : Option Question) (r : Result Answer SolveError) → WellTyped old → NoTwoEqual old → WellTyped new → goal < length old → EvenlyTyped old goal
+    → IsFiniteTerm old goal → GoesOn old new → KeepsValues old new → IfOk r (IsRight new goal opened) → IfOk (solution_of r) (IsSolution old goal)
+solution_is old new goal opened (Ok (Found m)) w two w' there even finite on keeps h = ap truth_of (sym (keeps m goal there)) ∙ h.holds
+solution_is old new goal opened (Ok (Refuted log)) w two w' there even finite on keeps h = no_model old new goal w two w' there even finite on h.no_model
+solution_is old new goal opened (Err Budget) w two w' there even finite on keeps h = tt
+solution_is old new goal opened (Err NoMemory) w two w' there even finite on keeps h = tt
 
-pub found_some : (old new : List Node) (goal : ℕ) (opened : Option Question) (m : Model) (r : Result Answer SolveError) → goal < length old → KeepsValues old new → r ≡ Ok (Found m) → IfOk r (IsRight new goal opened) → IsSolution old goal (Some m)
-found_some old new goal opened m r there keeps e h = ap truth_of (sym (keeps m goal there)) ∙ (subst (λ x. IfOk x (IsRight new goal opened)) e h).holds
-
-pub budget_spent : (nodes : List Node) (goal : ℕ) (opened : Option Question) (here budget before after : ℕ) (r : Result Answer SolveError) → r ≡ Err Budget → IfErr r (IsCause nodes goal opened here budget before after) → before + budget ≤ after
-budget_spent nodes goal opened here budget before after r e h = (subst (λ x. IfErr x (IsCause nodes goal opened here budget before after)) e h).rose
+pub spent_is : (nodes : List Node) (goal : ℕ) (opened : Option Question) (here budget before after : ℕ) (r : Result Answer SolveError) → before ≤ after → IfErr r (IsCause nodes goal opened here budget before after)
+    → IfErr (solution_of r) (IsSpentFor budget before after)
+spent_is nodes goal opened here budget before after (Ok (Found m)) l h = tt
+spent_is nodes goal opened here budget before after (Ok (Refuted log)) l h = tt
+spent_is nodes goal opened here budget before after (Err Budget) l h = h.rose
+spent_is nodes goal opened here budget before after (Err NoMemory) l h = l

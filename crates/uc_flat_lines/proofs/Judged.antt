@@ -14,7 +14,7 @@ use Rattle.uc_flat.specs.Drawn.{listed_if}
 use Rattle.uc_flat_lines.specs.declared.line.FlatLine.{FlatLine}
 use Rattle.uc_flat_lines.specs.declared.line.FlatVerdict.{FlatVerdict}
 use Rattle.uc_flat_lines.specs.declared.line.FlatVerdict.TheVariants.{Passed, Failed, Undef}
-use Rattle.uc_flat_lines.specs.declared.line.FlatWhy.TheVariants.{Memory, Budget}
+use Rattle.uc_flat_lines.specs.declared.line.FlatWhy.TheVariants.{Memory, Budget, Untold}
 use Rattle.uc_flat_lines.specs.Lines.{speaks_of_one, singles_below, lines_of, step_lines, lines_below, IsFlatVerdict, IsRightLine, is_out_of_budget, IsHonestVerdict, IsHonestLine, AreFlatJudged}
 use Rattle.uc_flat_lines.specs.Deciding.{IsSpentOn}
 
@@ -30,6 +30,7 @@ none_judged f budget at ls is = subst (AreFlatJudged f budget at at []) (sym is)
   right = All-nil (IsRightLine f);
   spent = omega arith;
   few = omega arith;
+  within = omega arith;
   honest = All-nil (IsHonestLine f budget);
 })
 
@@ -42,6 +43,9 @@ both_judged f budget a b c xs ys ls ms all h g is = subst (AreFlatJudged f budge
       let d : budget * count_by out (ls ++ ms) ≡ budget * count_by out ls + budget * count_by out ms = ap (λ n. budget * n) e ∙ mul-add budget (count_by out ls) (count_by out ms) in
       omega (arith, d, h.spent, g.spent);
   few = omega (arith, h.few, g.few, length-append ls ms);
+  within =
+      let d : budget * length (ls ++ ms) ≡ budget * length ls + budget * length ms = ap (λ n. budget * n) (length-append ls ms) ∙ mul-add budget (length ls) (length ms) in
+      omega (arith, d, h.within, g.within);
   honest = All-append (IsHonestLine f budget) ls ms h.honest g.honest;
 })
 
@@ -53,6 +57,7 @@ spent_one budget before after Passed h = omega (arith, h)
 spent_one budget before after (Failed t) h = omega (arith, h)
 spent_one budget before after (Undef Budget) h = omega (arith, h)
 spent_one budget before after (Undef Memory) h = omega (arith, h)
+spent_one budget before after (Undef Untold) h = omega (arith, h)
 
 -- the formula at a place
 pub one_of : (f : Flat) (k : ℕ) (x : Formula) (xs : List Formula) → xs ≡ f.formulas → k < length f.formulas → slice_get f.formulas k ≡ Some (get_or xs k x)
@@ -73,9 +78,9 @@ speaks_not f k x at h = ap speaks_of_one at ∙ by_test (nat_eq x.copies 1) refl
 
 -- the line of a formula of one copy
 pub one_judged : (f : Flat) (budget before after steps k : ℕ) (x : Formula) (v : FlatVerdict) (ls : List FlatLine) → slice_get f.formulas k ≡ Some x → x.copies ≡ 1
-    → ((y : Formula) → slice_get f.formulas k ≡ Some y → IsFlatVerdict f y steps v) → IsSpentOn budget before after v → after ≤ before + 2 ^ 32 → IsHonestVerdict f budget steps v → ls ≡ record { steps = steps; formula = k; verdict = v } ∷ []
+    → ((y : Formula) → slice_get f.formulas k ≡ Some y → IsFlatVerdict f y steps v) → IsSpentOn budget before after v → after ≤ before + 2 ^ 32 → after ≤ before + budget → IsHonestVerdict f budget steps v → ls ≡ record { steps = steps; formula = k; verdict = v } ∷ []
     → AreFlatJudged f budget before after (map (λ j. (steps, j)) (listed_if (speaks_of_one (slice_get f.formulas k)) k)) ls
-one_judged f budget before after steps k x v ls at single right spent few honest all =
+one_judged f budget before after steps k x v ls at single right spent few within honest all =
     subst (AreFlatJudged f budget before after (map (λ j. (steps, j)) (listed_if (speaks_of_one (slice_get f.formulas k)) k))) (sym all)
     (judged_as f budget before after ((steps, k) ∷ []) (map (λ j. (steps, j)) (listed_if (speaks_of_one (slice_get f.formulas k)) k)) (record { steps = steps; formula = k; verdict = v } ∷ [])
     (sym (ap (λ b. map (λ j. (steps, j)) (listed_if b k)) (speaks f k x at single)))
@@ -84,6 +89,7 @@ one_judged f budget before after steps k x v ls at single right spent few honest
       right = All-cons (IsRightLine f) (record { steps = steps; formula = k; verdict = v }) [] right (All-nil (IsRightLine f));
       spent = spent_one budget before after v spent;
       few = omega (arith, few);
+      within = omega (arith, within);
       honest = All-cons (IsHonestLine f budget) (record { steps = steps; formula = k; verdict = v }) [] honest (All-nil (IsHonestLine f budget));
     }))
 

@@ -1,18 +1,23 @@
 -- From what is found of a goal to what refutes a formula.
-use Rattle.std.proofs.Common.{◌≡◌, ℕ, ◌<◌, List, length, Some, None, ap, ◌∙◌, slice_get}
+use Rattle.std.proofs.Common.{◌≡◌, ℕ, ◌<◌, ◌≤◌, List, length, Option, Some, None, ap, ◌∙◌, slice_get}
+use Rattle.std.specs.Prelude.{Result, Ok, Err, IfOk, IfErr}
 use Rattle.uc_values.specs.Values.{truth_of}
+use Rattle.uc_ops.specs.declared.model.Model.{Model}
 use Rattle.uc_ops.specs.declared.node.Node.{Node}
 use Rattle.uc_flat.specs.declared.flat.Flat.{Flat}
 use Rattle.uc_flat.specs.declared.flat.Formula.{Formula}
 use Rattle.uc_symstep.specs.Growing.{Grows}
 use Rattle.uc_symstep.specs.Known.{IsKnown, ReadsOwnTypes, supply_after}
+use Rattle.uc_symstep.proofs.Grown.{grows_value}
+use Rattle.uc_symstep.proofs.Known.{known_grows}
 use Rattle.uc_flat_traces.specs.declared.trace.FlatTrace.{FlatTrace}
 use Rattle.uc_flat_traces.specs.Traces.{RefutesFlat}
-use Rattle.uc_obligations.specs.Goals.{IsGoal, IsObligation}
+use Rattle.uc_obligations.specs.Goals.{IsGoal, IsObligation, IsTold}
 use Rattle.uc_obligations.proofs.Goaled.{goal_grows}
 use Rattle.uc_flat_lines.specs.declared.line.FlatWhy.{FlatWhy}
-use Rattle.uc_flat_lines.specs.declared.line.FlatWhy.TheVariants.{Memory, Budget}
-use Rattle.uc_flat_lines.specs.Deciding.{IsSolution, IsOutcome, IsHonestFor, IsHonestAfter}
+use Rattle.uc_flat_lines.specs.declared.line.FlatWhy.TheVariants.{Memory, Budget, Untold}
+use Rattle.uc_flat_lines.specs.Deciding.{IsSolution, IsOutcome, IsSpentFor, IsSpentOn, IsHonestFor, IsHonestAfter, verdict_of}
+use Rattle.uc_flat_lines.specs.Lines.{IsFlatVerdict, IsHonestVerdict}
 
 -- where no model makes the goal true, no trace refutes the formula
 pub none_all : (f : Flat) (k n : ℕ) (nodes : List Node) (goal : ℕ) → ((x : Formula) → slice_get f.formulas k ≡ Some x → IsObligation f x n nodes goal) → IsSolution nodes goal None → (x : Formula) → slice_get f.formulas k ≡ Some x
@@ -27,3 +32,28 @@ one_all f k n old new goal t grown l g built x at = built x (goal_grows f x n ol
 pub honest_after : (f : Flat) (budget n : ℕ) (nodes : List Node) (goal : ℕ) (why : FlatWhy) → (ReadsOwnTypes f → IsKnown (supply_after f n) nodes goal) → IsHonestFor budget nodes goal why → IsHonestAfter f budget n why
 honest_after f budget n nodes goal Budget k h = λ reads. h (supply_after f n) (k reads)
 honest_after f budget n nodes goal Memory k h = tt
+honest_after f budget n nodes goal Untold k h = absurd h
+
+-- a model of a known goal tells a trace
+pub never_untold : (f : Flat) (budget n : ℕ) (old new : List Node) (goal : ℕ) (m : Model) → Grows old new → goal < length old → IsSolution old goal (Some m) → (ReadsOwnTypes f → IsKnown (supply_after f n) old goal)
+    → IsTold f n new goal m None → IsHonestAfter f budget n Untold
+never_untold f budget n old new goal m g l s k t = λ own valid. t valid (known_grows (supply_after f n) old new g goal (k own)) (ap truth_of (grows_value old new g m goal l) ∙ s)
+
+-- from what is found of a formula to its verdict
+pub verdict_right : (f : Flat) (x : Formula) (n k : ℕ) (r : Result (Option FlatTrace) FlatWhy) → IfOk r (λ o. (y : Formula) → slice_get f.formulas k ≡ Some y → IsOutcome f y n o) → slice_get f.formulas k ≡ Some x
+    → IsFlatVerdict f x n (verdict_of r)
+verdict_right f x n k (Ok None) h at = h x at
+verdict_right f x n k (Ok (Some t)) h at = h x at
+verdict_right f x n k (Err why) h at = tt
+
+pub verdict_spent : (budget before after : ℕ) (r : Result (Option FlatTrace) FlatWhy) → before ≤ after → IfErr r (IsSpentFor budget before after) → IsSpentOn budget before after (verdict_of r)
+verdict_spent budget before after (Ok None) l h = l
+verdict_spent budget before after (Ok (Some t)) l h = l
+verdict_spent budget before after (Err why) l h = h
+
+pub verdict_honest : (f : Flat) (budget n : ℕ) (r : Result (Option FlatTrace) FlatWhy) → IfErr r (IsHonestAfter f budget n) → IsHonestVerdict f budget n (verdict_of r)
+verdict_honest f budget n (Ok None) h = tt
+verdict_honest f budget n (Ok (Some t)) h = tt
+verdict_honest f budget n (Err Budget) h = h
+verdict_honest f budget n (Err Untold) h = h
+verdict_honest f budget n (Err Memory) h = tt

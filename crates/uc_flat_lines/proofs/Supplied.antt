@@ -1,5 +1,5 @@
 -- The bits of a known goal, and what an answer that the budget is spent says of them.
-use Rattle.std.specs.Prelude.{◌≡◌, ◌≢◌, ℕ, zero, suc, ◌+◌, ◌<◌, ◌≤◌, ◌^◌, Bool as Truth, true, false, List, [], ◌∷◌, ◌++◌, length, take, slice_get, Some, All, Contains, Result, Err, nat_le}
+use Rattle.std.specs.Prelude.{◌≡◌, ◌≢◌, ℕ, zero, suc, ◌+◌, ◌<◌, ◌≤◌, ◌^◌, Bool as Truth, true, false, List, [], ◌∷◌, ◌++◌, length, take, slice_get, Some, All, Contains, Result, Ok, Err, IfErr, nat_le}
 use Rattle.std.specs.Option.{option_map}
 use Rattle.std.proofs.Common.{refl, sym, ap, ◌∙◌, subst, arith, ◌⊎◌, inl, inr}
 use Rattle.std.proofs.lemmas.Bool.Decides.{nat_tests}
@@ -20,11 +20,13 @@ use Rattle.uc_lower.specs.Bits.{bits_or, type_bits, bits_at, IsSymbolBelow}
 use Rattle.uc_lower.proofs.Bits.{type_bits-append}
 use Rattle.uc_models.proofs.Setting.{subterm_there}
 use Rattle.uc_solver.specs.declared.answer.Answer.{Answer}
+use Rattle.uc_solver.specs.declared.answer.Answer.TheVariants.{Model as Found, Refuted}
 use Rattle.uc_solver.specs.declared.answer.SolveError.{SolveError}
-use Rattle.uc_solver.specs.declared.answer.SolveError.TheVariants.{Budget}
+use Rattle.uc_solver.specs.declared.answer.SolveError.TheVariants.{NoMemory, Budget}
 use Rattle.uc_solver.specs.Stands.{HasBitsUpTo}
 use Rattle.uc_symstep.specs.Known.{IsKnown, known}
 use Rattle.uc_obligations.proofs.KnownTerms.{op_is, symbol_below}
+use Rattle.uc_flat_lines.specs.Deciding.{IsHonestFor, solution_of}
 use Rattle.uc_flat_lines.proofs.Below.{Is, same_or_not, is_below}
 
 -- Symbols are one term where their numbers and types are the same.
@@ -210,10 +212,17 @@ known_bits supply nodes t w shared there h =
     }
 
 -- the solver says that the budget is spent only where it is below 2 to the bits of the supply
-pub budget_below : (nodes : List Node) (goal budget : ℕ) (r : Result Answer SolveError) → WellTyped nodes → NoTwoEqual nodes → goal < length nodes → r ≡ Err Budget
+budget_below : (nodes : List Node) (goal budget : ℕ) (r : Result Answer SolveError) → WellTyped nodes → NoTwoEqual nodes → goal < length nodes → r ≡ Err Budget
     → ((n : ℕ) → HasBitsUpTo nodes goal n → 2 ^ n ≤ budget → r ≢ Err Budget) → (supply : List Ty) → IsKnown supply nodes goal → budget < 2 ^ type_bits supply
 budget_below nodes goal budget r w shared there is enough supply h = by_test (nat_le (2 ^ type_bits supply) budget) refl
   where
     by_test : (b : Truth) → nat_le (2 ^ type_bits supply) budget ≡ b → budget < 2 ^ type_bits supply
     by_test true e = absurd (enough (type_bits supply) (known_bits supply nodes goal w shared there h) (grind (arith, nat_tests, e)) is)
     by_test false e = grind (arith, nat_tests, e)
+
+pub honest_is : (nodes : List Node) (goal budget : ℕ) (r : Result Answer SolveError) → WellTyped nodes → NoTwoEqual nodes → goal < length nodes → ((n : ℕ) → HasBitsUpTo nodes goal n → 2 ^ n ≤ budget → r ≢ Err Budget)
+    → IfErr (solution_of r) (IsHonestFor budget nodes goal)
+honest_is nodes goal budget (Ok (Found m)) w shared there enough = tt
+honest_is nodes goal budget (Ok (Refuted log)) w shared there enough = tt
+honest_is nodes goal budget (Err Budget) w shared there enough = budget_below nodes goal budget (Err Budget) w shared there refl enough
+honest_is nodes goal budget (Err NoMemory) w shared there enough = tt

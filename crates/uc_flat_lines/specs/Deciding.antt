@@ -1,20 +1,25 @@
 -- What is decided of a goal, and of a formula after so many steps.
-use Rattle.std.specs.Prelude.{◌≡◌, ℕ, ◌+◌, ◌<◌, ◌≤◌, ◌^◌, true, List, Option, None, Some}
+use Rattle.std.specs.Prelude.{◌≡◌, ℕ, ◌+◌, ◌<◌, ◌≤◌, ◌^◌, true, List, Option, None, Some, Result, Ok, Err}
 use Rattle.uc_values.specs.declared.ty.Ty.{Ty}
 use Rattle.uc_ops.specs.declared.model.Model.{Model}
 use Rattle.uc_ops.specs.declared.node.Node.{Node}
+use Rattle.uc_ops.specs.Typing.{AllValid}
 use Rattle.uc_flat.specs.declared.flat.Flat.{Flat}
 use Rattle.uc_flat.specs.declared.flat.Formula.{Formula}
 use Rattle.uc_symstep.specs.Stands.{holds}
 use Rattle.uc_symstep.specs.Known.{IsKnown, ReadsOwnTypes}
 use Rattle.uc_lower.specs.Bits.{type_bits}
+use Rattle.uc_solver.specs.declared.answer.Answer.{Answer}
+use Rattle.uc_solver.specs.declared.answer.Answer.TheVariants.{Model as Found, Refuted}
+use Rattle.uc_solver.specs.declared.answer.SolveError.{SolveError}
+use Rattle.uc_solver.specs.declared.answer.SolveError.TheVariants.{NoMemory, Budget as SpentBudget}
 use Rattle.uc_flat_traces.specs.declared.trace.FlatTrace.{FlatTrace}
-use Rattle.uc_flat_traces.specs.Traces.{RefutesFlat}
+use Rattle.uc_flat_traces.specs.Traces.{constant_types, RefutesFlat}
 use Rattle.uc_flat_lines.specs.Lines.{free_bits}
 use Rattle.uc_flat_lines.specs.declared.line.FlatVerdict.{FlatVerdict}
-use Rattle.uc_flat_lines.specs.declared.line.FlatVerdict.TheVariants.{Undef}
+use Rattle.uc_flat_lines.specs.declared.line.FlatVerdict.TheVariants.{Passed, Failed, Undef}
 use Rattle.uc_flat_lines.specs.declared.line.FlatWhy.{FlatWhy}
-use Rattle.uc_flat_lines.specs.declared.line.FlatWhy.TheVariants.{Memory, Budget}
+use Rattle.uc_flat_lines.specs.declared.line.FlatWhy.TheVariants.{Memory, Budget, Untold}
 
 -- a model makes the goal true, or none does
 abbrev pub IsSolution : List Node → ℕ → Option Model → Type 0
@@ -29,18 +34,33 @@ IsOutcome f x n (Some t) = RefutesFlat f x n t
 -- the entries that were spent: at least the budget where there is no answer by it
 abbrev pub IsSpentFor : ℕ → ℕ → ℕ → FlatWhy → Type 0
 IsSpentFor budget before after Budget = before + budget ≤ after
-IsSpentFor budget before after Memory = before ≤ after
+IsSpentFor budget before after other = before ≤ after
 
 abbrev pub IsSpentOn : ℕ → ℕ → ℕ → FlatVerdict → Type 0
 IsSpentOn budget before after (Undef why) = IsSpentFor budget before after why
 IsSpentOn budget before after other = before ≤ after
 
--- A goal is undecided by its budget only where the budget is below 2 to the bits of each supply of types that knows it.
+-- A goal is undecided by its budget only where the budget is below 2 to the bits of each supply of types that knows it. No trace is told of it.
 abbrev pub IsHonestFor : ℕ → List Node → ℕ → FlatWhy → Type 0
 IsHonestFor budget nodes goal Budget = (supply : List Ty) → IsKnown supply nodes goal → budget < 2 ^ type_bits supply
+IsHonestFor budget nodes goal Untold = ⊥
 IsHonestFor budget nodes goal Memory = Unit {0}
 
--- so is a formula after n steps, with the free bits of its line
+-- So is a formula after n steps, with the free bits of its line. A model of its goal tells a trace where each constant is read at its own type and these types are valid.
 abbrev pub IsHonestAfter : Flat → ℕ → ℕ → FlatWhy → Type 0
 IsHonestAfter f budget n Budget = ReadsOwnTypes f → budget < 2 ^ free_bits f n
+IsHonestAfter f budget n Untold = ReadsOwnTypes f → AllValid (constant_types f) → ⊥
 IsHonestAfter f budget n Memory = Unit {0}
+
+-- what an answer of the solver says of a goal: there is a model, there is none, or the same cause why neither is known
+abbrev pub solution_of : Result Answer SolveError → Result (Option Model) FlatWhy
+solution_of (Ok (Found m)) = Ok (Some m)
+solution_of (Ok (Refuted log)) = Ok None
+solution_of (Err SpentBudget) = Err Budget
+solution_of (Err NoMemory) = Err Memory
+
+-- the verdict where a trace refutes the formula, where none does, and the same cause where neither is known
+abbrev pub verdict_of : Result (Option FlatTrace) FlatWhy → FlatVerdict
+verdict_of (Ok (Some t)) = Failed t
+verdict_of (Ok None) = Passed
+verdict_of (Err why) = Undef why

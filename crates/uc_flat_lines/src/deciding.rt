@@ -6,7 +6,7 @@ ghost use Rattle.uc_flat.specs.Flats.{IsSound};
 ghost use Rattle.uc_symstep.specs.Growing.{Grows};
 ghost use Rattle.uc_flat_lines.specs.Lines.{IsFlatVerdict, IsHonestVerdict};
 ghost use Rattle.uc_obligations.specs.Unrolling.{IsUnrolled};
-ghost use Rattle.uc_flat_lines.specs.Deciding.{IsOutcome, IsSpentFor, IsSpentOn, IsHonestAfter};
+ghost use Rattle.uc_flat_lines.specs.Deciding.{IsOutcome, IsSpentFor, IsSpentOn, IsHonestAfter, verdict_of};
 
 use crate::line::{FlatVerdict, FlatWhy};
 use crate::solving::solution;
@@ -38,9 +38,18 @@ pub(crate) fn verdict_on<M: Meter>(
     ensures spent { IsSpentOn budget (M.total meter.old) (M.total meter.new) result }
     ensures honest { IsHonestVerdict f.now budget steps result }
     ensures few { M.total meter.new ≤ M.total meter.old + 2 ^ 32 }
+    ensures within { M.total meter.new ≤ M.total meter.old + budget }
     ensures grown { Grows terms.old terms.new }
 {
-    match refutation(alloc, terms, f, run, steps, k, budget, meter) {
+    let outcome = refutation(alloc, terms, f, run, steps, k, budget, meter);
+    verdict_of(outcome)
+}
+
+/// The verdict where a trace refutes the formula, where none does, and where neither is known.
+fn verdict_of(outcome: Result<Option<FlatTrace>, FlatWhy>) -> FlatVerdict
+    ensures { result ≡ verdict_of outcome }
+{
+    match outcome {
         Ok(Some(trace)) => FlatVerdict::Failed(trace),
         Ok(None) => FlatVerdict::Passed,
         Err(why) => FlatVerdict::Undef(why),
@@ -69,13 +78,16 @@ fn refutation<M: Meter>(
     ensures honest { IfErr result (IsHonestAfter f.now budget steps) }
     ensures later { M.total meter.old ≤ M.total meter.new }
     ensures few { M.total meter.new ≤ M.total meter.old + 2 ^ 32 }
+    ensures within { M.total meter.new ≤ M.total meter.old + budget }
     ensures grown { Grows terms.old terms.new }
 {
     let goal = goal(terms, alloc, f, run, steps, k)?;
     match solution(alloc, terms, goal, budget, meter)? {
         None => Ok(None),
         Some(model) => {
-            let trace = build(alloc, terms, f, run, steps, goal, model)?;
+            let Some(trace) = build(alloc, terms, f, run, steps, goal, model)? else {
+                return Err(FlatWhy::Untold);
+            };
             Ok(Some(trace))
         }
     }

@@ -16,10 +16,11 @@ use uc_log::Meter;
 use uc_obligations::{Unrolling, advance, begin};
 use uc_terms::Terms;
 
-/// A line for each formula of one copy after 0, 1 and so on up to `depth` steps. Where the design reads each constant at its own type, a
-/// line is undecided by its budget only where the budget is below 2 to its free bits. A line is undecided for want of memory also where its
-/// goal has integers, arrays or functions, where one number is read as constants of two types, or where a constant is read at
-/// another type than its own. There is an error for want of memory, and where there are 2^32 constants, formulas or symbols.
+/// A line for each formula of one copy after 0, 1 and so on up to `depth` steps, each within its budget. Where the design reads each
+/// constant at its own type, a line is undecided by its budget only where the budget is below 2 to its free bits, and where the types
+/// of the constants are valid too, none is for a model that tells no trace. A line is undecided for want of memory also where its goal
+/// has integers, arrays or functions, or where one number is read as constants of two types. There is an error for want of memory, and
+/// where there are 2^32 constants, formulas or symbols.
 pub fn judge_flat<M: Meter>(
     alloc: Global,
     f: &Flat,

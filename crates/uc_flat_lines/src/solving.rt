@@ -6,7 +6,7 @@ ghost use Rattle.uc_ops.specs.Typing.{type_at};
 ghost use Rattle.uc_terms.specs.Subterms.{EvenlyTyped};
 ghost use Rattle.uc_lower.specs.Lowering.{IsFiniteTerm};
 ghost use Rattle.uc_symstep.specs.Growing.{Grows};
-ghost use Rattle.uc_flat_lines.specs.Deciding.{IsSolution, IsSpentFor, IsHonestFor};
+ghost use Rattle.uc_flat_lines.specs.Deciding.{IsSolution, IsSpentFor, IsHonestFor, solution_of};
 
 use crate::line::FlatWhy;
 use std::alloc::Global;
@@ -33,6 +33,7 @@ pub(crate) fn solution<M: Meter>(
     ensures honest { IfErr result (IsHonestFor budget terms.old goal) }
     ensures later { M.total meter.old ≤ M.total meter.new }
     ensures few { M.total meter.new ≤ M.total meter.old + 2 ^ 32 }
+    ensures within { M.total meter.new ≤ M.total meter.old + budget }
     ensures grown { Grows terms.old terms.new }
 {
     if !is_evenly_typed(alloc, terms, goal)? {
@@ -64,15 +65,22 @@ fn asked<M: Meter>(
     ensures honest { IfErr result (IsHonestFor budget terms.old goal) }
     ensures later { M.total meter.old ≤ M.total meter.new }
     ensures few { M.total meter.new ≤ M.total meter.old + 2 ^ 32 }
+    ensures within { M.total meter.new ≤ M.total meter.old + budget }
     ensures grown { Grows terms.old terms.new }
 {
     let _shared = terms.len();
-    match solve(alloc, terms, goal, budget, meter) {
+    let answer = solve(alloc, terms, goal, budget, meter);
+    let _still_shared = terms.len();
+    solution_of(answer)
+}
+
+/// What an answer of the solver says of the goal.
+fn solution_of(answer: Result<Answer, SolveError>) -> Result<Option<Model>, FlatWhy>
+    ensures { result ≡ solution_of answer }
+{
+    match answer {
         Ok(Answer::Model(model)) => Ok(Some(model)),
-        Ok(Answer::Refuted(_)) => {
-            let _still_shared = terms.len();
-            Ok(None)
-        }
+        Ok(Answer::Refuted(_)) => Ok(None),
         Err(SolveError::Budget) => Err(FlatWhy::Budget),
         Err(SolveError::NoMemory) => Err(FlatWhy::Memory),
     }

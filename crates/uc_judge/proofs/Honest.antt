@@ -15,7 +15,7 @@ use Rattle.uc_flat_design.specs.Design.{next_names, next_arranged, invariant_in,
 use Rattle.uc_flat_lines.specs.declared.line.FlatLine.{FlatLine}
 use Rattle.uc_flat_lines.specs.declared.line.FlatVerdict.{FlatVerdict}
 use Rattle.uc_flat_lines.specs.declared.line.FlatVerdict.TheVariants.{Passed, Failed, Undef}
-use Rattle.uc_flat_lines.specs.declared.line.FlatWhy.TheVariants.{Budget, Memory}
+use Rattle.uc_flat_lines.specs.declared.line.FlatWhy.TheVariants.{Budget, Memory, Untold}
 use Rattle.uc_flat_lines.specs.Lines.{lines_below, free_bits, IsHonestVerdict, IsHonestLine as IsHonestFlat, AreFlatJudged}
 use Rattle.uc_flat_sound.proofs.Sound.{own_types_hold}
 use Rattle.uc_symstep.specs.Known.{ReadsOwnTypes}
@@ -46,6 +46,7 @@ honest_as f budget n Passed r h = tt
 honest_as f budget n (Failed t) r h = tt
 honest_as f budget n (Undef Budget) r h = (refl, h r)
 honest_as f budget n (Undef Memory) r h = tt
+honest_as f budget n (Undef Untold) r h = tt
 
 each_honest : (f : Flat) (budget : ℕ) (ls : List FlatLine) → ReadsOwnTypes f → All (IsHonestFlat f budget) ls → All (IsHonestLine f budget) (map (line_as f budget) ls)
 each_honest f budget [] r h = All-nil (IsHonestLine f budget)

@@ -2,7 +2,7 @@
 use Rattle.std.proofs.Common.{◌≡◌, ℕ, suc, ◌+◌, ◌*◌, ◌≤◌, List, [], ◌∷◌, ◌++◌, map, length, refl, sym, ap, subst, ◌∙◌, arith}
 use Rattle.std.specs.List.{All, list_all, list_any}
 use Rattle.std.specs.Prelude.{if◌then◌else◌, Bool, true, false, count_by}
-use Rattle.std.proofs.lemmas.List.{append-nil}
+use Rattle.std.proofs.lemmas.List.{append-nil, length-map}
 use Rattle.std.proofs.lemmas.List.Elements.{All-nil, All-cons}
 use Rattle.uc_values.proofs.Shapes.{and_true}
 use Rattle.uc_syntax.specs.declared.declaration.Command.{Command}
@@ -111,3 +111,8 @@ pub spent_report : (f : Flat) (budget before after : ℕ) (lines : List (ℕ × 
     → AreFlatJudged f budget before after lines js → before + budget * out_of_budget ls ≤ after
 spent_report f budget before after lines js ls is judged =
     subst (λ k. before + budget * k ≤ after) (sym (ap out_of_budget is ∙ out_are f budget js)) judged.spent
+
+-- no line spent more than its budget
+pub within_report : (f : Flat) (budget before after : ℕ) (lines : List (ℕ × ℕ)) (js : List FlatLine) (ls : List LineResult) → ls ≡ map (line_as f budget) js
+    → AreFlatJudged f budget before after lines js → after ≤ before + budget * length ls
+within_report f budget before after lines js ls is judged = subst (λ k. after ≤ before + budget * k) (sym (ap length is ∙ length-map js (line_as f budget))) judged.within

@@ -1,6 +1,6 @@
 //! The commands of a control block.
 
-ghost use Rattle.std.specs.Prelude.{◌+◌, ◌*◌, ◌≤◌, ◌<◌, ◌^◌, IfOk};
+ghost use Rattle.std.specs.Prelude.{◌+◌, ◌*◌, ◌≤◌, ◌<◌, ◌^◌, length, IfOk};
 ghost use Rattle.uc_control.specs.Verdicts.{out_of_budget};
 ghost use Rattle.uc_judge.specs.Reports.{IsReport};
 
@@ -25,6 +25,7 @@ pub fn run_control<M: Meter>(
     requires total { M.total meter.old < 2 ^ 126 }
     ensures report { IfOk result (IsReport d.now budget) }
     ensures spent { IfOk result (λ r. M.total meter.old + budget * out_of_budget r.lines ≤ M.total meter.new) }
+    ensures within { IfOk result (λ r. M.total meter.new ≤ M.total meter.old + budget * length r.lines) }
     ensures later { M.total meter.old ≤ M.total meter.new }
 {
     match planned(d) {

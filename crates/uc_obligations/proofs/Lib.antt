@@ -4,3 +4,4 @@ pub mod Unrollings
 pub mod Read
 pub mod Knowing
 pub mod Goaled
+pub mod Told

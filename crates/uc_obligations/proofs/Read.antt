@@ -1,19 +1,20 @@
 -- What is read of states under a model.
-use Rattle.std.proofs.Common.{◌≡◌, ℕ, ◌+◌, ◌<◌, ◌≤◌, List, [], ◌∷◌, ◌++◌, length, map, take, Some, None, refl, sym, ap, ◌∙◌, subst, arith, get_or, slice_get, zero, suc, append_assoc, append-nil, inl, inr}
+use Rattle.std.proofs.Common.{◌≡◌, ℕ, ◌+◌, ◌<◌, ◌≤◌, List, [], ◌∷◌, ◌++◌, length, map, take, drop, Option, Some, None, refl, sym, ap, ◌∙◌, subst, arith, get_or, slice_get, zero, suc, inl, inr}
 use Rattle.std.specs.Prelude.{All, IsTrue, Bool as Truth, true, false}
 use Rattle.std.specs.Option.{option_map}
 use Rattle.std.specs.List.{flat_map}
 use Rattle.std.proofs.lemmas.List.{take_more, take_all, length-map, map-append}
-use Rattle.std.proofs.lemmas.Option.{slice_get-map}
+use Rattle.std.proofs.lemmas.Option.{slice_get-map, get_or_from_slice_get}
 use Rattle.std.proofs.lemmas.Bool.Decides.{leb_tells}
-use Rattle.std.proofs.lemmas.List.Elements.{All-head, All-tail, All-push}
+use Rattle.std.proofs.lemmas.List.Elements.{All-nil, All-cons, All-head, All-tail, All-push}
 use Rattle.uc_values.specs.declared.ty.Ty.{Ty}
 use Rattle.uc_values.specs.declared.value.Value.{Value}
 use Rattle.uc_values.specs.declared.value.Value.TheVariants.{Bool as TruthOf}
 use Rattle.uc_values.specs.Values.{fits, truth_of, nothing}
 use Rattle.uc_ops.specs.declared.model.Model.{Model}
 use Rattle.uc_ops.specs.declared.node.Node.{Node}
-use Rattle.uc_ops.specs.Meaning.{part}
+use Rattle.uc_ops.specs.Meaning.{part, fitting}
+use Rattle.uc_ops.specs.Typing.{Valid, AllValid}
 use Rattle.uc_ops.proofs.Lists.{same_map}
 use Rattle.uc_terms.specs.Values.{value, values_at}
 use Rattle.uc_flat.specs.declared.flat.Flat.{Flat}
@@ -29,7 +30,7 @@ use Rattle.uc_symstep.proofs.States.{flat_map_push}
 use Rattle.uc_flat_traces.specs.declared.trace.FlatPosition.{FlatPosition}
 use Rattle.uc_flat_traces.specs.Traces.{constant_types}
 use Rattle.uc_flat_traces.specs.Laws.{ArePositions}
-use Rattle.uc_obligations.specs.Reading.{choice_read, hit_read, position_read, BeginsWith, AreNumbers, AreValues, IsTraceOf}
+use Rattle.uc_obligations.specs.Reading.{choice_read, hit_read, position_read, IsFitting, AreRead, beginning_with, AreNumbers, AreValues, IsTraceOf}
 
 pub part_some : (values : List Value) (k : ℕ) (v : Value) → slice_get values k ≡ Some v → part values k ≡ v
 part_some [] k v h = cc
@@ -50,7 +51,7 @@ truth_none other n = refl
 pub numbers_none : (ts : List ℕ) → ts ≡ [] → AreNumbers 0 ts
 numbers_none ts i = subst (AreNumbers 0) (sym i) (record { count = refl; each = λ k l. absurd (omega (arith, l)); below = λ k d l. absurd (omega (arith, l)) })
 
-get_front : {A : Type 0} (xs ys : List A) (k : ℕ) → k < length xs → slice_get (xs ++ ys) k ≡ slice_get xs k
+pub get_front : {A : Type 0} (xs ys : List A) (k : ℕ) → k < length xs → slice_get (xs ++ ys) k ≡ slice_get xs k
 get_front [] ys k h = absurd (omega (arith, h))
 get_front (x ∷ xs) ys zero h = refl
 get_front (x ∷ xs) ys (suc k) h = get_front xs ys k (omega (arith, h))
@@ -107,11 +108,7 @@ fit_end (t ∷ types) (w ∷ values) ty v h f = (h.0, fit_end types values ty v 
 abbrev pub types_to : List Constant → ℕ → List Ty
 types_to constants k = map (λ (c : Constant). c.ty) (take k constants)
 
-pub fit_none : (constants : List Constant) (values : List Value) → values ≡ [] → FitAll (types_to constants 0) values
-unfolding FitAll
-fit_none constants values i = subst (FitAll []) (sym i) tt
-
-pub fit_more : (constants : List Constant) (k : ℕ) (c : Constant) (values more : List Value) (v : Value) → FitAll (types_to constants k) values → k < length constants → c ≡ get_or constants k c → IsTrue (fits (get_or constants k c).ty v)
+fit_more : (constants : List Constant) (k : ℕ) (c : Constant) (values more : List Value) (v : Value) → FitAll (types_to constants k) values → k < length constants → c ≡ get_or constants k c → IsTrue (fits (get_or constants k c).ty v)
     → more ≡ values ++ v ∷ [] → FitAll (types_to constants (k + 1)) more
 fit_more constants k c values more v h l i f j =
     let own : IsTrue (fits c.ty v) = subst (λ (x : Constant). IsTrue (fits x.ty v)) (sym i) f in
@@ -119,22 +116,49 @@ fit_more constants k c values more v h l i f j =
     let types : types_to constants (k + 1) ≡ types_to constants k ++ c.ty ∷ [] = ap (map (λ (x : Constant). x.ty)) front ∙ map-append (λ (x : Constant). x.ty) (take k constants) (c ∷ []) in
     subst (FitAll (types_to constants (k + 1))) (sym j) (subst (λ ts. FitAll ts (values ++ v ∷ [])) (sym types) (fit_end (types_to constants k) values c.ty v h own))
 
-pub fit_end_all : (f : Flat) (constants : List Constant) (k : ℕ) (values : List Value) → constants ≡ f.constants → length constants ≤ k → FitAll (types_to constants k) values → FitAll (constant_types f) values
-fit_end_all f constants k values i l h = subst (λ ts. FitAll ts values) (ap (map (λ (c : Constant). c.ty)) (take_all k constants l ∙ i)) h
+-- the values of the first k constants
+pub record AreReadTo (constants : List Constant) (symbols : List Value) (k : ℕ) (values : List Value) : Type 0 where
+  pub fit : FitAll (types_to constants k) values
+  pub count : length values ≡ k
+  pub each : (n : ℕ) (c : Constant) → slice_get constants n ≡ Some c → n < k → slice_get values n ≡ Some (fitting c.ty (slice_get symbols n))
 
--- a model that begins with the values
-pub record Begun (values symbols : List Value) : Type 0 where
-  pub others : List Value
-  pub is : symbols ≡ values ++ others
+pub read_none : (constants : List Constant) (symbols values : List Value) → values ≡ [] → AreReadTo constants symbols 0 values
+unfolding FitAll
+read_none constants symbols values i = subst (AreReadTo constants symbols 0) (sym i) (record { fit = tt; count = refl; each = λ n c at l. absurd (omega (arith, l)) })
 
-pub begun_none : (values copies : List Value) → copies ≡ values → Begun values copies
-begun_none values copies i = record { others = []; is = i ∙ sym (append-nil values) }
+pub read_more : (constants : List Constant) (symbols own : List Value) (k : ℕ) (c : Constant) (values more : List Value) (given : Option Value) (v : Value) → AreReadTo constants symbols k values → k < length constants
+    → c ≡ get_or constants k c → own ≡ symbols → given ≡ slice_get own k → IsFitting (get_or constants k c).ty given (Some v) → more ≡ values ++ v ∷ [] → AreReadTo constants symbols (k + 1) more
+read_more constants symbols own k c values more given v h l i e g f j = record {
+  fit = fit_more constants k c values more v h.fit l i f.0 j;
+  count = ap length j ∙ length_end values v ∙ ap (λ n. n + 1) h.count;
+  each = λ n d at b. elim (leb_tells k n) [
+    | inl x ↦
+        let here : k ≡ n = omega (arith, b, x.1) in
+        let last : n ≡ length values = omega (arith, b, x.1, h.count) in
+        let same : get_or constants k c ≡ d = get_or_from_slice_get constants k d c (ap (slice_get constants) here ∙ at) in
+        ap (λ vs. slice_get vs n) j ∙ ap (slice_get (values ++ v ∷ [])) last ∙ get_end values v
+        ∙ ap Some (f.1 ∙ ap (λ (y : Constant). fitting y.ty given) same ∙ ap (fitting d.ty) (g ∙ ap (λ vs. slice_get vs k) e ∙ ap (slice_get symbols) here))
+    | inr x ↦ ap (λ vs. slice_get vs n) j ∙ get_front values (v ∷ []) n (omega (arith, x.1, h.count)) ∙ h.each n d at x.1
+  ];
+}
 
-pub begins_with : (values own symbols : List Value) (m : Model) → Begun own symbols → own ≡ values → m.symbols ≡ symbols → BeginsWith values m
-begins_with values own symbols m b i j = record { others = b.others; symbols = j ∙ b.is ∙ ap (λ vs. vs ++ b.others) i }
+pub read_all : (f : Flat) (m : Model) (constants : List Constant) (k : ℕ) (values : List Value) → constants ≡ f.constants → k ≤ length constants → length constants ≤ k → AreReadTo constants m.symbols k values → AreRead f m values
+read_all f m constants k values i low high h = record {
+  fit = subst (λ ts. FitAll ts values) (ap (map (λ (c : Constant). c.ty)) (take_all k constants high ∙ i)) h.fit;
+  count = omega (arith, h.count, low, high, ap length i);
+  each = λ n c at.
+      let own : slice_get constants n ≡ Some c = ap (λ cs. slice_get cs n) i ∙ at in
+      h.each n c own (omega (arith, high, get_in constants n c own));
+}
 
-pub begun_more : (values now new : List Value) (v : Value) → Begun values now → new ≡ now ++ v ∷ [] → Begun values new
-begun_more values now new v b i = record { others = b.others ++ v ∷ []; is = i ∙ ap (λ vs. vs ++ v ∷ []) b.is ∙ append_assoc values b.others (v ∷ []) }
+from_map : {A B : Type 0} (P : B → Type 0) (g : A → B) (xs : List A) → All P (map g xs) → All (λ x. P (g x)) xs
+from_map P g [] h = All-nil (λ x. P (g x))
+from_map P g (x ∷ xs) h = All-cons (λ x. P (g x)) x xs (All-head P (g x) (map g xs) h) (from_map P g xs (All-tail P (g x) (map g xs) h))
+
+-- a constant for which no value is read
+pub unread : (f : Flat) (constants : List Constant) (k : ℕ) (c : Constant) → constants ≡ f.constants → k < length constants → (Valid (get_or constants k c).ty → ⊥) → AllValid (constant_types f) → ⊥
+unread f constants k c i l never valid =
+    never (from_map Valid (λ (x : Constant). x.ty) constants (subst (λ cs. AllValid (map (λ (x : Constant). x.ty) cs)) (sym i) valid) k c l)
 
 -- lists of what is read
 pub listed_more : {A B : Type 0} (g : A → List B) (xs : List A) (k : ℕ) (x : A) (ys zs more : List B) → ys ≡ flat_map g (take k xs) → k < length xs → x ≡ get_or xs k x → more ≡ g x → zs ≡ ys ++ more → zs ≡ flat_map g (take (k + 1) xs)
@@ -184,16 +208,20 @@ pub position_is : (values : List Value) (s : SymState) (cells choices : List Val
     → record { cells = cells; choices = choices; sites = sites } ≡ position_read values s
 position_is values s cells choices sites a b c = λ i. record { cells = a i; choices = b i; sites = c i }
 
-pub trace_is : (f : Flat) (nodes : List Node) (goal n : ℕ) (states : List SymState) (constants own vs all : List Value) (ts others : List ℕ) (m : Model) (positions : List FlatPosition)
-    → FitAll (constant_types f) constants → own ≡ constants → BeginsWith own m → n ≡ length nodes → AreNumbers n ts → others ≡ ts → vs ≡ values_at m nodes others → all ≡ vs
+pub trace_is : (f : Flat) (nodes : List Node) (goal n : ℕ) (states : List SymState) (constants own vs all : List Value) (ts others : List ℕ) (m b : Model) (positions : List FlatPosition)
+    → AreRead f m constants → own ≡ constants → b ≡ beginning_with own m → n ≡ length nodes → AreNumbers n ts → others ≡ ts → vs ≡ values_at b nodes others → all ≡ vs
     → goal < length nodes → truth_of (part all goal) ≡ true → positions ≡ map (position_read all) states
     → IsTraceOf f nodes goal states (record { constants = constants; positions = positions })
-trace_is f nodes goal n states constants own vs all ts others m positions fit i b j a e v g l t p =
-    let are : AreValues m nodes all = subst (AreValues m nodes) (sym g) (values_are m nodes n ts others vs j a e v) in
+trace_is f nodes goal n states constants own vs all ts others m b positions r i is j a e v g l t p =
+    let are : AreValues b nodes all = subst (AreValues b nodes) (sym g) (values_are b nodes n ts others vs j a e v) in
     record {
-      model = m;
+      model = b;
       values = all;
-      constants = record { fit = fit; others = b.others; symbols = b.symbols ∙ ap (λ ws. ws ++ b.others) i };
+      constants = record {
+        fit = r.fit;
+        others = drop (length own) m.symbols;
+        symbols = ap (λ (x : Model). x.symbols) is ∙ ap (λ ws. ws ++ drop (length own) m.symbols) i;
+      };
       are = are;
       goal_true = ap truth_of (sym (are goal l)) ∙ t;
       positions = p;

@@ -6,9 +6,8 @@ ghost use Rattle.uc_flat.specs.Flats.{IsSound};
 ghost use Rattle.uc_symstep.specs.Growing.{Grows};
 ghost use Rattle.uc_symstep.specs.Stands.{IsTruth};
 ghost use Rattle.uc_symstep.specs.Known.{IsKnown, ReadsOwnTypes, supply_after};
-ghost use Rattle.uc_flat_traces.specs.Traces.{RefutesFlat};
 ghost use Rattle.uc_obligations.specs.Unrolling.{IsUnrolled};
-ghost use Rattle.uc_obligations.specs.Goals.{IsGoal, IsObligation};
+ghost use Rattle.uc_obligations.specs.Goals.{IsGoal, IsObligation, IsTold};
 
 use crate::axioms::refuted_term;
 use crate::reading::trace_of;
@@ -43,9 +42,9 @@ pub fn goal(
     Ok(t)
 }
 
-/// The trace that a model of a goal after so many steps tells. Want of memory is answered too where no value fits the type of a
-/// constant, and where the goal is not true once each constant has a value that fits its type; an operation on whole numbers that
-/// leaves 128 bits is answered as it is.
+/// The trace that a model of a goal after so many steps tells. There is none where no value fits the type of a constant, and where the goal
+/// is not true once each constant has a value that fits its type: neither is so for a model of the goal of a design with types for its
+/// constants that reads each at its own. An operation on whole numbers that leaves 128 bits is answered as it is.
 pub fn build(
     alloc: Global,
     terms: &Terms,
@@ -54,13 +53,13 @@ pub fn build(
     steps: u32,
     goal: TermId,
     model: Model,
-) -> Result<FlatTrace, LinearError>
+) -> Result<Option<FlatTrace>, LinearError>
     requires sound { IsSound f.now }
     requires unrolled { IsUnrolled f.now terms.now steps run.now }
     requires there { goal < length terms.now }
-    ensures { IfOk result (λ t. (x : AFormula) → IsGoal f.now x steps terms.now goal → RefutesFlat f.now x steps t) }
+    ensures { IfOk result (IsTold f.now steps terms.now goal model) }
 {
     let states = run.states.as_slice();
-    let trace = trace_of(alloc, terms, f, goal, states, model)?;
-    Ok(trace)
+    let told = trace_of(alloc, terms, f, goal, states, model)?;
+    Ok(told)
 }

@@ -1,13 +1,12 @@
 //! The trace that a model tells.
 
-ghost use Rattle.std.specs.Prelude.{◌≡◌, ◌<◌, ◌++◌, List, map, length, slice_get, IfOk, IsTrue, All};
+ghost use Rattle.std.specs.Prelude.{◌≡◌, ◌<◌, ◌++◌, List, drop, map, length, slice_get, IfOk, IsTrue, All};
 ghost use Rattle.std.specs.List.{flat_map};
+ghost use Rattle.std.specs.Option.{option_copied};
 ghost use Rattle.uc_values.specs.declared.value.Value.{Value as AValue};
-ghost use Rattle.uc_values.specs.Values.{fits, truth_of};
-ghost use Rattle.uc_ops.specs.Meaning.{part};
-ghost use Rattle.uc_flat.specs.Executions.{FitAll};
-ghost use Rattle.uc_flat_traces.specs.Traces.{constant_types};
-ghost use Rattle.uc_obligations.specs.Reading.{position_read, choice_read, hit_read, BeginsWith, AreNumbers, IsTraceOf};
+ghost use Rattle.uc_values.specs.Values.{truth_of};
+ghost use Rattle.uc_ops.specs.Meaning.{part, fitting};
+ghost use Rattle.uc_obligations.specs.Reading.{position_read, choice_read, hit_read, beginning_with, AreNumbers, IsFitting, AreConstantsOf, IsToldBy};
 
 use std::alloc::{AllocError, Global};
 use uc_flat::Flat;
@@ -18,8 +17,8 @@ use uc_symstep::{Choice, Hit, SymState};
 use uc_terms::{Model, TermId, Terms, eval_all};
 use uc_values::{Ty, Value, copy, copy_all, fits, zero};
 
-/// The trace of the states under a model, where its constants fit their types. Memory also counts as used up where the goal is not
-/// true under the model then, which is so at most where a constant is read at another type than its own.
+/// The trace of the states under a model, whose constants get values that fit their types. There is none where no value fits, and where the
+/// goal is not true with these constants.
 pub(crate) fn trace_of(
     alloc: Global,
     terms: &Terms,
@@ -27,71 +26,98 @@ pub(crate) fn trace_of(
     goal: TermId,
     states: &[SymState],
     model: Model,
-) -> Result<FlatTrace, LinearError>
+) -> Result<Option<FlatTrace>, LinearError>
     requires { goal < length terms.now }
-    ensures { IfOk result (λ t. IsTraceOf f.now terms.now goal states.now t) }
+    ensures { IfOk result (IsToldBy f.now terms.now goal states.now model) }
 {
-    let constants = constants_of(alloc, f, &model)?;
+    let Some(constants) = constants_of(alloc, f, &model)? else {
+        return Ok(None);
+    };
     let model = beginning_with(alloc, constants.as_slice(), model)?;
     let all = all_terms(alloc, terms.len())?;
     let values = eval_all(alloc, terms, all.as_slice(), &model)?;
     let all_values = values.as_slice();
     if !is_true(all_values, goal) {
-        return Err(LinearError::NoMemory);
+        return Ok(None);
     }
     let positions = positions(alloc, all_values, states)?;
-    Ok(FlatTrace {
+    Ok(Some(FlatTrace {
         constants,
         positions,
-    })
+    }))
 }
 
-/// A value that fits its type for each constant: that of the model, where it fits.
-fn constants_of(alloc: Global, f: &Flat, model: &Model) -> Result<Items<Value>, LinearError>
-    ensures { IfOk result (FitAll (constant_types f.now)) }
+/// A value that fits its type for each constant: that of the model, where it fits. There are none where none fits.
+fn constants_of(
+    alloc: Global,
+    f: &Flat,
+    model: &Model,
+) -> Result<Option<Items<Value>>, AllocError>
+    ensures { IfOk result (AreConstantsOf f.now model.now) }
 {
     let mut values = Items::new(alloc);
     let constants = f.constants.as_slice();
     for place in 0..constants.len() {
         let given = at(model.symbols.as_slice(), place);
-        let value = fitting(alloc, &constants[place].ty, given)?;
+        let Some(value) = fitting(alloc, &constants[place].ty, given)? else {
+            return Ok(None);
+        };
         values.push(value)?;
     }
-    Ok(values)
+    Ok(Some(values))
 }
 
-/// The value where it fits the type, else the one that counts as 0. Memory also counts as used up where no value fits.
-fn fitting(alloc: Global, ty: &Ty, value: Option<&Value>) -> Result<Value, LinearError>
-    ensures { IfOk result (λ v. IsTrue (fits ty.now v)) }
+/// The value where it fits the type, else the one that counts as 0. There is none where that does not fit.
+fn fitting(alloc: Global, ty: &Ty, given: Option<&Value>) -> Result<Option<Value>, AllocError>
+    ensures { IfOk result (IsFitting ty.now (option_copied given.entry)) }
 {
-    if let Some(value) = value {
-        if fits(ty, value) {
-            return Ok(copy(alloc, value)?);
-        }
-    }
-    let other = zero(alloc, ty)?;
-    if fits(ty, &other) {
-        Ok(other)
+    let value = given_or_zero(alloc, ty, given)?;
+    if fits(ty, &value) {
+        Ok(Some(value))
     } else {
-        Err(LinearError::NoMemory)
+        Ok(None)
+    }
+}
+
+/// The value where it fits the type, else the one that counts as 0.
+fn given_or_zero(alloc: Global, ty: &Ty, given: Option<&Value>) -> Result<Value, AllocError>
+    ensures { IfOk result (λ v. v ≡ fitting ty.now (option_copied given.entry)) }
+{
+    match given {
+        Some(value) => {
+            if fits(ty, value) {
+                copy(alloc, value)
+            } else {
+                zero(alloc, ty)
+            }
+        }
+        None => zero(alloc, ty),
     }
 }
 
 /// The model with these values as its first symbols.
 fn beginning_with(alloc: Global, values: &[Value], model: Model) -> Result<Model, AllocError>
-    ensures { IfOk result (BeginsWith values.now) }
+    ensures { IfOk result (λ m. m ≡ beginning_with values.now model) }
 {
     let mut symbols = copy_all(alloc, values)?;
     let Model {
         symbols: given,
         tables,
     } = model;
-    let given = given.as_slice();
-    for place in values.len()..given.len() {
-        let symbol = copy(alloc, &given[place])?;
-        symbols.push(symbol)?;
-    }
+    let others = copy_all(alloc, behind(given.as_slice(), values.len()))?;
+    symbols.append(others)?;
     Ok(Model { symbols, tables })
+}
+
+/// The values behind the first ones.
+fn behind(values: &[Value], first: usize) -> &[Value]
+    ensures { result.now ≡ drop first values.now }
+{
+    if first <= values.len() {
+        &values[first..]
+    } else {
+        &[]
+    }
 }
 
 /// The numbers of so many terms.

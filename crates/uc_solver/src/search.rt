@@ -45,6 +45,7 @@ pub(crate) fn decided<M: Meter>(
     ensures enough { FitsBudget terms.now u problem budget → result ≢ Err Budget }
     ensures total { M.total meter.old ≤ M.total meter.new }
     ensures few { M.total meter.new ≤ M.total meter.old + 2 ^ 32 }
+    ensures within { M.total meter.new ≤ M.total meter.old + budget }
 {
     if is_true(&problem) {
         let model = model_of_inputs(alloc, terms, u, &[], &[])?;
@@ -99,6 +100,7 @@ fn searched<M: Meter>(
     ensures enough { FitsBudget terms.now u problem budget → result ≢ Err Budget }
     ensures total { M.total meter.old ≤ M.total meter.new }
     ensures few { M.total meter.new ≤ M.total meter.old + 2 ^ 32 }
+    ensures within { M.total meter.new ≤ M.total meter.old + budget }
 {
     let mut learner = Learner::new(alloc, &problem)?;
     let mut log = Log::new(alloc)?;

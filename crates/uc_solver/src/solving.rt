@@ -40,6 +40,7 @@ pub fn solve<M: Meter>(
     ensures enough { (n : ℕ) → HasBitsUpTo terms.old goal n → 2 ^ n ≤ budget → result ≢ Err Budget }
     ensures total { M.total meter.old ≤ M.total meter.new }
     ensures few { M.total meter.new ≤ M.total meter.old + 2 ^ 32 }
+    ensures within { M.total meter.new ≤ M.total meter.old + budget }
     ensures grown { Grows terms.old terms.new }
     ensures kept { KeepsValues terms.old terms.new }
 {

@@ -60,10 +60,10 @@ abbrev pub session_of : Answer → Option Session
 session_of (Reported s) = Some s
 session_of other = None
 
--- the meter rose by at least the budget for each line that is undecided by it
+-- the meter rose by at least the budget for each line that is undecided by it, and by at most the budget for each line
 abbrev pub HasSpent : ℕ → ℕ → Answer → Type 0
-HasSpent before after (Reported s) = before + line_budget * out_of_budget s.report.lines ≤ after
-HasSpent before after other = before ≤ after
+HasSpent before after (Reported s) = (before + line_budget * out_of_budget s.report.lines ≤ after) × (after ≤ before + line_budget * length s.report.lines)
+HasSpent before after other = after ≡ before
 
 -- ---- bytes
 

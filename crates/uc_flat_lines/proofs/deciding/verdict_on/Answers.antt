@@ -1,6 +1,17 @@
-use Rattle.std.proofs.Common.{subst}
-use Rattle.uc_flat_lines.specs.Deciding.{IsOutcome}
+use Rattle.std.proofs.Common.{subst, sym}
+use Rattle.uc_flat_lines.specs.Lines.{IsFlatVerdict, IsHonestVerdict}
+use Rattle.uc_flat_lines.specs.Deciding.{IsSpentOn}
+use Rattle.uc_flat_lines.proofs.Outcomes.{verdict_right, verdict_spent, verdict_honest}
 use Rattle.uc_flat_lines.proofs.deciding.verdict_on.Goals as goal
 
-pub returns-in-Ok-None-clause-right : goal.returns-in-Ok-None-clause-right
-returns-in-Ok-None-clause-right g c x at = subst (IsOutcome c.args.f.now x c.args.steps) c.in-Ok-None.field-0-is (c.in-Ok-None.ensures.outcome x at)
+pub returns-clause-right : goal.returns-clause-right
+returns-clause-right g c x at = subst (IsFlatVerdict c.args.f.now x c.args.steps) (sym c.verdict_of.ensures)
+    (verdict_right c.args.f.now x c.args.steps c.args.k c.refutation-outcome.result c.refutation-outcome.ensures.outcome at)
+
+pub returns-clause-spent : goal.returns-clause-spent
+returns-clause-spent g c = subst (IsSpentOn c.args.budget (g.M.Meter.total c.args.meter.now) (g.M.Meter.total c.refutation-outcome.new.meter)) (sym c.verdict_of.ensures)
+    (verdict_spent c.args.budget _ _ c.refutation-outcome.result c.refutation-outcome.ensures.later c.refutation-outcome.ensures.cause)
+
+pub returns-clause-honest : goal.returns-clause-honest
+returns-clause-honest g c = subst (IsHonestVerdict c.args.f.now c.args.budget c.args.steps) (sym c.verdict_of.ensures)
+    (verdict_honest c.args.f.now c.args.budget c.args.steps c.refutation-outcome.result c.refutation-outcome.ensures.honest)

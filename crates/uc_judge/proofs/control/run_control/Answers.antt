@@ -1,7 +1,7 @@
 use Rattle.std.proofs.Common.{map, ap, ◌∙◌}
 use Rattle.uc_flat_sound.proofs.Sound.{sound_holds}
 use Rattle.uc_prints.specs.Prints.{print_as}
-use Rattle.uc_judge.proofs.Reported.{unrolled_report, spent_report, empty_report}
+use Rattle.uc_judge.proofs.Reported.{unrolled_report, spent_report, within_report, empty_report}
 use Rattle.uc_judge.proofs.control.run_control.Goals as goal
 
 pub judge_flat-requires-clause-sound : goal.judge_flat-requires-clause-sound
@@ -16,6 +16,10 @@ returns-in_ok-prints-in-Some-clause-report g c =
 pub returns-in_ok-prints-in-Some-clause-spent : goal.returns-in_ok-prints-in-Some-clause-spent
 returns-in_ok-prints-in-Some-clause-spent g c =
     spent_report c.flat-f.result.now c.args.budget _ _ _ c.in_ok-judged-in-Some.judged c.in_ok-lines-in-Some.lines c.in_ok-lines-in-Some.ensures c.in_ok-judged-in-Some.ensures.judged
+
+pub returns-in_ok-prints-in-Some-clause-within : goal.returns-in_ok-prints-in-Some-clause-within
+returns-in_ok-prints-in-Some-clause-within g c =
+    within_report c.flat-f.result.now c.args.budget _ _ _ c.in_ok-judged-in-Some.judged c.in_ok-lines-in-Some.lines c.in_ok-lines-in-Some.ensures c.in_ok-judged-in-Some.ensures.judged
 
 pub returns-in-None-clause-report : goal.returns-in-None-clause-report
 returns-in-None-clause-report g c = empty_report c.args.d.now c.args.budget c.in-None.ensures _ c.new.ensures c.new-in-None.ensures
