@@ -10,7 +10,6 @@ mod calling;
 mod fields;
 mod judging;
 mod left;
-mod replacement;
 mod seen;
 mod target;
 mod whole;

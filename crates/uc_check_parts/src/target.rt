@@ -12,7 +12,6 @@ ghost use Rattle.uc_check_parts.specs.Watches.{Asks};
 ghost use Rattle.uc_check_parts.specs.Asked.{check_target, one_assigned_met};
 
 use crate::fields::{fields_before, from_index, part_of_name};
-use crate::replacement::replaced;
 use crate::seen::{Seen, with_target};
 use std::alloc::Global;
 use uc_items::at;
@@ -20,6 +19,7 @@ use uc_layout::Layout;
 use uc_operators::EvalError;
 use uc_scopes::ScopeRef;
 use uc_syntax::Target;
+use uc_targets::replaced;
 use uc_values::{Value, copy, same};
 
 /// What targets ask, from the left: that each has its value. Where there are more targets than values, the last ones ask nothing.
