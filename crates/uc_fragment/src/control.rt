@@ -11,7 +11,7 @@ use uc_syntax::{Command, Decl, Identifier, VariableKind, WrittenRun};
 use uc_type_names::NameSet;
 
 /// How many steps a run may be unrolled.
-pub const MOST_STEPS: u128 = 1000;
+const MOST_STEPS: u128 = 1000;
 
 /// Adds the names of identifiers.
 #[tactic(auto, unfolding(uc_type_names::specs::NameSets::with_all))]
@@ -37,7 +37,7 @@ fn variables_by(decl: &Decl) -> &[Identifier]
 
 /// The names of a module's variables, inputs and outputs.
 #[tactic(auto, unfolding(crate::specs::Plain::with_variables))]
-pub fn variables(alloc: Global, decls: &[Decl]) -> Result<NameSet, AllocError>
+pub(crate) fn variables(alloc: Global, decls: &[Decl]) -> Result<NameSet, AllocError>
     ensures { IfOk result (λ names. names ≡ with_variables [] decls.now) }
 {
     let mut names = NameSet::new(alloc);
@@ -69,7 +69,7 @@ fn all_print(cells: &NameSet, name: Option<Identifier>, prints: &[Command]) -> b
 }
 
 /// Whether a command prints results or counterexamples of the command of a name.
-pub fn is_print(cells: &NameSet, name: Option<Identifier>, print: &Command) -> bool
+fn is_print(cells: &NameSet, name: Option<Identifier>, print: &Command) -> bool
     ensures { result ≡ is_print cells.now name print.now }
 {
     match print {

@@ -6,5 +6,4 @@ mod control;
 mod plain;
 mod types;
 
-pub use control::{MOST_STEPS, is_print, variables};
 pub use plain::is_plain;

@@ -3,7 +3,7 @@
 ghost use Rattle.std.specs.Prelude.{◌≡◌, ◌≤◌, length, IsTrue, IsErrOf, IfOk, IfErr};
 ghost use Rattle.uc_io.specs.Faults.{Rose};
 ghost use Rattle.uc_front.specs.declared.error.FrontError.TheVariants.{ReadFault};
-ghost use Rattle.uc_front.specs.Denotes.{IsAccepted};
+ghost use Rattle.uc_front.specs.Denotes.{Denotes, IsKept, RunsToday};
 ghost use Rattle.uc_front.specs.Errors.{IsFrontError};
 ghost use Rattle.uc_front.specs.Refused.{IsRefused};
 ghost use Rattle.uc_front.specs.Sources.{words_of};
@@ -25,7 +25,9 @@ pub fn read_design<X: Texts>(
     files: &[&str],
 ) -> Result<Runnable, FrontError>
     requires { length files.now ≤ MAX_FILES }
-    ensures accepted { IsTrue (X.tells texts.old) → IfOk result (IsAccepted (X.held texts.old) (words_of files.now)) }
+    ensures denoted { IsTrue (X.tells texts.old) → IfOk result (Denotes (X.held texts.old) (words_of files.now)) }
+    ensures kept { IfOk result IsKept }
+    ensures runs { IfOk result RunsToday }
     ensures refused { IsTrue (X.tells texts.old) → IfErr result (IsFrontError (IsRefused (X.held texts.old) (words_of files.now))) }
     ensures cause { IsErrOf result FrontError.ReadFault → Rose (X.faults texts.old) (X.faults texts.new) }
     ensures no_fault { (¬ IsErrOf result FrontError.ReadFault) → X.faults texts.new ≡ X.faults texts.old }

@@ -30,8 +30,9 @@ pub enum Refusal {
     /// The design breaks a static rule or, where it keeps these, a rule on order or sizes. This is the fault at the first place, and there the one of the
     /// least number.
     BreaksRule(Fault),
-    /// The design keeps the rules and is none of those that run today: this is the first form, in the order of the texts, that does not run. Where
-    /// there is none, it is the first declaration or statement that has no form over cells, or else the front of the first file.
+    /// The design keeps the rules and is none of those that run today: this is the first form, in the order of the texts, that never runs today
+    /// (`outside_in` of uc_outside). Where there is none, it is the first declaration or statement that has no form over cells, or else the front of
+    /// the first file.
     NotBuilt(Place),
 }
 

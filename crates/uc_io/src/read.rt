@@ -1,4 +1,4 @@
-ghost use Rattle.std.specs.Prelude.{◌≡◌, ◌⊎◌, ◌+◌, ◌<◌, ◌≤◌, [], ◌++◌, false, length, IsTrue, IfOk, OnOk, OnErr, IsErrOf, unwrap_or};
+ghost use Rattle.std.specs.Prelude.{◌≡◌, ◌⊎◌, ◌+◌, ◌<◌, ◌≤◌, [], ◌++◌, false, drop, length, IsTrue, IfOk, OnOk, OnErr, IsErrOf, unwrap_or};
 ghost use Rattle.uc_io.specs.Faults.{Rose};
 ghost use Rattle.uc_io.specs.Texts.{Answers, LeavesAllBut};
 ghost use Rattle.uc_io.specs.declared.read.ReadError.TheVariants.{NoMemory, ReadFault};
@@ -49,6 +49,11 @@ pub fn read_all<X: Texts>(
     ensures taken { IsTrue (X.tells texts.old) → (X.left texts.new ≡ X.left texts.old)
         ⊎ LeavesAllBut (limit + 1) (unwrap_or (X.held texts.old name.now) []) (X.left texts.new) }
 
+    ensures whole { IfOk result (λ text. IsTrue (X.tells texts.old) → X.left texts.new ≡ []) }
+    ensures closed { IsErrOf result ReadError.NoText → IsTrue (X.tells texts.old) → X.left texts.new ≡ [] }
+    ensures cut { IsErrOf result ReadError.TooLong → IsTrue (X.tells texts.old) →
+        X.left texts.new ≡ drop (limit + 1) (unwrap_or (X.held texts.old name.now) []) }
+
     ensures cause { IsErrOf result ReadError.ReadFault → Rose (X.faults texts.old) (X.faults texts.new) }
     ensures no_fault { (¬ IsErrOf result ReadError.ReadFault) → X.faults texts.new ≡ X.faults texts.old }
     ensures later { X.faults texts.old ≤ X.faults texts.new }
@@ -78,6 +83,8 @@ fn read_piece<X: Texts>(
     ensures end { IfOk result (λ more. IsTrue (X.tells texts.old) → more ≡ false → X.left texts.new ≡ []) }
     ensures too_long { IsErrOf result ReadError.TooLong → IsTrue (X.tells texts.old) →
         limit < length bytes.old.items + length (X.left texts.old) }
+    ensures cut { IsErrOf result ReadError.TooLong → IsTrue (X.tells texts.old) →
+        X.left texts.new ≡ drop (limit + 1) (bytes.old.items ++ X.left texts.old) }
     ensures opened { IsErrOf result ReadError.NoText → ⊥ }
     ensures taken { IsTrue (X.tells texts.old) → OnErr result
         (LeavesAllBut (limit + 1) (bytes.old.items ++ X.left texts.old) (X.left texts.new)) }
@@ -104,6 +111,9 @@ fn read_open<X: Texts>(alloc: Global, texts: &mut X, limit: usize) -> Result<Vec
     ensures answer { IsTrue (X.tells texts.old) → Answers (Some (X.left texts.old)) limit result }
     ensures within { IfOk result (λ text. length text.items ≤ limit) }
     ensures taken { IsTrue (X.tells texts.old) → LeavesAllBut (limit + 1) (X.left texts.old) (X.left texts.new) }
+    ensures whole { IfOk result (λ text. IsTrue (X.tells texts.old) → X.left texts.new ≡ []) }
+    ensures cut { IsErrOf result ReadError.TooLong → IsTrue (X.tells texts.old) →
+        X.left texts.new ≡ drop (limit + 1) (X.left texts.old) }
     ensures opened { IsErrOf result ReadError.NoText → ⊥ }
 
     ensures cause { IsErrOf result ReadError.ReadFault → Rose (X.faults texts.old) (X.faults texts.new) }

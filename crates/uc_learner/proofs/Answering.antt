@@ -1,5 +1,5 @@
 -- The answers of the search.
-use Rattle.std.proofs.Common.{◌≡◌, ℕ, ◌+◌, ◌^◌, ◌<◌, ◌≤◌, ◌⊎◌, inl, inr, Bool, true, false, not, List, [], ◌∷◌, ◌++◌, Option, None, Some, length, get_or, replicate, refl, sym, ◌∙◌, ap, subst, arith}
+use Rattle.std.proofs.Common.{◌≡◌, ℕ, ◌+◌, ◌^◌, ◌<◌, ◌≤◌, ◌⊎◌, inl, inr, Bool, true, false, not, List, [], ◌∷◌, ◌++◌, Option, None, Some, Result, Ok, Err, length, get_or, replicate, refl, sym, ◌∙◌, ap, subst, arith}
 use Rattle.std.specs.Prelude.{All, Contains}
 use Rattle.std.proofs.lemmas.Bool.{cases_eq}
 use Rattle.std.proofs.lemmas.List.{append-nil, append_assoc, get_or_push, get_or_append_left, length-set, length_push, length-map}
@@ -16,6 +16,9 @@ use Rattle.uc_learner.specs.Opened.{opened_known, known_now, GivesEmpty}
 use Rattle.uc_learner.specs.Learners.{flag_of, input_flags}
 use Rattle.uc_log.proofs.Growth.{known_after-append, new_clause}
 use Rattle.uc_log.proofs.Deny.{no_value, value_inside}
+use Rattle.uc_learner.specs.declared.learn.Search.{Search}
+use Rattle.uc_learner.specs.declared.learn.Search.TheVariants.{Candidate, Refuted}
+use Rattle.uc_learner.specs.declared.learn.LearnError.{LearnError}
 use Rattle.uc_learner.specs.declared.state.Step.{Step}
 use Rattle.uc_learner.specs.declared.state.State.{State}
 use Rattle.uc_learner.specs.Trail.{values_at, NoneFalsified, DecisionsAreOpen, free, left}
@@ -28,7 +31,8 @@ use Rattle.uc_learner.specs.Walked.{Shape}
 use Rattle.uc_learner.specs.Learns.{Learns}
 use Rattle.uc_learner.specs.Moves.{Cut, Ready, NoDecision, SettledOnce, left_of}
 use Rattle.uc_learner.specs.Learned.{LearnedBy}
-use Rattle.uc_learner.specs.Recorded.{IsRecorded, LearntFits, Extends}
+use Rattle.uc_learner.specs.Propagated.{Waiting}
+use Rattle.uc_learner.specs.Recorded.{IsRecorded, LearntFits, Extends, KeepsRecord, RecordsOne}
 use Rattle.uc_learner.proofs.Opening.{meet_of}
 use Rattle.uc_learner.specs.Answered.{NoneEmpty, Holds, GoesOn, Concluded, UnitRefutable, inputs_count}
 use Rattle.uc_learner.proofs.Walk.{assign_here, assign_elsewhere}
@@ -97,10 +101,10 @@ pub goes_on :
     → Learns before clause hints target → 0 < length clause
     → clause' ≡ clause
     → log' ≡ log ++ Learnt clause' hints' ∷ []
-    → LearnedBy before clause after
+    → LearnedBy before clause after → Waiting after
     → Concluded before log (known_now opened log') after log' false
-goes_on before after opened log log' [] clause' hints hints' target holds none learns some same grown learned = absurd (omega arith)
-goes_on before after opened log log' (l ∷ rest) clause' hints hints' target holds none learns some same grown learned =
+goes_on before after opened log log' [] clause' hints hints' target holds none learns some same grown learned waiting = absurd (omega arith)
+goes_on before after opened log log' (l ∷ rest) clause' hints hints' target holds none learns some same grown learned waiting =
     let k : Known = known_now opened log in
     let known : known_now opened log' ≡ add k (Learnt clause' hints') =
     ap (known_after (opened_known opened)) grown ∙ known_after-append (opened_known opened) log (Learnt clause' hints' ∷ []) in
@@ -118,6 +122,7 @@ goes_on before after opened log log' (l ∷ rest) clause' hints hints' target ho
         learned.left_less,
         learned.inputs,
         shape_decided before l rest target learns.shape,
+        waiting,
       );
     }
 
@@ -224,6 +229,37 @@ extends_more a b c p q = record {
   more = p.more ++ q.more;
   is = q.is ∙ ap (λ k. k ++ q.more) p.is ∙ append_assoc a p.more q.more;
 }
+
+-- nothing more is recorded
+pub kept_same :
+    {M : Type 0} (opened : M → Option Question) (here total : M → ℕ) (nodes : List Node) (m : M) (log : List Entry)
+    → IsRecorded nodes (opened m) (here m) log → KeepsRecord opened here total nodes m log m log
+kept_same opened here total nodes m log recorded = record { recorded = recorded; still_open = refl; spent = refl; stay = extends_same log }
+
+pub none_recorded :
+    {M : Type 0} (opened : M → Option Question) (here total : M → ℕ) (nodes : List Node) (m : M) (log : List Entry)
+    → IsRecorded nodes (opened m) (here m) log → RecordsOne opened here total nodes m log m log
+none_recorded opened here total nodes m log recorded = record { kept = kept_same opened here total nodes m log recorded; few = omega arith }
+
+pub kept_on :
+    {M : Type 0} (opened : M → Option Question) (here total : M → ℕ) (nodes : List Node) (a b c : M) (x y z : List Entry)
+    → KeepsRecord opened here total nodes a x b y → KeepsRecord opened here total nodes b y c z → KeepsRecord opened here total nodes a x c z
+kept_on opened here total nodes a b c x y z p q = record {
+  recorded = q.recorded;
+  still_open = q.still_open ∙ p.still_open;
+  spent = omega (arith, p.spent, q.spent);
+  stay = extends_more x y z p.stay q.stay;
+}
+
+-- how a search ended is one thing alone
+pub not_found : (e : LearnError) (s : Search) → Err e ≡ Ok s → ⊥
+not_found e s is = cc
+
+pub not_stopped : (e : LearnError) (s : Search) → Ok s ≡ Err e → ⊥
+not_stopped e s is = cc
+
+pub one_end : (r : Result Search LearnError) → r ≡ Ok Candidate → r ≡ Ok Refuted → ⊥
+one_end r candidate refuted = cc
 
 pub settled_refutes : (s : State) → SettledOnce s.clauses.items → UnitRefutable s → ⊥
 settled_refutes s once refutable =

@@ -1,4 +1,5 @@
 pub mod Denied
+pub mod Marks
 pub mod Walk
 pub mod Steps
 pub mod Measure

@@ -70,3 +70,12 @@ taken_next before after q log n e l l' h there i c keeps i' c' count taken =
       clauses = c' ∙ holds.clauses ∙ sym (ap (λ (m : Known). m.clauses) next);
       count = count ∙ sym (length-take-le (n + 1) log (omega arith));
     }
+
+-- all of the log is taken over
+pub taken_now :
+    (opened opened' : Option Question) (log log' : List Entry) (l l' : Learning)
+    → opened' ≡ opened → HasTakenFor opened log l
+    → l'.inputs ≡ input_flags (known_now opened' log').circuit → l'.clauses ≡ (known_now opened' log').clauses → l'.entries ≡ length log'
+    → HasTakenFor opened' log' l'
+taken_now opened None log log' l l' same taken inputs clauses count = absurd (subst (λ (o : Option Question). HasTakenFor o log l) (sym same) taken)
+taken_now opened (Some q) log log' l l' same taken inputs clauses count = record { inputs = inputs; clauses = clauses; count = count }

@@ -241,6 +241,13 @@ look_at s slot i read other ready at is_partner is value =
     let same : found.0 ≡ other = (let f : Some found.0 ≡ Some other = sym e ∙ value in cc) in
     subst (λ (b : Lit). SlotOf s.clauses.items xs slot at.literal b) same found.1
 
+-- the slot beside that of a false literal is there
+pub other_inside : (s : State) (slot i : ℕ) → Ready s → IsAtFalse s slot → i ≡ partner slot → i < length s.watches.watched.items
+other_inside s slot i ready at is_partner =
+    let xs : List (Option Lit) = s.watches.watched.items in
+    let found : (b : Lit) × SlotOf s.clauses.items xs slot at.literal b = slot_of s.clauses.items (length s.inputs.items) s.watches slot at.literal ready.watched at.watched in
+    omega (arith, value_inside xs (partner slot) found.0 found.1.partner, is_partner)
+
 pub look_none :
     (s : State) (slot i : ℕ) (read : Option Lit)
     → Ready s → IsAtFalse s slot → i ≡ partner slot → read ≡ get_or s.watches.watched.items i read → ((l : Lit) → read ≡ Some l → ⊥) → ⊥

@@ -2,12 +2,15 @@
 use Rattle.std.specs.Prelude.{◌≡◌, ℕ, ◌+◌, ◌<◌, ◌≤◌, Bool, true, false, List, [], ◌∷◌, Option, length, slice_index_or, MatchOption}
 use Rattle.uc_circuit.specs.declared.literal.Lit.{Lit}
 use Rattle.uc_circuit.specs.Values.{IsFalsified}
+use Rattle.uc_circuit.specs.Clauses.{Satisfies}
 use Rattle.uc_log.specs.declared.entry.Entry.{Entry}
 use Rattle.uc_log.specs.Entries.{Known}
 use Rattle.uc_learner.specs.declared.state.State.{State}
 use Rattle.uc_learner.specs.Opened.{GivesEmpty}
-use Rattle.uc_learner.specs.Learners.{input_flags, IsUnitRefutable}
+use Rattle.uc_learner.specs.Learners.{input_flags, valuation, IsUnitRefutable}
 use Rattle.uc_learner.specs.Moves.{Ready, NoDecision, left_of}
+use Rattle.uc_learner.specs.Propagated.{Waiting}
+use Rattle.uc_learner.specs.Sound.{Whole}
 
 -- the clause of that number is empty
 abbrev pub IsEmptyAt : List (List Lit) → ℕ → Type 0
@@ -30,6 +33,12 @@ pub record Holds (s : State) (k : Known) : Type 0 where
   pub inputs : s.inputs.items ≡ input_flags k.circuit
   pub clauses : s.clauses.items ≡ k.clauses
 
+-- the search has these variables and clauses, and its values make each clause true
+pub record HasCandidate (s : State) (k : Known) : Type 0 where
+  pub whole : Whole s
+  pub holds : Holds s k
+  pub satisfies : Satisfies (valuation s.values.items) k.clauses
+
 -- between two steps, with a false clause of that number
 pub record AtConflict (s : State) (n : ℕ) : Type 0 where
   pub ready : Ready s
@@ -41,7 +50,7 @@ abbrev pub GoesOn : State → List Entry → Known → State → List Entry → 
 GoesOn before log_before known after log true = GivesEmpty log
 GoesOn before log_before known after log false =
     Holds after known × Ready after × NoneEmpty after.clauses.items × (left_of after + 1 ≤ left_of before) × (after.inputs.items ≡ before.inputs.items)
-    × (NoDecision before → ⊥)
+    × (NoDecision before → ⊥) × Waiting after
 
 -- one entry was learnt from the conflict, and the search ends or goes on
 pub record Concluded (before : State) (log_before : List Entry) (known : Known) (after : State) (log : List Entry) (refuted : Bool) : Type 0 where

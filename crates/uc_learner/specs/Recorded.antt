@@ -1,5 +1,5 @@
 -- The log and its meter.
-use Rattle.std.specs.Prelude.{◌≡◌, ℕ, List, ◌++◌, Option, length}
+use Rattle.std.specs.Prelude.{◌≡◌, ℕ, ◌+◌, ◌≤◌, List, ◌++◌, Option, length}
 use Rattle.uc_circuit.specs.declared.literal.Lit.{Lit}
 use Rattle.uc_ops.specs.declared.node.Node.{Node}
 use Rattle.uc_log.specs.declared.entry.Entry.{Entry}
@@ -22,3 +22,16 @@ LearntFits opened entries clause hints =
 pub record Extends (before after : List Entry) : Type 0 where
   pub more : List Entry
   pub is : after ≡ before ++ more
+
+-- The log goes on with the meter, of which the first three tell: what is recorded, the problem that stays open, that what was spent
+-- in all grew as what was spent here, and the entries that stay.
+pub record KeepsRecord {M : Type 0} (opened : M → Option Question) (here total : M → ℕ) (nodes : List Node) (before : M) (log_before : List Entry) (after : M) (log : List Entry) : Type 0 where
+  pub recorded : IsRecorded nodes (opened after) (here after) log
+  pub still_open : opened after ≡ opened before
+  pub spent : total after + here before ≡ total before + here after
+  pub stay : Extends log_before log
+
+-- the same, by one entry at most
+pub record RecordsOne {M : Type 0} (opened : M → Option Question) (here total : M → ℕ) (nodes : List Node) (before : M) (log_before : List Entry) (after : M) (log : List Entry) : Type 0 where
+  pub kept : KeepsRecord opened here total nodes before log_before after log
+  pub few : here after ≤ here before + 1

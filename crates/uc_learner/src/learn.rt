@@ -1,12 +1,10 @@
 //! The loop: descend, analyze, record, learn.
 
-ghost use Rattle.std.specs.Prelude.{◌≡◌, ◌≢◌, ◌+◌, ◌^◌, ◌<◌, ◌≤◌, ℕ, List, [], ◌∷◌, ◌++◌, length, false, All, OnOk, IfOk, OnErr, Ok, Err, Contains};
-ghost use Rattle.uc_circuit.specs.Clauses.{Satisfies};
+ghost use Rattle.std.specs.Prelude.{◌≡◌, ◌≢◌, ◌+◌, ◌^◌, ◌<◌, ◌≤◌, ℕ, List, [], ◌∷◌, ◌++◌, length, All, OnOk, IfOk, OnErr, Ok, Err, Contains};
 ghost use Rattle.uc_log.specs.declared.entry.Entry.TheVariants.{Learnt};
 ghost use Rattle.uc_learner.specs.Opened.{known_now, AcceptsFor, GivesEmpty, HasQuestion};
-ghost use Rattle.uc_learner.specs.Recorded.{IsRecorded, LearntFits, Extends};
-ghost use Rattle.uc_learner.specs.Answered.{NoneEmpty, NoneEmptyAfter, IsEmptyAt, LastEmpty, Holds, AtConflict, Concluded, UnitRefutable, inputs_count};
-ghost use Rattle.uc_learner.specs.Learners.{valuation};
+ghost use Rattle.uc_learner.specs.Recorded.{IsRecorded, LearntFits, KeepsRecord, RecordsOne};
+ghost use Rattle.uc_learner.specs.Answered.{NoneEmpty, NoneEmptyAfter, IsEmptyAt, LastEmpty, Holds, HasCandidate, AtConflict, Concluded, UnitRefutable, inputs_count};
 
 use crate::analysis::Analysis;
 use crate::state::{State, Step};
@@ -54,10 +52,7 @@ fn record<M: Meter>(
     requires total { M.total meter.old < 2 ^ 127 }
     requires learnt { LearntFits (M.opened meter.old) log.old clause hints }
     requires new { Contains log.old (Learnt clause hints) → ⊥ }
-    ensures recorded { IsRecorded terms.now (M.opened meter.new) (M.here meter.new) log.new }
-    ensures opened { M.opened meter.new ≡ M.opened meter.old }
-    ensures total { M.total meter.new + M.here meter.old ≡ M.total meter.old + M.here meter.new }
-    ensures few { M.here meter.new ≤ M.here meter.old + 1 }
+    ensures records { RecordsOne M.opened M.here M.total terms.now meter.old log.old meter.new log.new }
     ensures ok { OnOk result (log.new ≡ log.old ++ Learnt clause hints ∷ []) }
     ensures err { OnErr result (log.new ≡ log.old) }
 {
@@ -79,11 +74,7 @@ fn repeat_empty<M: Meter>(
     requires inside { number < length (known_now (M.opened meter.old) log.old).clauses }
     requires empty { IsEmptyAt (known_now (M.opened meter.old) log.old).clauses number }
     requires last { NoneEmptyAfter number (known_now (M.opened meter.old) log.old).clauses }
-    ensures recorded { IsRecorded terms.now (M.opened meter.new) (M.here meter.new) log.new }
-    ensures opened { M.opened meter.new ≡ M.opened meter.old }
-    ensures total { M.total meter.new + M.here meter.old ≡ M.total meter.old + M.here meter.new }
-    ensures few { M.here meter.new ≤ M.here meter.old + 1 }
-    ensures stay { Extends log.old log.new }
+    ensures records { RecordsOne M.opened M.here M.total terms.now meter.old log.old meter.new log.new }
     ensures ok { OnOk result (GivesEmpty log.new) }
 {
     let hints = Items::from_slice(alloc, &[number])?;
@@ -160,13 +151,8 @@ impl State {
         requires total { M.total meter.old < 2 ^ 127 }
         requires holds { Holds self.old (known_now (M.opened meter.old) log.old) }
         requires none_empty { NoneEmpty self.old.clauses.items }
-        ensures recorded { IsRecorded terms.now (M.opened meter.new) (M.here meter.new) log.new }
-        ensures opened { M.opened meter.new ≡ M.opened meter.old }
-        ensures total { M.total meter.new + M.here meter.old ≡ M.total meter.old + M.here meter.new }
-        ensures few { M.here meter.new ≤ M.here meter.old + 1 }
-        ensures stay { Extends log.old log.new }
+        ensures records { RecordsOne M.opened M.here M.total terms.now meter.old log.old meter.new log.new }
         ensures ok { IfOk result (λ refuted. Concluded self.old log.old (known_now (M.opened meter.old) log.new) self.new log.new refuted) }
-        ensures waiting { IfOk result (λ refuted. refuted ≡ false → Waiting self.new) }
     {
         let alloc = *self.clauses.allocator();
         let Analysis {
@@ -197,13 +183,8 @@ impl State {
         requires recorded { IsRecorded terms.now (M.opened meter.old) (M.here meter.old) log.old }
         requires total { M.total meter.old + 2 ^ 32 ≤ 2 ^ 127 }
         requires holds { Holds self.old (known_now (M.opened meter.old) log.old) }
-        ensures whole { result ≡ Ok Candidate → Whole self.new }
-        ensures holds { result ≡ Ok Candidate → Holds self.new (known_now (M.opened meter.new) log.new) }
-        ensures recorded { IsRecorded terms.now (M.opened meter.new) (M.here meter.new) log.new }
-        ensures opened { M.opened meter.new ≡ M.opened meter.old }
-        ensures total { M.total meter.new + M.here meter.old ≡ M.total meter.old + M.here meter.new }
-        ensures stay { Extends log.old log.new }
-        ensures candidate { result ≡ Ok Candidate → Satisfies (valuation self.new.values.items) (known_now (M.opened meter.new) log.new).clauses }
+        ensures kept { KeepsRecord M.opened M.here M.total terms.now meter.old log.old meter.new log.new }
+        ensures candidate { result ≡ Ok Candidate → HasCandidate self.new (known_now (M.opened meter.new) log.new) }
         ensures refuted { result ≡ Ok Refuted → AcceptsFor terms.now (M.opened meter.new) log.new }
         ensures budget { result ≡ Err Budget → M.here meter.new ≡ budget }
         ensures within { M.here meter.old ≤ budget → M.here meter.new ≤ budget }

@@ -55,8 +55,8 @@ impl Learner {
         })
     }
 
-    /// Takes over the next entry of the log. Values of an earlier candidate are forgotten. After an error the learner is
-    /// empty.
+    /// Takes over the next entry of the log. Values of an earlier candidate are forgotten. After an error nothing is told
+    /// of the learner.
     pub fn add_entry(&mut self, log: &Log, n: u32) -> Result<(), AllocError>
         requires number { n ≡ self.old.entries }
         requires there { n < length log.now }
@@ -98,7 +98,7 @@ impl Learner {
     }
 
     /// Searches until the values make every clause true or the log is accepted. Decides on inputs alone. Where no
-    /// candidate is found the learner is empty afterwards.
+    /// candidate is found nothing is told of the learner afterwards.
     pub fn next<M: Meter>(
         &mut self,
         terms: &Terms,

@@ -1,19 +1,16 @@
--- How what the program answers stands for an ending of code.
-use Rattle.std.specs.Prelude.{◌≡◌, ◌≤◌, ◌+◌, ℕ, zero, suc, List, [], ◌∷◌, map, length, take, drop, Option, Some, None, if◌then◌else◌}
-use Rattle.uc_syntax.specs.declared.statement.Stmt.{Stmt}
+-- How what a program answers stands for an ending of code.
+use Rattle.std.specs.Prelude.{◌≡◌, ◌≤◌, ◌+◌, ℕ, List, [], ◌∷◌, map, length, take, drop, Option, Some, None, if◌then◌else◌}
 use Rattle.uc_values.specs.declared.value.Value.{Value}
 use Rattle.uc_meaning.specs.declared.scope.Scope.{Scope}
 use Rattle.uc_meaning.specs.declared.code.CodeEnd.{CodeEnd}
 use Rattle.uc_meaning.specs.declared.code.CodeEnd.TheVariants.{Ended, Stopped as AnsweredStopped, BadChoice}
 use Rattle.uc_meaning.specs.Lookup.{System}
 use Rattle.uc_values.specs.declared.ty.Ty.{Ty}
-use Rattle.uc_values.specs.declared.ty.Ty.TheVariants.{Bool as boolean_type}
 use Rattle.uc_values.specs.Values.{fits}
 use Rattle.uc_meaning.specs.declared.scope.Interp.{Interp}
 use Rattle.uc_meaning.specs.Cells.{cells_of}
 use Rattle.uc_meaning.specs.Steps.{init, scope_of, state_of}
-use Rattle.uc_meaning.specs.Plain.{IsTop}
-use Rattle.uc_meaning.specs.Code.{Running, Ending, Goes, Stopped, Unfit, in_scope, bodies, run_statement}
+use Rattle.uc_meaning.specs.Code.{Running, Ending, Goes, Stopped, Unfit}
 
 -- the begin of an execution, with no site listed
 abbrev pub begun : Scope → List Value → Running
@@ -50,24 +47,3 @@ IsInitEndAt system i choices end None = IsEnd choices end (init system (init_beg
 -- how all init code ends from the state that the choices begin with
 abbrev pub IsInitEnd : System → Interp → List Value → CodeEnd → Type 0
 IsInitEnd system i choices end = IsInitEndAt system i choices end (first_unfit 0 (cell_types system) choices)
-
--- so many times the type of a truth value
-abbrev pub booleans : ℕ → List Ty
-booleans zero = []
-booleans (suc n) = boolean_type ∷ booleans n
-
--- the number of choices that an answer speaks of
-abbrev pub length_used : CodeEnd → ℕ
-length_used (Ended scope violated used) = used
-length_used AnsweredStopped = 0
-length_used (BadChoice n) = n
-
--- the same answer with choices counted from an earlier one
-abbrev pub counted_from : ℕ → CodeEnd → CodeEnd
-counted_from count (Ended scope violated used) = Ended scope violated (count + used)
-counted_from count AnsweredStopped = AnsweredStopped
-counted_from count (BadChoice n) = BadChoice (count + n)
-
--- in a scope of main outside blocks with locals a statement leads to another such scope, and takes no choice and lists no site
-abbrev pub GoesTo : System → Scope → Stmt → Scope → Type 0
-GoesTo system s statement t = ((r : Running) → r.scope ≡ s → run_statement system (bodies system) statement r ≡ Goes (in_scope r t)) × IsTop t

@@ -5,3 +5,4 @@ pub mod Read
 pub mod Knowing
 pub mod Goaled
 pub mod Told
+pub mod Meeting

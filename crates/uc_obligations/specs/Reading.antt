@@ -1,6 +1,7 @@
 -- The trace of the states under a model.
 use Rattle.std.specs.Prelude.{◌≡◌, ℕ, ◌<◌, true, IsTrue, List, ◌++◌, drop, map, length, slice_get, Option, None, Some, All}
 use Rattle.std.specs.List.{flat_map}
+use Rattle.uc_linear.specs.declared.exact.Wide.{Wide}
 use Rattle.uc_values.specs.declared.ty.Ty.{Ty}
 use Rattle.uc_values.specs.declared.value.Value.{Value}
 use Rattle.uc_values.specs.Values.{fits, truth_of}
@@ -9,6 +10,7 @@ use Rattle.uc_ops.specs.declared.node.Node.{Node}
 use Rattle.uc_ops.specs.Meaning.{part, fitting}
 use Rattle.uc_ops.specs.Typing.{Valid, AllValid}
 use Rattle.uc_terms.specs.Values.{value}
+use Rattle.uc_terms.specs.Met.{Meets}
 use Rattle.uc_flat.specs.declared.flat.Flat.{Flat}
 use Rattle.uc_flat.specs.declared.flat.Constant.{Constant}
 use Rattle.uc_flat.specs.Drawn.{listed_if}
@@ -51,6 +53,14 @@ AreConstantsOf f m (Some values) = AreRead f m values
 -- the model with these values as its first symbols
 abbrev pub beginning_with : List Value → Model → Model
 beginning_with values m = record { symbols = values ++ drop (length values) m.symbols; tables = m.tables }
+
+-- the operation is met where a term is evaluated under a model that begins with the values of the constants
+pub record MeetsIn (f : Flat) (nodes : List Node) (m : Model) (w : Wide) : Type 0 where
+  pub constants : List Value
+  pub read : AreRead f m constants
+  pub term : ℕ
+  pub there : term < length nodes
+  pub met : Meets (beginning_with constants m) nodes term w
 
 -- the numbers below n, in order
 pub record AreNumbers (n : ℕ) (ts : List ℕ) : Type 0 where

@@ -7,7 +7,9 @@ ghost use Rattle.uc_symstep.specs.Growing.{Grows};
 ghost use Rattle.uc_symstep.specs.Stands.{IsTruth};
 ghost use Rattle.uc_symstep.specs.Known.{IsKnown, ReadsOwnTypes, supply_after};
 ghost use Rattle.uc_obligations.specs.Unrolling.{IsUnrolled};
+ghost use Rattle.uc_linear.specs.Exact.{OnWide};
 ghost use Rattle.uc_obligations.specs.Goals.{IsGoal, IsObligation, IsTold};
+ghost use Rattle.uc_obligations.specs.Reading.{MeetsIn};
 
 use crate::axioms::refuted_term;
 use crate::reading::trace_of;
@@ -57,7 +59,8 @@ pub fn build(
     requires sound { IsSound f.now }
     requires unrolled { IsUnrolled f.now terms.now steps run.now }
     requires there { goal < length terms.now }
-    ensures { IfOk result (IsTold f.now steps terms.now goal model) }
+    ensures told { IfOk result (IsTold f.now steps terms.now goal model) }
+    ensures wide { OnWide result (MeetsIn f.now terms.now model) }
 {
     let states = run.states.as_slice();
     let told = trace_of(alloc, terms, f, goal, states, model)?;

@@ -3,10 +3,11 @@
 ghost use Rattle.std.specs.Prelude.{◌≡◌, ◌<◌, ◌++◌, List, drop, map, length, slice_get, IfOk, IsTrue, All};
 ghost use Rattle.std.specs.List.{flat_map};
 ghost use Rattle.std.specs.Option.{option_copied};
+ghost use Rattle.uc_linear.specs.Exact.{OnWide};
 ghost use Rattle.uc_values.specs.declared.value.Value.{Value as AValue};
 ghost use Rattle.uc_values.specs.Values.{truth_of};
 ghost use Rattle.uc_ops.specs.Meaning.{part, fitting};
-ghost use Rattle.uc_obligations.specs.Reading.{position_read, choice_read, hit_read, beginning_with, AreNumbers, IsFitting, AreConstantsOf, IsToldBy};
+ghost use Rattle.uc_obligations.specs.Reading.{position_read, choice_read, hit_read, beginning_with, AreNumbers, IsFitting, AreConstantsOf, MeetsIn, IsToldBy};
 
 use std::alloc::{AllocError, Global};
 use uc_flat::Flat;
@@ -28,7 +29,8 @@ pub(crate) fn trace_of(
     model: Model,
 ) -> Result<Option<FlatTrace>, LinearError>
     requires { goal < length terms.now }
-    ensures { IfOk result (IsToldBy f.now terms.now goal states.now model) }
+    ensures told { IfOk result (IsToldBy f.now terms.now goal states.now model) }
+    ensures wide { OnWide result (MeetsIn f.now terms.now model) }
 {
     let Some(constants) = constants_of(alloc, f, &model)? else {
         return Ok(None);

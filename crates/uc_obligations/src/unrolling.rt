@@ -28,6 +28,7 @@ pub struct Unrolling {
 pub fn begin(terms: &mut Terms, alloc: Global, f: &Flat) -> Result<Unrolling, AllocError>
     requires sound { IsSound f.now }
     ensures ok { IfOk result (λ u. IsUnrolled f.now terms.new 0 u) }
+    ensures grown { Grows terms.old terms.new }
 {
     let first = f.constants.len();
     if first > u32::MAX as usize {
@@ -58,6 +59,7 @@ pub fn advance(
     requires sound { IsSound f.now }
     requires unrolled { IsUnrolled f.now terms.old steps run }
     ensures ok { IfOk result (λ u. IsUnrolled f.now terms.new (steps + 1) u) }
+    ensures grown { Grows terms.old terms.new }
 {
     let Unrolling {
         axioms,

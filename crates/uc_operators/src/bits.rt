@@ -8,8 +8,7 @@ ghost use Rattle.uc_meaning.specs.Operators.{chained, concatenated, extracted, o
 ghost use Rattle.uc_operators.specs.Words.{IsWord, total_width};
 ghost use Rattle.uc_operators.specs.Bits.{combined, IsCount};
 
-use crate::error::EvalError;
-use std::alloc::Global;
+use std::alloc::{AllocError, Global};
 use uc_syntax::BitFunction;
 use uc_values::{Value, copy, word};
 
@@ -22,7 +21,7 @@ pub enum BitOperator {
 }
 
 /// A chain of an operator that works bit by bit, from the left.
-pub fn bitwise(alloc: Global, operator: BitOperator, values: &[Value]) -> Result<Value, EvalError>
+pub fn bitwise(alloc: Global, operator: BitOperator, values: &[Value]) -> Result<Value, AllocError>
     ensures { IfOk result (λ v. v ≡ chained (combined operator) values.now) }
 {
     if values.is_empty() {
@@ -70,7 +69,7 @@ fn bits_of(value: &Value) -> u64
 
 /// A chain of `++`, whose first operand is the high part.
 #[tactic(auto, unfolding(crate::specs::Words::total_width))]
-pub fn concatenated(alloc: Global, values: &[Value]) -> Result<Value, EvalError>
+pub fn concatenated(alloc: Global, values: &[Value]) -> Result<Value, AllocError>
     requires words { All IsWord values.now }
     requires width { total_width values.now ≤ 64 }
     ensures { IfOk result (λ v. v ≡ chained concatenated values.now) }

@@ -16,8 +16,7 @@ use Rattle.uc_values.proofs.Shapes.{and_true}
 use Rattle.uc_meaning.specs.Lookup.{System}
 use Rattle.uc_meaning.specs.Lines.{commands_in, main_declarations}
 use Rattle.uc_meaning.specs.Cells.{as_list}
-use Rattle.uc_meaning.specs.Fragment.{at_most_one, at_most_one_after, is_init, is_next, is_control, variable_names, most_variables, most_steps}
-use Rattle.uc_meaning.proofs.Fragments.{NoneBefore}
+use Rattle.uc_meaning.specs.Fragment.{at_most_one, at_most_one_after, is_control, most_steps}
 use Rattle.uc_fragment.specs.Plain.{with_variables, runs_once, is_plain_decl, is_plain}
 use Rattle.uc_runnable.specs.Runnable.{IsRunnable}
 use Rattle.uc_meaning.proofs.Lists.{drop_turn}
@@ -55,7 +54,12 @@ after_none d ds h e = by_test (is_control d) h e
     by_test true h e = cc
     by_test false h e = h
 
-pub control_found : (ds : List Decl) (k : ℕ) (d : Decl) (place : Place) (commands : List Command) → NoneBefore is_control commands_in ds k → k < length ds → d ≡ get_or ds k d → d ≡ Control place commands → commands ≡ flat_map commands_in ds
+-- before turn k of a walk over declarations no control block was met
+pub record NoneBefore (ds : List Decl) (k : ℕ) : Type 0 where
+  pub rest : flat_map commands_in (drop k ds) ≡ flat_map commands_in ds
+  pub most : at_most_one is_control (drop k ds) ≡ true
+
+pub control_found : (ds : List Decl) (k : ℕ) (d : Decl) (place : Place) (commands : List Command) → NoneBefore ds k → k < length ds → d ≡ get_or ds k d → d ≡ Control place commands → commands ≡ flat_map commands_in ds
 control_found ds k d place commands before within is form =
     let turn : drop k ds ≡ Control place commands ∷ drop (k + 1) ds = drop_turn ds k d within is ∙ ap (λ x. x ∷ drop (k + 1) ds) form in
     let one : at_most_one is_control (Control place commands ∷ drop (k + 1) ds) ≡ true = ap (at_most_one is_control) (sym turn) ∙ before.most in
@@ -63,7 +67,7 @@ control_found ds k d place commands before within is form =
     ∙ ap (λ ys. commands ++ ys) (sym (none_of (drop (k + 1) ds) (after_one (Control place commands) (drop (k + 1) ds) one refl)))
     ∙ sym (ap (flat_map commands_in) turn) ∙ before.rest
 
-pub control_more : (ds : List Decl) (k : ℕ) (d : Decl) → NoneBefore is_control commands_in ds k → k < length ds → d ≡ get_or ds k d → ((place : Place) (commands : List Command) → d ≡ Control place commands → ⊥) → NoneBefore is_control commands_in ds (k + 1)
+pub control_more : (ds : List Decl) (k : ℕ) (d : Decl) → NoneBefore ds k → k < length ds → d ≡ get_or ds k d → ((place : Place) (commands : List Command) → d ≡ Control place commands → ⊥) → NoneBefore ds (k + 1)
 control_more ds k d before within is never =
     let turn : drop k ds ≡ d ∷ drop (k + 1) ds = drop_turn ds k d within is in
     let none : is_control d ≡ false = kind d never in

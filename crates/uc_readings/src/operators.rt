@@ -37,10 +37,8 @@ pub fn bitwise(
     ensures { IfOk result (λ r. reading_of r ≡ reads (first_of types.now) (chained (combined operator) values.now)) }
 {
     let ty = first_type(alloc, types)?;
-    match uc_operators::bitwise(alloc, operator, values) {
-        Ok(value) => Ok(Said { ty, value }),
-        Err(_) => Err(AllocError),
-    }
+    let value = uc_operators::bitwise(alloc, operator, values)?;
+    Ok(Said { ty, value })
 }
 
 /// A chain of `++`.
@@ -50,13 +48,11 @@ pub fn joined(alloc: Global, types: &[Ty], values: &[Value]) -> Result<Said, All
     check_words(values)?;
     check_total(values)?;
     let width = widths(types)?;
-    match uc_operators::concatenated(alloc, values) {
-        Ok(value) => Ok(Said {
-            ty: Ty::Bv(width),
-            value,
-        }),
-        Err(_) => Err(AllocError),
-    }
+    let value = uc_operators::concatenated(alloc, values)?;
+    Ok(Said {
+        ty: Ty::Bv(width),
+        value,
+    })
 }
 
 /// A sum with the sign before each operand after the first.

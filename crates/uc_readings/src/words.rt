@@ -11,7 +11,7 @@ use uc_values::{Ty, Value};
 
 /// Whether a value is no bit-vector, or one of at most 64 bits that its width holds.
 pub(crate) fn is_word(value: &Value) -> bool
-    ensures { IsTrue result → IsWord value.now }
+    ensures { IsTrue result ↔ IsWord value.now }
 {
     match value {
         Value::Bv(width, bits) => fits_width(*width, *bits),

@@ -1,4 +1,4 @@
-//! The layout of the design that a text spells.
+//! The design that a text spells, and its layout.
 
 use std::alloc::{AllocError, Global};
 use uc_items::Items;
@@ -7,8 +7,8 @@ use uc_lexer::{MAX_TEXT, tokens};
 use uc_parser::parse;
 use uc_syntax::{Design, Names};
 
-/// The layout of a text with its first module as main, if it is a list of modules.
-pub(crate) fn layout_of(alloc: Global, text: &[u8]) -> Result<Option<Layout>, AllocError> {
+/// The design that a text spells, if it is a list of modules.
+pub(crate) fn design_of(alloc: Global, text: &[u8]) -> Result<Option<Design>, AllocError> {
     if text.len() > MAX_TEXT {
         return Ok(None);
     }
@@ -22,6 +22,13 @@ pub(crate) fn layout_of(alloc: Global, text: &[u8]) -> Result<Option<Layout>, Al
     };
     let mut files = Items::new(alloc);
     files.push(file)?;
-    let design = Design::of(alloc, names, files, modules)?;
+    Ok(Some(Design::of(alloc, names, files, modules)?))
+}
+
+/// The layout of a text with its first module as main, if it is a list of modules.
+pub(crate) fn layout_of(alloc: Global, text: &[u8]) -> Result<Option<Layout>, AllocError> {
+    let Some(design) = design_of(alloc, text)? else {
+        return Ok(None);
+    };
     Ok(Some(Layout::of(alloc, design, 0)?))
 }

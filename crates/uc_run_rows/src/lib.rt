@@ -1,8 +1,10 @@
-//! Worked rows of single expressions and of sequential code, which only tests run.
+//! Worked rows of single expressions and of sequential code, and of designs that are copied, which only tests run.
 #![tactic(auto)]
 
 #[cfg(test)]
 mod code;
+#[cfg(test)]
+mod designs;
 #[cfg(test)]
 mod formulas;
 #[cfg(test)]

@@ -1,5 +1,5 @@
 -- Where a module that does not run is at fault: its first declaration, or statement of a block, that has no form over cells.
-use Rattle.std.specs.Prelude.{◌≡◌, ℕ, ◌+◌, nat_eq, nat_le, if◌then◌else◌, List, [], ◌∷◌, map, length, Option, Some, None}
+use Rattle.std.specs.Prelude.{◌≡◌, ℕ, ◌+◌, nat_eq, if◌then◌else◌, List, [], ◌∷◌, map, length, Option, Some, None}
 use Rattle.std.specs.Option.{option_and_then}
 use Rattle.std.specs.List.{list_all}
 use Rattle.uc_lexer.specs.declared.place.Place.{Place}
@@ -9,17 +9,12 @@ use Rattle.uc_syntax.specs.declared.statement.Stmt.{Stmt}
 use Rattle.uc_syntax.specs.declared.statement.Stmt.TheOpen.{Stmt-F}
 use Rattle.uc_syntax.specs.declared.statement.Stmt.TheOpen.Stmt-F.{Local, Skip, Block, Assert, Assume, Havoc, Assign, If, Case, For, Call, Next as NextStatement}
 use Rattle.uc_syntax.specs.declared.statement.Stmt.TheFolds.{fold-Stmt}
-use Rattle.uc_syntax.specs.declared.place.Identifier.{Identifier}
-use Rattle.uc_syntax.specs.declared.declaration.WrittenRun.TheVariants.{Unroll}
-use Rattle.uc_syntax.specs.declared.declaration.Command.{Command}
-use Rattle.uc_syntax.specs.declared.declaration.Command.TheVariants.{Run, Check, PrintResults, PrintCounterexamples}
 use Rattle.uc_syntax.specs.declared.declaration.Decl.{Decl}
-use Rattle.uc_syntax.specs.declared.declaration.Decl.TheVariants.{OpaqueType, TypeAlias, TypeImport, Variables, Init, Next, Invariant, Axiom, Control}
+use Rattle.uc_syntax.specs.declared.declaration.Decl.TheVariants.{OpaqueType, TypeAlias, TypeImport, Variables, Init, Next, Invariant, Axiom}
 use Rattle.uc_syntax.specs.declared.declaration.Module.{Module}
 use Rattle.uc_meaning.specs.Lookup.{System, or_else, first_some}
 use Rattle.uc_meaning.specs.Types.{type_of_written}
 use Rattle.uc_meaning.specs.Cells.{cells_of}
-use Rattle.uc_meaning.specs.Fragment.{most_steps}
 use Rattle.uc_flat_expressions.specs.declared.typed.Meant.{Meant}
 use Rattle.uc_flat_expressions.specs.Expressions.{flat_of}
 use Rattle.uc_flat_code.specs.declared.writing.Writing.{Writing}
@@ -30,7 +25,6 @@ use Rattle.uc_flat_init.specs.CellTypes.{Types, is_cell_type, cell_type_of}
 use Rattle.uc_flat_init.specs.Init.{Made, making_of}
 use Rattle.uc_flat_design.specs.Next.{primed_behind, names_between}
 use Rattle.uc_flat_design.specs.Design.{is_built, condition_of}
-use Rattle.uc_fragment.specs.Plain.{with_variables, is_print}
 
 -- the place of a part, where nothing came of it
 abbrev pub unless_there : {A : Type 0} → Place → Option A → Option Place
@@ -91,43 +85,20 @@ unfit_type system m place type = if is_cell_type (type_of_written system m type)
 abbrev pub unfit_condition : List Meant → Place → Expr → Option Place
 unfit_condition names place e = unless_there place (option_and_then (condition_of 1 0) (flat_of names e))
 
--- the place where a command begins
-abbrev pub command_at : Command → Place
-command_at (Run p name run) = p
-command_at (Check p) = p
-command_at (PrintResults p) = p
-command_at (PrintCounterexamples p f paths) = p
-
-abbrev pub unfit_print : List ℕ → Option Identifier → Command → Option Place
-unfit_print cells name c = if is_print cells name c then None else Some (command_at c)
-
--- the first command that is no `check` and then prints, behind a command of a name; the block itself, where there is none
-abbrev pub unfit_behind : List ℕ → Place → Option Identifier → List Command → Option Place
-unfit_behind cells block name [] = Some block
-unfit_behind cells block name (Check p ∷ prints) = first_some (unfit_print cells name) prints
-unfit_behind cells block name (c ∷ cs) = Some (command_at c)
-
--- The first command that is not as in `unroll(N); check;` and then prints; the block itself, where `check` is missing.
-abbrev pub unfit_commands : List ℕ → Place → List Command → Option Place
-unfit_commands cells block [] = None
-unfit_commands cells block (Run p name (Unroll n) ∷ cs) = if nat_le n most_steps then unfit_behind cells block name cs else Some p
-unfit_commands cells block (c ∷ cs) = Some (command_at c)
-
--- A type that is not finite, a block with a statement that has no code, an invariant that is no truth value over cells, an axiom that is none over constants, or a command that does not run.
-abbrev pub unfit : System → Module → List Meant → List ℕ → ℕ → Decl → Option Place
-unfit system m names cells count (OpaqueType place i) = Some place
-unfit system m names cells count (TypeImport place n) = Some place
-unfit system m names cells count (TypeAlias place i type) = unfit_type system m place type
-unfit system m names cells count (Variables place kind is type) = unfit_type system m place type
-unfit system m names cells count (Init place block) = unfit_init (cell_type_of system m) names count block
-unfit system m names cells count (Next place block) = unfit_next (names_between count names) (primed_behind count) place block
-unfit system m names cells count (Invariant place i e) = unfit_condition names place e
-unfit system m names cells count (Axiom place i e) = unfit_condition (map without_cell names) place e
-unfit system m names cells count (Control place commands) = unfit_commands cells place commands
-unfit system m names cells count other = None
+-- A type that is not finite, a block with a statement that has no code, an invariant that is no truth value over cells, or an axiom that is none over constants.
+abbrev pub unfit : System → Module → List Meant → ℕ → Decl → Option Place
+unfit system m names count (OpaqueType place i) = Some place
+unfit system m names count (TypeImport place n) = Some place
+unfit system m names count (TypeAlias place i type) = unfit_type system m place type
+unfit system m names count (Variables place kind is type) = unfit_type system m place type
+unfit system m names count (Init place block) = unfit_init (cell_type_of system m) names count block
+unfit system m names count (Next place block) = unfit_next (names_between count names) (primed_behind count) place block
+unfit system m names count (Invariant place i e) = unfit_condition names place e
+unfit system m names count (Axiom place i e) = unfit_condition (map without_cell names) place e
+unfit system m names count other = None
 
 abbrev pub unfit_in : System → Module → Option Place
-unfit_in system m = first_some (unfit system m (names_over_cells system m) (with_variables [] m.decls) (length (cells_of system))) m.decls
+unfit_in system m = first_some (unfit system m (names_over_cells system m) (length (cells_of system))) m.decls
 
 abbrev pub unfit_only : System → List Module → Option Place
 unfit_only system (m ∷ []) = if list_all is_built m.decls then unfit_in system m else None

@@ -10,7 +10,6 @@ ghost use Rattle.uc_flat_names.specs.Names.{StandsAlone, names_over_cells};
 ghost use Rattle.uc_flat_design.specs.Design.{is_built, condition_of};
 ghost use Rattle.uc_runnable.specs.Unfit.{unfit_condition, unfit, unfit_in, unfit_only, unfit_of};
 
-use crate::control::unfit_commands;
 use crate::statements::{unfit_init, unfit_next};
 use crate::types::unfit_type;
 use std::alloc::{AllocError, Global};
@@ -18,9 +17,7 @@ use uc_flat_code::Writing;
 use uc_flat_expressions::{FlatError, Meant, flat_expression, is_boolean};
 use uc_flat_making::{are_built, names_between, without_cells};
 use uc_flat_table::{names_table, own_cells};
-use uc_fragment::variables;
 use uc_syntax::{Decl, Expr, Module, Place};
-use uc_type_names::NameSet;
 use uc_type_reader::Tables;
 
 /// The place, where a formula is no truth value over cells.
@@ -52,11 +49,10 @@ fn unfit(
     tables: &Tables,
     code: &Module,
     names: &[Meant],
-    cells: &NameSet,
     count: u32,
     decl: &Decl,
 ) -> Result<Option<Place>, AllocError>
-    ensures { IfOk result (λ p. p ≡ unfit tables.now code.now names.now cells.now count decl.now) }
+    ensures { IfOk result (λ p. p ≡ unfit tables.now code.now names.now count decl.now) }
 {
     match decl {
         Decl::OpaqueType(place, _) => Ok(Some(*place)),
@@ -77,7 +73,6 @@ fn unfit(
             let constants = without_cells(alloc, names)?;
             unfit_condition(alloc, constants.as_slice(), *place, e)
         }
-        Decl::Control(place, commands) => Ok(unfit_commands(cells, *place, commands.as_slice())),
         _ => Ok(None),
     }
 }
@@ -89,14 +84,13 @@ fn first_unfit(
     tables: &Tables,
     code: &Module,
     names: &[Meant],
-    cells: &NameSet,
     count: u32,
 ) -> Result<Option<Place>, AllocError>
-    ensures { IfOk result (λ p. p ≡ first_some (unfit tables.now code.now names.now cells.now count) code.now.decls) }
+    ensures { IfOk result (λ p. p ≡ first_some (unfit tables.now code.now names.now count) code.now.decls) }
 {
     let decls = code.decls.as_slice();
     for decl in decls {
-        if let Some(place) = unfit(alloc, tables, code, names, cells, count, decl)? {
+        if let Some(place) = unfit(alloc, tables, code, names, count, decl)? {
             return Ok(Some(place));
         }
     }
@@ -121,9 +115,8 @@ fn unfit_in(alloc: Global, tables: &Tables, code: &Module) -> Result<Option<Plac
     ensures { IfOk result (λ p. p ≡ unfit_in tables.now code.now) }
 {
     let names = names_table(alloc, tables, code)?;
-    let cells = variables(alloc, code.decls.as_slice())?;
     let count = count_cells(alloc, tables, code)?;
-    first_unfit(alloc, tables, code, names.as_slice(), &cells, count)
+    first_unfit(alloc, tables, code, names.as_slice(), count)
 }
 
 fn unfit_only(
@@ -145,7 +138,7 @@ fn unfit_only(
     unfit_in(alloc, tables, code)
 }
 
-/// Where a design of one module that does not run is at fault: the first declaration, statement or command that has no form over cells.
+/// Where a design of one module that does not run is at fault: the first declaration or statement that has no form over cells.
 pub(crate) fn unfit_place(alloc: Global, tables: &Tables) -> Result<Option<Place>, AllocError>
     ensures { IfOk result (λ p. p ≡ unfit_of tables.now) }
 {

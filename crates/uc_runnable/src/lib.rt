@@ -1,7 +1,6 @@
 //! The designs that run today, and where a design of one module that does not run is at fault.
 #![tactic(auto)]
 
-mod control;
 mod declarations;
 mod runnable;
 mod statements;

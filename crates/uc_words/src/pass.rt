@@ -74,6 +74,8 @@ pub fn words_of_text(
     ensures names_known { IfOk result (λ ws. NamesBelow (length names.new) (words_mention ws.items)) }
     ensures files_known { IfOk result (λ ws. (n : ℕ) → file < n → FilesBelow n (words_mention ws.items)) }
     ensures fault { IfErr result (IsLexError file text.now) }
+    ensures err { OnErr result ((tokens : List Token) → Tokens file text.now tokens → HasFrontOf names.old text.now tokens names.new) }
+    ensures unread { OnErr result (((tokens : List Token) → ¬ Tokens file text.now tokens) → names.new ≡ names.old) }
     ensures fault_keeps { (fault : LexFault) → result ≡ Err (Fault fault) → names.new ≡ names.old }
 {
     let tokens = tokens(alloc, file, text)?;

@@ -4,8 +4,7 @@ ghost use Rattle.std.specs.Prelude.{◌≡◌, ℕ, None, Some, nat_eq, OnOk};
 ghost use Rattle.std.specs.Option.{option_copied};
 ghost use Rattle.uc_meaning.specs.Lookup.{or_else};
 ghost use Rattle.uc_rules.specs.Names.{only_if};
-ghost use Rattle.uc_order_rules.specs.Writes.{modified_names};
-ghost use Rattle.uc_written_once.specs.Effects.{modified_by, procedure_by, step_by, stepped_by, stepping_of};
+ghost use Rattle.uc_written_once.specs.Effects.{procedure_by, stepped_by};
 
 use indexmap::IndexMap;
 use std::alloc::{AllocError, Global};
@@ -40,14 +39,14 @@ impl<'a> Effects<'a> {
 
     /// The procedure of a name.
     pub fn procedure(&self, name: u32) -> Option<&'a Procedure>
-        ensures { modified_names (option_copied result) ≡ modified_by self.now name }
+        ensures { option_copied result ≡ procedure_by self.now name }
     {
         self.procedures.get(name)
     }
 
     /// The step of the instance of a name.
     pub(crate) fn step(&self, name: u32) -> Option<&Stepped>
-        ensures { stepping_of (option_copied result) ≡ step_by self.now name }
+        ensures { option_copied result ≡ stepped_by self.now name }
     {
         self.steps.get(&name)
     }

@@ -4,6 +4,7 @@ ghost use Rattle.std.specs.Prelude.{◌≡◌, ◌&&◌, ◌||◌, ◌++◌, not
 ghost use Rattle.std.specs.List.{flat_map, list_any};
 ghost use Rattle.uc_meaning.specs.Code.{modifies_in};
 ghost use Rattle.uc_meaning.specs.Steps.{fields_before};
+ghost use Rattle.uc_rules.specs.Statements.{modifies_in as written_in};
 ghost use Rattle.uc_order_rules.specs.Writes.{is_empty, met, modified_names, overlap, part_of_name, part_of_target};
 ghost use Rattle.uc_path_laws.specs.Walks.{walk_each};
 ghost use Rattle.uc_written_once.specs.Effects.{modified_by, step_by};
@@ -131,7 +132,8 @@ fn note_names(
 
 /// The names that a clause modifies.
 pub fn modified_in(clause: &Clause) -> &[Identifier]
-    ensures { map (λ i. i.name) result.now ≡ modifies_in clause.now }
+    ensures written { result.now ≡ written_in clause.now }
+    ensures names { map (λ i. i.name) result.now ≡ modifies_in clause.now }
 {
     match clause {
         Clause::Modifies(_, names) => names.as_slice(),

@@ -6,7 +6,7 @@ use Rattle.uc_control.specs.Verdicts.{out_of_budget}
 use Rattle.uc_control.specs.Text.{report_text}
 use Rattle.uc_front.specs.declared.refusal.Refusal.{Refusal}
 use Rattle.uc_front.specs.Refusals.{number_of, place_of}
-use Rattle.uc_front.specs.Denotes.{IsAccepted}
+use Rattle.uc_front.specs.Denotes.{Denotes, IsKept, RunsToday}
 use Rattle.uc_front.specs.Refused.{IsRefused}
 use Rattle.uc_judge.specs.Reports.{IsReport}
 use Rattle.uclid.specs.declared.answer.Session.{Session}
@@ -37,11 +37,11 @@ word_at words n = unwrap_or (slice_get words n) []
 abbrev pub line_budget : ℕ
 line_budget = 1048576
 
--- The answer to files, given what is held under their names, where this is told.
+-- The answer to files: a refusal, or the report of a design that keeps the rules and runs. Where it is told what is held under the files' names, the refusal is right for it, and it denotes the design.
 abbrev pub IsFilesAnswer : Bool → List (List ℕ) → (List ℕ → Option (List ℕ)) → Answer → Type 0
 IsFilesAnswer tells files held Usage = ⊥
 IsFilesAnswer tells files held (Refused r) = IsTrue tells → IsRefused held files r
-IsFilesAnswer tells files held (Reported s) = IsReport s.design line_budget s.report × (IsTrue tells → IsAccepted held files s.design)
+IsFilesAnswer tells files held (Reported s) = IsReport s.design line_budget s.report × IsKept s.design × RunsToday s.design × (IsTrue tells → Denotes held files s.design)
 
 -- Words that are not of the form are answered with the usage line; else each is the name of a file.
 abbrev pub IsAnswerFor : Bool → Bool → List (List ℕ) → (List ℕ → Option (List ℕ)) → Answer → Type 0
@@ -60,10 +60,10 @@ abbrev pub session_of : Answer → Option Session
 session_of (Reported s) = Some s
 session_of other = None
 
--- the meter rose by at least the budget for each line that is undecided by it
+-- For a session the meter rose by at least the budget for each line that is undecided by it, and by at most the budget for each line. Else it stayed as it was.
 abbrev pub HasSpent : ℕ → ℕ → Answer → Type 0
-HasSpent before after (Reported s) = before + line_budget * out_of_budget s.report.lines ≤ after
-HasSpent before after other = before ≤ after
+HasSpent before after (Reported s) = (before + line_budget * out_of_budget s.report.lines ≤ after) × (after ≤ before + line_budget * length s.report.lines)
+HasSpent before after other = after ≡ before
 
 -- ---- bytes
 

@@ -1,5 +1,5 @@
 -- How a run ends.
-use Rattle.std.specs.Prelude.{◌≡◌, ◌⊎◌, ℕ, ◌+◌, ◌*◌, ◌≤◌, Bool, IsTrue, List, ◌++◌, Option, Some, None}
+use Rattle.std.specs.Prelude.{◌≡◌, ◌⊎◌, ℕ, ◌+◌, ◌*◌, ◌≤◌, Bool, IsTrue, List, ◌++◌, length, Option, Some, None}
 use Rattle.uc_io.specs.Faults.{Rose}
 use Rattle.uc_io.specs.Sink.{GrewByFront}
 use Rattle.uc_control.specs.Verdicts.{out_of_budget}
@@ -38,9 +38,9 @@ HasWritten words a sink_tells before now faults faults_now o =
     ((o.session ≡ session_of a) × (((o.status ≡ status_of a) × Wrote sink_tells before now (text_of words a)) ⊎ ((o.status ≡ 6) × WroteFront sink_tells before now faults faults_now (text_of words a))))
     ⊎ ((o.session ≡ None) × (o.status ≡ 7) × WroteNothing sink_tells before now)
 
--- the meter rose by at least the budget for each line of a session that is undecided by it
+-- For a session the meter rose by at least the budget for each line that is undecided by it, and by at most the budget for each line. Without one it did not fall.
 abbrev pub HasPaidFor : ℕ → ℕ → Option Session → Type 0
-HasPaidFor before after (Some s) = before + line_budget * out_of_budget s.report.lines ≤ after
+HasPaidFor before after (Some s) = (before + line_budget * out_of_budget s.report.lines ≤ after) × (after ≤ before + line_budget * length s.report.lines)
 HasPaidFor before after None = before ≤ after
 
 abbrev pub HasPaid : ℕ → ℕ → Outcome → Type 0

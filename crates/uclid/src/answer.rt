@@ -61,6 +61,7 @@ pub(crate) fn decide<X: Texts, M: Meter>(
     requires total { M.total meter.old < 2 ^ 126 }
     ensures answer { IfOk result (IsAnswer (X.tells texts.old) (words_of words.now) (X.held texts.old)) }
     ensures spent { IfOk result (HasSpent (M.total meter.old) (M.total meter.new)) }
+    ensures unspent { IsErrOf result Stop.ReadFault → M.total meter.new ≡ M.total meter.old }
     ensures spent_later { M.total meter.old ≤ M.total meter.new }
     ensures cause { IsErrOf result Stop.ReadFault → Rose (X.faults texts.old) (X.faults texts.new) }
     ensures no_fault { (¬ IsErrOf result Stop.ReadFault) → X.faults texts.new ≡ X.faults texts.old }
@@ -85,6 +86,7 @@ fn answer_files<X: Texts, M: Meter>(
     requires total { M.total meter.old < 2 ^ 126 }
     ensures answer { IfOk result (IsFilesAnswer (X.tells texts.old) (words_of files.now) (X.held texts.old)) }
     ensures spent { IfOk result (HasSpent (M.total meter.old) (M.total meter.new)) }
+    ensures unspent { IsErrOf result Stop.ReadFault → M.total meter.new ≡ M.total meter.old }
     ensures spent_later { M.total meter.old ≤ M.total meter.new }
     ensures cause { IsErrOf result Stop.ReadFault → Rose (X.faults texts.old) (X.faults texts.new) }
     ensures no_fault { (¬ IsErrOf result Stop.ReadFault) → X.faults texts.new ≡ X.faults texts.old }

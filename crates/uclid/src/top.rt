@@ -18,6 +18,17 @@ pub struct Outcome {
     pub session: Option<Session>,
 }
 
+impl Outcome {
+    /// The status alone. A session is dropped here, so no program needs the proof that this is done rightly.
+    pub fn into_status(self) -> u8
+        ensures { result ≡ self.status }
+    {
+        let status = self.status;
+        drop(self);
+        status
+    }
+}
+
 /// Reads the files that the words name, in order, judges their design, and writes the report.
 ///
 /// Each line may spend 2^20 entries of a log, which the meter counts. Statuses: 0 where all lines passed, 1 where one failed, else 2
@@ -34,7 +45,10 @@ pub fn run<X: Texts, K: Sink, M: Meter>(
     ensures ends { Ends (X.tells texts.old) (words_of words.now) (X.held texts.old) (X.faults texts.old) (X.faults texts.new)
         (K.tells out.old) (K.taken out.old) (K.taken out.new) (K.faults out.old) (K.faults out.new) result }
     ensures spent { HasPaid (M.total meter.old) (M.total meter.new) result }
+    ensures unspent { result.session ≡ None → (¬ (result.status ≡ 7)) → M.total meter.new ≡ M.total meter.old }
+    ensures texts_still { (¬ (result.status ≡ 5)) → X.faults texts.new ≡ X.faults texts.old }
     ensures texts_later { X.faults texts.old ≤ X.faults texts.new }
+    ensures sink_still { (¬ (result.status ≡ 6)) → K.faults out.new ≡ K.faults out.old }
     ensures sink_later { K.faults out.old ≤ K.faults out.new }
     ensures texts_telling { X.tells texts.new ≡ X.tells texts.old }
     ensures sink_telling { K.tells out.new ≡ K.tells out.old }
@@ -50,6 +64,7 @@ pub fn run<X: Texts, K: Sink, M: Meter>(
 /// Writes the text of an answer.
 fn written<K: Sink>(alloc: Global, words: &[&str], answer: Answer, out: &mut K) -> Outcome
     ensures ends { HasWritten (words_of words.now) answer (K.tells out.old) (K.taken out.old) (K.taken out.new) (K.faults out.old) (K.faults out.new) result }
+    ensures still { (¬ (result.status ≡ 6)) → K.faults out.new ≡ K.faults out.old }
     ensures later { K.faults out.old ≤ K.faults out.new }
     ensures telling { K.tells out.new ≡ K.tells out.old }
 {

@@ -31,7 +31,7 @@ use Rattle.uclid_laws.proofs.Distinct.{names_distinct}
 -- ---- reading
 
 -- one list of texts is held
-one_texts : (held : List ℕ → Option (List ℕ)) (files texts others : List (List ℕ)) → map held files ≡ map (λ t. Some t) texts → map held files ≡ map (λ t. Some t) others → texts ≡ others
+pub one_texts : (held : List ℕ → Option (List ℕ)) (files texts others : List (List ℕ)) → map held files ≡ map (λ t. Some t) texts → map held files ≡ map (λ t. Some t) others → texts ≡ others
 one_texts held [] [] [] a b = refl
 one_texts held [] (t ∷ ts) us a b = absurd cc
 one_texts held [] [] (u ∷ us) a b = absurd cc
@@ -70,7 +70,7 @@ up_to held (f ∷ fs) (t ∷ ts) (u ∷ us) (suc n) file text a b at is =
     let other : length (u ++ concat us) ≡ length u + length (concat us) = length-append u (concat us) in
     omega (arith, same, rest, one, other)
 
-never_unread : (held : List ℕ → Option (List ℕ)) (files texts : List (List ℕ)) (r : Refusal) → AreTexts held files texts → IsUnread held files r → ⊥
+pub never_unread : (held : List ℕ → Option (List ℕ)) (files texts : List (List ℕ)) (r : Refusal) → AreTexts held files texts → IsUnread held files r → ⊥
 never_unread held files texts (NoFile n) a h = is_held held files texts n h.0 a.each h.2 h.4
 never_unread held files texts (TooLong n) a h =
     let all = up_to held files texts h.1 n h.0 h.2 a.each h.4.each h.3 h.5 in
@@ -118,7 +118,7 @@ has_tokens file (s ∷ ss) (suc n) text a at =
     let rest = has_tokens (file + 1) ss n text a.1 at in
     (rest.0, subst (λ k. Tokens k text rest.0) e rest.1)
 
-never_fault : (sources : List Source) (fault : LexFault) → AreLexed 0 sources → IsFirstFault (texts_of sources) fault → ⊥
+pub never_fault : (sources : List Source) (fault : LexFault) → AreLexed 0 sources → IsFirstFault (texts_of sources) fault → ⊥
 never_fault sources fault a h =
     let has = has_tokens 0 sources h.0 h.1 a h.3 in
     let e : 0 + h.0 ≡ h.0 = omega arith in
@@ -127,7 +127,7 @@ never_fault sources fault a h =
     let differ : None ≡ Some fault = (one_reading h.0 h.1 has.0 first.0 None (Some fault) tokens first.1).1 in
     cc differ
 
-never_unlexed : (sources : List Source) (r : Refusal) → AreLexed 0 sources → IsUnlexed (texts_of sources) r → ⊥
+pub never_unlexed : (sources : List Source) (r : Refusal) → AreLexed 0 sources → IsUnlexed (texts_of sources) r → ⊥
 never_unlexed sources (BadByte p) a h = never_fault sources _ a h
 never_unlexed sources (BadNumber p) a h = never_fault sources _ a h
 never_unlexed sources (OpenComment p) a h = never_fault sources _ a h
@@ -143,7 +143,7 @@ never_unlexed sources (NotBuilt p) a h = h
 -- ---- parsing
 
 -- two answers for one text are the same
-answers_same : (names : List (List ℕ)) (s : Source) (one other : Answer Word (List Module)) → AreDistinct names → HasAnswer names s one → HasAnswer names s other → one ≡ other
+pub answers_same : (names : List (List ℕ)) (s : Source) (one other : Answer Word (List Module)) → AreDistinct names → HasAnswer names s one → HasAnswer names s other → one ≡ other
 answers_same names s one other distinct h k =
     let words : h.words ≡ k.words = one_list names s.text s.tokens h.words k.words distinct h.are_words k.are_words in
     let right : IsAnswer grammar most_levels most_names h.words other = subst (λ ws. IsAnswer grammar most_levels most_names ws other) (sym words) k.right in
@@ -156,7 +156,7 @@ modules_in (too_deep rest) = []
 modules_in (too_many x) = []
 
 -- sources spell one list of modules
-one_spelled : (names : List (List ℕ)) (sources : List Source) (modules others : List Module) → AreDistinct names → AreSpelled names sources modules → AreSpelled names sources others → modules ≡ others
+pub one_spelled : (names : List (List ℕ)) (sources : List Source) (modules others : List Module) → AreDistinct names → AreSpelled names sources modules → AreSpelled names sources others → modules ≡ others
 one_spelled names [] modules others distinct a b = a ∙ sym b
 one_spelled names (s ∷ ss) modules others distinct a b =
     let first : a.0 ≡ b.0 = ap (λ r. modules_in r) (answers_same names s (spelled a.0) (spelled b.0) distinct a.2 b.2) in
@@ -168,7 +168,7 @@ spells_at names [] modules n s a at = absurd cc
 spells_at names (x ∷ xs) modules zero s a at = let same : x ≡ s = cc in (a.0, subst (λ y. HasAnswer names y (spelled a.0)) same a.2)
 spells_at names (x ∷ xs) modules (suc n) s a at = spells_at names xs a.1 n s a.3 at
 
-never_unspelled : (names : List (List ℕ)) (sources : List Source) (modules : List Module) (r : Refusal) → AreDistinct names → AreSpelled names sources modules → IsUnspelled names sources r → ⊥
+pub never_unspelled : (names : List (List ℕ)) (sources : List Source) (modules : List Module) (r : Refusal) → AreDistinct names → AreSpelled names sources modules → IsUnspelled names sources r → ⊥
 never_unspelled names sources modules r distinct a h =
     let has = spells_at names sources modules h.0 h.1 a h.4 in
     let same : spelled has.0 ≡ h.3 = answers_same names h.1 (spelled has.0) h.3 distinct has.1 h.6 in
@@ -197,10 +197,10 @@ abbrev main_of : Option ℕ → ℕ
 main_of (Some n) = n
 main_of None = 0
 
-design_distinct : (files : List (List ℕ)) (sources : List Source) (system : System) → IsDesignOf files sources system → AreDistinct system.names
+pub design_distinct : (files : List (List ℕ)) (sources : List Source) (system : System) → IsDesignOf files sources system → AreDistinct system.names
 design_distinct files sources system h = subst AreDistinct (sym h.names_are) (names_distinct files sources)
 
-one_of_sources : (files : List (List ℕ)) (sources : List Source) (a b : System) → IsDesignOf files sources a → IsDesignOf files sources b → a ≡ b
+pub one_of_sources : (files : List (List ℕ)) (sources : List Source) (a b : System) → IsDesignOf files sources a → IsDesignOf files sources b → a ≡ b
 one_of_sources files sources a b h k =
     let names : a.names ≡ b.names = h.names_are ∙ sym k.names_are in
     let distinct = design_distinct files sources a h in
@@ -220,12 +220,12 @@ one_design held files a b h k =
 -- ---- both
 
 -- a list without faults has no first one
-no_first : (fault : Fault) (fs : List Fault) → fs ≡ [] → IsFirst fault fs → ⊥
+pub no_first : (fault : Fault) (fs : List Fault) → fs ≡ [] → IsFirst fault fs → ⊥
 unfolding IsIn
 no_first fault fs none first = (subst (IsFirst fault) none first).0
 
 -- a design that keeps the rules breaks none first
-never_broken : (system : System) (fault : Fault) → IsKept system → IsFirstBroken system fault → ⊥
+pub never_broken : (system : System) (fault : Fault) → IsKept system → IsFirstBroken system fault → ⊥
 never_broken system fault keeps (inl first) = no_first fault (design_faults (contents_of system) main_name) keeps.0 first
 never_broken system fault keeps (inr first) = no_first fault (order_faults system) keeps.1 first.1
 

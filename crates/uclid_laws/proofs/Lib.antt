@@ -1,4 +1,6 @@
+pub mod Apart
 pub mod Passed
 pub mod Distinct
 pub mod Designs
+pub mod Refusals
 pub mod Runs

@@ -2,13 +2,14 @@
 use Rattle.std.proofs.Common.{◌≡◌, ℕ, ◌≤◌, ◌^◌, true, false, length, refl, subst, ◌∙◌, arith}
 use Rattle.std.specs.List.{All}
 use Rattle.std.proofs.lemmas.List.Elements.{All-map}
-use Rattle.uc_syntax.specs.declared.declaration.WrittenRun.TheVariants.{Unroll}
+use Rattle.uc_syntax.specs.declared.declaration.WrittenRun.TheVariants.{Unroll, Verify}
 use Rattle.uc_meaning.specs.declared.line.Line.{Line}
 use Rattle.uc_meaning.specs.Lookup.{System}
 use Rattle.uc_meaning.specs.Lines.{IsValid, all_lines}
 use Rattle.uc_laws.proofs.Checked.{checked_induction_holds}
 use Rattle.uc_laws.proofs.Commands.{command_holds}
 use Rattle.uc_laws.proofs.Induction.{unroll_holds}
+use Rattle.uc_laws.proofs.Verifying.{verify_holds}
 use Rattle.uc_control.specs.declared.report.Verdict.{Verdict}
 use Rattle.uc_control.specs.declared.report.Verdict.TheVariants.{Passed, Failed, Undef}
 use Rattle.uc_control.specs.declared.report.Report.{Report}
@@ -16,7 +17,7 @@ use Rattle.uc_control.specs.Reports.{is_passed}
 use Rattle.uc_control.specs.declared.report.Why.TheVariants.{Budget, Memory}
 use Rattle.uc_control.specs.Verdicts.{IsRightVerdict, IsHonest, is_out_of_budget}
 use Rattle.uc_judge.specs.Reports.{IsReport, line_bits}
-use Rattle.uclid_laws.specs.Laws.{AllPassed, EnoughBudget, PassedInduction, PassedUnroll}
+use Rattle.uclid_laws.specs.Laws.{AllPassed, EnoughBudget, PassedInduction, PassedUnroll, PassedVerify}
 
 passed_is_valid : (system : System) (line : Line) (v : Verdict) → IsRightVerdict system line v → is_passed v ≡ true → IsValid system line
 passed_is_valid system line Passed h e = h
@@ -39,6 +40,10 @@ passed_induction system budget report place name depth before after apart deep c
 pub passed_unroll : PassedUnroll
 passed_unroll system budget report place name depth before after apart commands checked is passed =
     unroll_holds system (length before) depth apart (command_holds system place name (Unroll depth) before after commands checked (all_valid system budget report (length before) is passed))
+
+pub passed_verify : PassedVerify
+passed_verify system budget report place name procedure before after m p main is_there commands checked is passed =
+    verify_holds system (length before) procedure m p main is_there (command_holds system place name (Verify procedure) before after commands checked (all_valid system budget report (length before) is passed))
 
 within_budget : (budget bits : ℕ) (v : Verdict) → IsHonest budget bits v → 2 ^ bits ≤ budget → is_out_of_budget v ≡ false
 within_budget budget bits (Undef (Budget b)) h room = absurd (omega (arith, h.1, room))

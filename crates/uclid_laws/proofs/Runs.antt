@@ -1,69 +1,184 @@
 -- How runs on files end.
-use Rattle.std.proofs.Common.{◌≡◌, ◌⊎◌, inl, inr, ℕ, Bool, true, false, List, Option, Some, None, refl, subst}
-use Rattle.std.specs.Prelude.{if◌then◌else◌}
-use Rattle.std.specs.List.{list_any}
+use Rattle.std.proofs.Common.{◌≡◌, ◌⊎◌, inl, inr, ℕ, zero, suc, ◌<◌, ◌≤◌, Bool, true, false, List, [], ◌∷◌, length, get_or, slice_get, Option, Some, refl, sym, ap, subst, ◌∙◌, arith}
+use Rattle.std.specs.Prelude.{if◌then◌else◌, ◌||◌, option_map}
+use Rattle.std.specs.List.{list_any, All}
+use Rattle.std.proofs.lemmas.Option.{slice_get_within, get_or_from_slice_get, slice_get-map}
 use Rattle.uc_io.specs.Faults.{Rose}
+use Rattle.uc_meaning.specs.declared.line.Line.{Line}
+use Rattle.uc_meaning.specs.declared.line.Trace.{Trace}
+use Rattle.uc_meaning.specs.Lookup.{System}
+use Rattle.uc_meaning.specs.Lines.{all_lines, Refutes}
 use Rattle.uc_control.specs.declared.report.Report.{Report}
-use Rattle.uc_control.specs.Reports.{status, is_failed, is_undecided}
+use Rattle.uc_control.specs.declared.report.Verdict.{Verdict}
+use Rattle.uc_control.specs.declared.report.Verdict.TheVariants.{Passed, Failed, Undef}
+use Rattle.uc_control.specs.declared.report.LineResult.{LineResult}
+use Rattle.uc_control.specs.Reports.{status, is_passed, is_failed, is_undecided}
+use Rattle.uc_control.specs.Verdicts.{IsRightVerdict}
+use Rattle.uc_judge.specs.Reports.{IsReport}
+use Rattle.uc_runnable.specs.Runnable.{IsRunnable}
+use Rattle.uc_front.specs.Denotes.{IsAccepted}
 use Rattle.uclid.specs.declared.answer.Session.{Session}
 use Rattle.uclid.specs.declared.answer.Answer.{Answer}
 use Rattle.uclid.specs.declared.answer.Answer.TheVariants.{Usage, Refused, Reported}
-use Rattle.uclid.specs.Answers.{is_form, IsFilesAnswer, IsAnswerFor, status_of, session_of, text_of}
-use Rattle.uclid.specs.Runs.{Wrote, WroteFront}
-use Rattle.uclid_laws.specs.Laws.{EndedByFault, HasSession, AcceptedRuns, RefusedRuns}
+use Rattle.uclid.specs.declared.top.Outcome.{Outcome}
+use Rattle.uclid.specs.Answers.{is_form, line_budget, IsFilesAnswer, IsAnswerFor, status_of, text_of}
+use Rattle.uclid.specs.Runs.{Wrote, WroteFront, EndsBy, EndsEarly, Ends}
+use Rattle.uclid_laws.specs.Laws.{AllPassed, AcceptedRuns, RefusedRuns, UnrollingsHold, CleanRun, FailedRun}
 use Rattle.uclid_laws.proofs.Designs.{one_design, never_both}
+use Rattle.uclid_laws.proofs.Refusals.{one_refusal}
+use Rattle.uclid_laws.proofs.Apart.{running_apart}
+use Rattle.uclid_laws.proofs.Passed.{passed_unroll}
+
+-- ---- answers to files
 
 files_answer : (files : List (List ℕ)) (held : List ℕ → Option (List ℕ)) (a : Answer) → is_form files ≡ true → IsAnswerFor (is_form files) true files held a → IsFilesAnswer true files held a
 files_answer files held a form right = subst (λ b. IsAnswerFor b true files held a) form right
 
-status_bits : (failed undecided : Bool) (n : ℕ) → n ≡ (if failed then 1 else (if undecided then 2 else 0)) → (n ≡ 0) ⊎ (n ≡ 1) ⊎ (n ≡ 2)
-status_bits true undecided n e = inr (inl e)
-status_bits false true n e = inr (inr e)
-status_bits false false n e = inl e
+-- a report that is answered is right
+reported_right : (files : List (List ℕ)) (held : List ℕ → Option (List ℕ)) (s : Session) → IsFilesAnswer true files held (Reported s) → IsReport s.design line_budget s.report
+reported_right files held s right = right.0
 
-report_status : (r : Report) (n : ℕ) → n ≡ status r → (n ≡ 0) ⊎ (n ≡ 1) ⊎ (n ≡ 2)
-report_status r n e = status_bits (list_any (λ l. is_failed l.verdict) r.lines) (list_any (λ l. is_undecided l.verdict) r.lines) n e
+-- and its design is the one that is accepted
+reported_accepted : (files : List (List ℕ)) (held : List ℕ → Option (List ℕ)) (s : Session) → IsFilesAnswer true files held (Reported s) → IsAccepted held files s.design
+reported_accepted files held s right = (right.3 refl, right.1, right.2)
+
+-- ---- how runs end
 
 pub accepted_runs : AcceptedRuns
-accepted_runs files held system tf tn st taken now f n o form accepted (inl e) = by e.0 e.1.session e.1.written (files_answer files held e.0 form e.1.right)
+accepted_runs files held system tf tn st taken now f n o form accepted (inr early) = inr early
+accepted_runs files held system tf tn st taken now f n o form accepted (inl e) = by e.0 e.1 (files_answer files held e.0 form e.1.right)
   where
     Done : Type 0
-    Done = (HasSession system o × ((o.status ≡ 0) ⊎ (o.status ≡ 1) ⊎ (o.status ≡ 2))) ⊎ EndedByFault tf tn f n o ⊎ (o.status ≡ 7)
+    Done = ((s : Session) × (s.design ≡ system) × IsReport system line_budget s.report × EndsBy true files held st taken now f n o (Reported s)) ⊎ EndsEarly tf tn st taken now o
 
-    Written : Answer → Type 0
-    Written a = ((o.status ≡ status_of a) × Wrote st taken now (text_of files a)) ⊎ ((o.status ≡ 6) × WroteFront st taken now f n (text_of files a))
-
-    ends : (s : Session) → o.session ≡ Some s → s.design ≡ system → ((o.status ≡ status s.report) ⊎ ((o.status ≡ 6) × Rose f n)) → Done
-    ends s session same (inl w) = inl ((s, session, same), report_status s.report o.status w)
-    ends s session same (inr w) = inr (inl (inr w))
-
-    by : (a : Answer) → o.session ≡ session_of a → Written a → IsFilesAnswer true files held a → Done
-    by Usage session w right = absurd right
-    by (Refused r) session w right = absurd (never_both held files system r accepted (right refl))
-    by (Reported s) session (inl w) right = ends s session (one_design held files s.design system (right.1 refl).0 accepted.0) (inl w.0)
-    by (Reported s) session (inr w) right = ends s session (one_design held files s.design system (right.1 refl).0 accepted.0) (inr (w.0, w.1.1))
-accepted_runs files held system tf tn st taken now f n o form accepted (inr e) = by e.status
-  where
-    by : ((o.status ≡ 5) × Rose tf tn) ⊎ (o.status ≡ 7) → (HasSession system o × ((o.status ≡ 0) ⊎ (o.status ≡ 1) ⊎ (o.status ≡ 2))) ⊎ EndedByFault tf tn f n o ⊎ (o.status ≡ 7)
-    by (inl w) = inr (inl (inl w))
-    by (inr w) = inr (inr w)
+    by : (a : Answer) → EndsBy true files held st taken now f n o a → IsFilesAnswer true files held a → Done
+    by Usage ends right = absurd right
+    by (Refused r) ends right = absurd (never_both held files system r accepted (right refl))
+    by (Reported s) ends right =
+        let same = one_design held files s.design system (reported_accepted files held s right).0 accepted.0 in
+        inl (s, same, subst (λ d. IsReport d line_budget s.report) same (reported_right files held s right), ends)
 
 pub refused_runs : RefusedRuns
-refused_runs files held refusal tf tn st taken now f n o form refused (inl e) = by e.0 e.1.session e.1.written (files_answer files held e.0 form e.1.right)
+refused_runs files held refusal tf tn st taken now f n o form refused (inr early) = inr early
+refused_runs files held refusal tf tn st taken now f n o form refused (inl e) = by e.0 e.1 (files_answer files held e.0 form e.1.right)
   where
     Done : Type 0
-    Done = (o.session ≡ None) × ((o.status ≡ 3) ⊎ EndedByFault tf tn f n o ⊎ (o.status ≡ 7))
+    Done = EndsBy true files held st taken now f n o (Refused refusal) ⊎ EndsEarly tf tn st taken now o
 
-    Written : Answer → Type 0
-    Written a = ((o.status ≡ status_of a) × Wrote st taken now (text_of files a)) ⊎ ((o.status ≡ 6) × WroteFront st taken now f n (text_of files a))
+    by : (a : Answer) → EndsBy true files held st taken now f n o a → IsFilesAnswer true files held a → Done
+    by Usage ends right = absurd right
+    by (Refused r) ends right =
+        let same = one_refusal held files r refusal (right refl) refused in
+        inl (subst (λ x. EndsBy true files held st taken now f n o (Refused x)) same ends)
+    by (Reported s) ends right = absurd (never_both held files s.design refusal (reported_accepted files held s right) refused)
 
-    by : (a : Answer) → o.session ≡ session_of a → Written a → IsFilesAnswer true files held a → Done
-    by Usage session w right = absurd right
-    by (Refused r) session (inl w) right = (session, inl w.0)
-    by (Refused r) session (inr w) right = (session, inr (inl (inr (w.0, w.1.1))))
-    by (Reported s) session w right = absurd (never_both held files s.design refusal (right.1 refl) refused)
-refused_runs files held refusal tf tn st taken now f n o form refused (inr e) = (e.session, by e.status)
+-- ---- statuses of reports
+
+usage_or_files : (form : Bool) (files : List (List ℕ)) (held : List ℕ → Option (List ℕ)) (a : Answer) → IsAnswerFor form true files held a → (a ≡ Usage) ⊎ IsFilesAnswer true files held a
+usage_or_files true files held a right = inr right
+usage_or_files false files held a right = inl right
+
+-- A right report is answered, and the status is its own.
+record Reports (files : List (List ℕ)) (held : List ℕ → Option (List ℕ)) (o : Outcome) : Type 0 where
+  session : Session
+  right : IsFilesAnswer true files held (Reported session)
+  status : status session.report ≡ o.status
+
+-- so it is where the status is at most 2
+reports : (files : List (List ℕ)) (held : List ℕ → Option (List ℕ)) (tf tn : ℕ) (st : Bool) (taken now : List ℕ) (f n : ℕ) (o : Outcome) → Ends true files held tf tn st taken now f n o → o.status ≤ 2 → Reports files held o
+reports files held tf tn st taken now f n o (inr early) small = by early.status
   where
-    by : ((o.status ≡ 5) × Rose tf tn) ⊎ (o.status ≡ 7) → (o.status ≡ 3) ⊎ EndedByFault tf tn f n o ⊎ (o.status ≡ 7)
-    by (inl w) = inr (inl (inl w))
-    by (inr w) = inr (inr w)
+    by : ((o.status ≡ 5) × Rose tf tn) ⊎ (o.status ≡ 7) → Reports files held o
+    by (inl fault) = let e = fault.0 in absurd (omega (arith, e, small))
+    by (inr memory) = absurd (omega (arith, memory, small))
+reports files held tf tn st taken now f n o (inl ends) small = written ends.1.written
+  where
+    by : (a : Answer) → o.status ≡ status_of a → (a ≡ Usage) ⊎ IsFilesAnswer true files held a → Reports files held o
+    by Usage e right = absurd (omega (arith, e, small))
+    by (Refused r) e right = absurd (omega (arith, e, small))
+    by (Reported s) e (inl usage) = absurd (cc usage)
+    by (Reported s) e (inr right) = record { session = s; right = right; status = sym e }
+
+    written : ((o.status ≡ status_of ends.0) × Wrote st taken now (text_of files ends.0)) ⊎ ((o.status ≡ 6) × WroteFront st taken now f n (text_of files ends.0)) → Reports files held o
+    written (inl w) = by ends.0 w.0 (usage_or_files (is_form files) files held ends.0 ends.1.right)
+    written (inr w) = let e = w.0 in absurd (omega (arith, e, small))
+
+-- ---- status 0
+
+-- a verdict that is none of the others passed
+neither_passed : (v : Verdict) → is_failed v ≡ false → is_undecided v ≡ false → is_passed v ≡ true
+neither_passed Passed failed undecided = refl
+neither_passed (Failed trace) failed undecided = absurd cc
+neither_passed (Undef why) failed undecided = absurd cc
+
+or_parts : (a b : Bool) → (a || b) ≡ false → (a ≡ false) × (b ≡ false)
+or_parts true b h = absurd cc
+or_parts false b h = (refl, h)
+
+-- a test that no element meets is met at no place
+none_there : {A : Type 0} (test : A → Bool) (xs : List A) → list_any test xs ≡ false → All (λ x. test x ≡ false) xs
+none_there test [] h i d lt = absurd (omega arith)
+none_there test (x ∷ xs) h zero d lt = (or_parts (test x) (list_any test xs) h).0
+none_there test (x ∷ xs) h (suc i) d lt = let lower : i < length xs = omega arith in none_there test xs (or_parts (test x) (list_any test xs) h).1 i d lower
+
+status_parts : (failed undecided : Bool) (n : ℕ) → n ≡ (if failed then 1 else (if undecided then 2 else 0)) → n ≡ 0 → (failed ≡ false) × (undecided ≡ false)
+status_parts true undecided n is e = absurd (omega (arith, is, e))
+status_parts false true n is e = absurd (omega (arith, is, e))
+status_parts false false n is e = (refl, refl)
+
+-- where the status is 0 all lines passed, whichever command they are of
+all_passed : (report : Report) (command : ℕ) → status report ≡ 0 → AllPassed command report
+all_passed report command e i d lt same =
+    let parts = status_parts (list_any (λ l. is_failed l.verdict) report.lines) (list_any (λ l. is_undecided l.verdict) report.lines) (status report) refl e in
+    neither_passed _ (none_there (λ l. is_failed l.verdict) report.lines parts.0 i d lt) (none_there (λ l. is_undecided l.verdict) report.lines parts.1 i d lt)
+
+unrollings_hold : (system : System) (budget : ℕ) (report : Report) → IsRunnable system → IsReport system budget report → status report ≡ 0 → UnrollingsHold system
+unrollings_hold system budget report runs is e place name depth before after commands checked =
+    passed_unroll system budget report place name depth before after (running_apart system runs) commands checked is (all_passed report (length before) e)
+
+pub clean_run : CleanRun
+clean_run files held tf tn st taken now f n o ends clean =
+    let r = reports files held tf tn st taken now f n o ends (omega (arith, clean)) in
+    let accepted = reported_accepted files held r.session r.right in
+    (r.session.design, accepted, unrollings_hold r.session.design line_budget r.session.report accepted.2.runnable (reported_right files held r.session r.right) (r.status ∙ clean))
+
+-- ---- status 1
+
+-- a line that failed, and where it stands
+failed_at : (ls : List LineResult) → list_any (λ l. is_failed l.verdict) ls ≡ true → (n : ℕ) × (l : LineResult) × (slice_get ls n ≡ Some l) × (is_failed l.verdict ≡ true)
+failed_at [] h = absurd cc
+failed_at (x ∷ xs) h = by (is_failed x.verdict) refl h (failed_at xs)
+  where
+    Found : Type 0
+    Found = (n : ℕ) × (l : LineResult) × (slice_get (x ∷ xs) n ≡ Some l) × (is_failed l.verdict ≡ true)
+
+    by : (b : Bool) → is_failed x.verdict ≡ b → (b || list_any (λ l. is_failed l.verdict) xs) ≡ true →
+        (list_any (λ l. is_failed l.verdict) xs ≡ true → (n : ℕ) × (l : LineResult) × (slice_get xs n ≡ Some l) × (is_failed l.verdict ≡ true)) → Found
+    by true is e more = (0, x, refl, is)
+    by false is e more = let rest = more e in (suc rest.0, rest.1, rest.2, rest.3)
+
+trace_of_failed : (system : System) (line : Line) (v : Verdict) → IsRightVerdict system line v → is_failed v ≡ true → (trace : Trace) × Refutes system line trace
+trace_of_failed system line Passed right failed = absurd cc
+trace_of_failed system line (Failed trace) right failed = (trace, right)
+trace_of_failed system line (Undef why) right failed = absurd cc
+
+one_failed : (failed undecided : Bool) (n : ℕ) → n ≡ (if failed then 1 else (if undecided then 2 else 0)) → n ≡ 1 → failed ≡ true
+one_failed true undecided n is e = refl
+one_failed false true n is e = absurd (omega (arith, is, e))
+one_failed false false n is e = absurd (omega (arith, is, e))
+
+refuted : (system : System) (budget : ℕ) (report : Report) → IsReport system budget report → status report ≡ 1 → (n : ℕ) × (line : Line) × (trace : Trace) × (slice_get (all_lines system) n ≡ Some line) × Refutes system line trace
+refuted system budget report is e =
+    let found = failed_at report.lines (one_failed (list_any (λ l. is_failed l.verdict) report.lines) (list_any (λ l. is_undecided l.verdict) report.lines) (status report) refl e) in
+    let within = slice_get_within report.lines found.0 found.1 found.2 in
+    let here : get_or report.lines found.0 found.1 ≡ found.1 = get_or_from_slice_get report.lines found.0 found.1 found.1 found.2 in
+    let right : IsRightVerdict system found.1.line found.1.verdict = subst (λ l. IsRightVerdict system l.line l.verdict) here (is.verdicts found.0 found.1 within) in
+    let trace = trace_of_failed system found.1.line found.1.verdict right found.3 in
+    let stands : slice_get (all_lines system) found.0 ≡ Some found.1.line =
+    ap (λ ls. slice_get ls found.0) (sym is.lines) ∙ slice_get-map (λ l. l.line) report.lines found.0 ∙ ap (λ o. option_map (λ l. l.line) o) found.2 in
+    (found.0, found.1.line, trace.0, stands, trace.1)
+
+pub failed_run : FailedRun
+failed_run files held tf tn st taken now f n o ends failed =
+    let r = reports files held tf tn st taken now f n o ends (omega (arith, failed)) in
+    (r.session.design, reported_accepted files held r.session r.right, refuted r.session.design line_budget r.session.report (reported_right files held r.session r.right) (r.status ∙ failed))

@@ -1,14 +1,18 @@
 -- What the answers of a run mean.
-use Rattle.std.specs.Prelude.{◌≡◌, ◌⊎◌, ℕ, ◌≤◌, ◌^◌, Bool, true, false, List, ◌∷◌, ◌++◌, length, Option, Some, None}
+use Rattle.std.specs.Prelude.{◌≡◌, ◌⊎◌, ℕ, ◌≤◌, ◌^◌, Bool, true, false, List, ◌∷◌, ◌++◌, length, slice_get, Option, Some}
 use Rattle.std.specs.List.{list_any, All}
 use Rattle.uc_lexer.specs.declared.place.Place.{Place}
 use Rattle.uc_syntax.specs.declared.place.Identifier.{Identifier}
 use Rattle.uc_syntax.specs.declared.declaration.Module.{Module}
+use Rattle.uc_syntax.specs.declared.declaration.Procedure.{Procedure}
 use Rattle.uc_syntax.specs.declared.declaration.Command.{Command}
 use Rattle.uc_syntax.specs.declared.declaration.Command.TheVariants.{Run}
-use Rattle.uc_syntax.specs.declared.declaration.WrittenRun.TheVariants.{Unroll, Induction}
-use Rattle.uc_meaning.specs.Lookup.{System}
-use Rattle.uc_meaning.specs.Lines.{commands_of, is_check}
+use Rattle.uc_syntax.specs.declared.declaration.WrittenRun.TheVariants.{Unroll, Induction, Verify}
+use Rattle.uc_meaning.specs.declared.line.Line.{Line}
+use Rattle.uc_meaning.specs.declared.line.Trace.{Trace}
+use Rattle.uc_meaning.specs.Lookup.{System, main_module, procedure_of}
+use Rattle.uc_meaning.specs.Runs.{IsCorrect}
+use Rattle.uc_meaning.specs.Lines.{commands_of, is_check, all_lines, Refutes}
 use Rattle.uc_laws.specs.Laws.{InstancesApart, HoldsAlways, HoldsUpTo, depth_of}
 use Rattle.uc_control.specs.declared.report.Report.{Report}
 use Rattle.uc_control.specs.Reports.{is_passed}
@@ -16,14 +20,15 @@ use Rattle.uc_control.specs.Verdicts.{is_out_of_budget}
 use Rattle.uc_flat.specs.declared.flat.Flat.{Flat}
 use Rattle.uc_flat_design.specs.Design.{IsFlatOf}
 use Rattle.uc_judge.specs.Reports.{IsReport, line_bits}
+use Rattle.uc_runnable.specs.Runnable.{IsRunnable}
 use Rattle.uc_front.specs.declared.refusal.Refusal.{Refusal}
-use Rattle.uc_front.specs.Denotes.{Denotes, IsAccepted}
+use Rattle.uc_front.specs.Denotes.{Denotes, IsTyped, IsAccepted}
 use Rattle.uc_front.specs.Refused.{IsRefused}
-use Rattle.uc_io.specs.Faults.{Rose}
 use Rattle.uclid.specs.declared.answer.Session.{Session}
+use Rattle.uclid.specs.declared.answer.Answer.TheVariants.{Refused, Reported}
 use Rattle.uclid.specs.declared.top.Outcome.{Outcome}
-use Rattle.uclid.specs.Answers.{is_form}
-use Rattle.uclid.specs.Runs.{Ends}
+use Rattle.uclid.specs.Answers.{is_form, line_budget}
+use Rattle.uclid.specs.Runs.{EndsBy, EndsEarly, Ends}
 
 -- what is held under the files' names denotes at most one design
 abbrev pub OneDesign : Type 0
@@ -33,29 +38,34 @@ OneDesign = (held : List ℕ → Option (List ℕ)) (files : List (List ℕ)) (o
 abbrev pub NeverBoth : Type 0
 NeverBoth = (held : List ℕ → Option (List ℕ)) (files : List (List ℕ)) (system : System) (refusal : Refusal) → IsAccepted held files system → IsRefused held files refusal → ⊥
 
--- A run ended by a fault: status 5 where the texts counted one, 6 where the sink did.
-abbrev pub EndedByFault : ℕ → ℕ → ℕ → ℕ → Outcome → Type 0
-EndedByFault texts_faults texts_faults_now faults faults_now o = ((o.status ≡ 5) × Rose texts_faults texts_faults_now) ⊎ ((o.status ≡ 6) × Rose faults faults_now)
+-- what is held under the files' names is refused in one way: its refusal has one number and one place
+abbrev pub OneRefusal : Type 0
+OneRefusal = (held : List ℕ → Option (List ℕ)) (files : List (List ℕ)) (one other : Refusal) → IsRefused held files one → IsRefused held files other → one ≡ other
 
--- the session of an outcome is of this design
-abbrev pub HasSession : System → Outcome → Type 0
-HasSession system o = (s : Session) × (o.session ≡ Some s) × (s.design ≡ system)
-
--- Where the bytes of the files are accepted as a design, a run on them ends with the status of its report and a session of just that design, but for a fault, which was counted, and want of memory.
+-- Where the bytes of the files are accepted as a design, a run on them ends by the report of just that design: its report is right, and the status and the text are those of this report. Or it ends early, by a fault, which was counted, or for want of memory.
 abbrev pub AcceptedRuns : Type 0
 AcceptedRuns =
     (files : List (List ℕ)) (held : List ℕ → Option (List ℕ)) (system : System) (texts_faults texts_faults_now : ℕ) (sink_tells : Bool) (taken taken_now : List ℕ) (faults faults_now : ℕ) (o : Outcome) →
     is_form files ≡ true → IsAccepted held files system →
     Ends true files held texts_faults texts_faults_now sink_tells taken taken_now faults faults_now o →
-    (HasSession system o × ((o.status ≡ 0) ⊎ (o.status ≡ 1) ⊎ (o.status ≡ 2))) ⊎ EndedByFault texts_faults texts_faults_now faults faults_now o ⊎ (o.status ≡ 7)
+    ((s : Session) × (s.design ≡ system) × IsReport system line_budget s.report × EndsBy true files held sink_tells taken taken_now faults faults_now o (Reported s))
+    ⊎ EndsEarly texts_faults texts_faults_now sink_tells taken taken_now o
 
--- Where they are refused, a run on them ends with status 3 and without a session, but for the same.
+-- Where they are refused, a run on them ends by just that refusal: status 3 and its line, without a session; or early.
 abbrev pub RefusedRuns : Type 0
 RefusedRuns =
     (files : List (List ℕ)) (held : List ℕ → Option (List ℕ)) (refusal : Refusal) (texts_faults texts_faults_now : ℕ) (sink_tells : Bool) (taken taken_now : List ℕ) (faults faults_now : ℕ) (o : Outcome) →
     is_form files ≡ true → IsRefused held files refusal →
     Ends true files held texts_faults texts_faults_now sink_tells taken taken_now faults faults_now o →
-    (o.session ≡ None) × ((o.status ≡ 3) ⊎ EndedByFault texts_faults texts_faults_now faults faults_now o ⊎ (o.status ≡ 7))
+    EndsBy true files held sink_tells taken taken_now faults faults_now o (Refused refusal) ⊎ EndsEarly texts_faults texts_faults_now sink_tells taken taken_now o
+
+-- no module in use of a design that keeps the static rules declares two instances of one name
+abbrev pub TypedApart : Type 0
+TypedApart = (system : System) → IsTyped system → InstancesApart system
+
+-- nor does one of a design that runs
+abbrev pub RunningApart : Type 0
+RunningApart = (system : System) → IsRunnable system → InstancesApart system
 
 -- A line whose budget is at least 2 to its free bits is not undecided by its budget.
 abbrev pub EnoughBudget : Type 0
@@ -80,3 +90,31 @@ PassedUnroll =
     (system : System) (budget : ℕ) (report : Report) (place : Place) (name : Option Identifier) (depth : ℕ) (before after : List Command) → InstancesApart system →
     commands_of system ≡ before ++ (Run place name (Unroll depth) ∷ after) → list_any is_check after ≡ true →
     IsReport system budget report → AllPassed (length before) report → HoldsUpTo system depth
+
+-- Where a later `check` follows the verification of a procedure, and all of its lines passed, the procedure is correct.
+abbrev pub PassedVerify : Type 0
+PassedVerify =
+    (system : System) (budget : ℕ) (report : Report) (place : Place) (name : Option Identifier) (procedure : Identifier) (before after : List Command) (m : Module) (p : Procedure) →
+    main_module system ≡ Some m → procedure_of m procedure.name ≡ Some p →
+    commands_of system ≡ before ++ (Run place name (Verify procedure) ∷ after) → list_any is_check after ≡ true →
+    IsReport system budget report → AllPassed (length before) report → IsCorrect system m p
+
+-- every unrolling of a design that a later `check` follows is right: everything holds in the runs of at most so many steps
+abbrev pub UnrollingsHold : System → Type 0
+UnrollingsHold system =
+    (place : Place) (name : Option Identifier) (depth : ℕ) (before after : List Command) →
+    commands_of system ≡ before ++ (Run place name (Unroll depth) ∷ after) → list_any is_check after ≡ true → HoldsUpTo system depth
+
+-- Where a run on texts whose bytes are told ends with status 0, these are accepted as a design, and all its unrollings hold.
+abbrev pub CleanRun : Type 0
+CleanRun =
+    (files : List (List ℕ)) (held : List ℕ → Option (List ℕ)) (texts_faults texts_faults_now : ℕ) (sink_tells : Bool) (taken taken_now : List ℕ) (faults faults_now : ℕ) (o : Outcome) →
+    Ends true files held texts_faults texts_faults_now sink_tells taken taken_now faults faults_now o → o.status ≡ 0 →
+    (system : System) × IsAccepted held files system × UnrollingsHold system
+
+-- Where such a run ends with status 1, the texts are accepted as a design, and a trace refutes one of its lines.
+abbrev pub FailedRun : Type 0
+FailedRun =
+    (files : List (List ℕ)) (held : List ℕ → Option (List ℕ)) (texts_faults texts_faults_now : ℕ) (sink_tells : Bool) (taken taken_now : List ℕ) (faults faults_now : ℕ) (o : Outcome) →
+    Ends true files held texts_faults texts_faults_now sink_tells taken taken_now faults faults_now o → o.status ≡ 1 →
+    (system : System) × IsAccepted held files system × ((n : ℕ) × (line : Line) × (trace : Trace) × (slice_get (all_lines system) n ≡ Some line) × Refutes system line trace)

@@ -6,7 +6,7 @@ use std::process::ExitCode;
 use std::{env, io};
 use uc_files::{FileTexts, WriterSink};
 use uc_log::CountMeter;
-use uclid::{Outcome, run};
+use uclid::run;
 
 /// The status where the words of the command line could not be had.
 const NO_WORDS: u8 = 7;
@@ -21,14 +21,8 @@ fn main(rt: HostRuntime) -> ExitCode {
     let mut texts = FileTexts::new(&rt);
     let mut out = WriterSink::new(io::writer(&rt));
     let mut meter = CountMeter::new();
-    ExitCode::from(status_in(run(rt.alloc(), &words, &mut texts, &mut out, &mut meter)))
-}
-
-/// The status of an outcome, of which nothing else is kept.
-fn status_in(outcome: Outcome) -> u8 {
-    let status = outcome.status;
-    drop(outcome);
-    status
+    let outcome = run(rt.alloc(), &words, &mut texts, &mut out, &mut meter);
+    ExitCode::from(outcome.into_status())
 }
 
 /// The words after the program's name.

@@ -13,7 +13,7 @@ use std::alloc::{AllocError, Global};
 use std::{fs, io};
 use uc_files::{FileTexts, WriterSink};
 use uc_log::CountMeter;
-use uclid::{Outcome, run};
+use uclid::run;
 
 fn main(rt: HostRuntime) -> io::Result<()> {
     let rows = fs::read_to_string(&rt, "rows")?;
@@ -31,14 +31,8 @@ fn status_of(rt: &HostRuntime, row: &str) -> Result<u8, AllocError> {
     let mut texts = FileTexts::new(rt);
     let mut out = WriterSink::new(io::writer(rt));
     let mut meter = CountMeter::new();
-    Ok(status_in(run(rt.alloc(), &words, &mut texts, &mut out, &mut meter)))
-}
-
-/// The status of an outcome, of which nothing else is kept.
-fn status_in(outcome: Outcome) -> u8 {
-    let status = outcome.status;
-    drop(outcome);
-    status
+    let outcome = run(rt.alloc(), &words, &mut texts, &mut out, &mut meter);
+    Ok(outcome.into_status())
 }
 
 fn words_of(alloc: Global, row: &str) -> Result<Vec<&str>, AllocError> {

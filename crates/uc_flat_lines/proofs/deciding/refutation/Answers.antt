@@ -30,12 +30,12 @@ pub returns-in_default-clause-honest : goal.returns-in_default-clause-honest
 returns-in_default-clause-honest g c =
     never_untold c.args.f.now c.args.budget c.args.steps _ _ c.in_ok-goal.goal c.in-Some.model c.in_ok-solution.ensures.grown c.in_ok-goal.ensures.truth.there
     (subst (IsSolution c.goal.new.terms c.in_ok-goal.goal) c.in-Some.is c.in_ok-solution.ensures.solution) c.in_ok-goal.ensures.known
-    (subst (IsTold c.args.f.now c.args.steps c.solution.new.terms c.in_ok-goal.goal c.in-Some.model) c.in_default.is c.in_ok-trace-in-Some.ensures)
+    (subst (IsTold c.args.f.now c.args.steps c.solution.new.terms c.in_ok-goal.goal c.in-Some.model) c.in_default.is c.in_ok-trace-in-Some.ensures.told)
 
 pub returns-in-Some-2-clause-outcome : goal.returns-in-Some-2-clause-outcome
 returns-in-Some-2-clause-outcome g c =
     one_all c.args.f.now c.args.k c.args.steps _ _ _ c.in-Some-2.trace c.in_ok-solution.ensures.grown c.in_ok-goal.ensures.truth.there c.in_ok-goal.ensures.goal
-    (subst (IsTold c.args.f.now c.args.steps c.solution.new.terms c.in_ok-goal.goal c.in-Some.model) c.in-Some-2.is c.in_ok-trace-in-Some.ensures)
+    (subst (IsTold c.args.f.now c.args.steps c.solution.new.terms c.in_ok-goal.goal c.in-Some.model) c.in-Some-2.is c.in_ok-trace-in-Some.ensures.told)
 
 pub returns-in_err-solution-clause-honest : goal.returns-in_err-solution-clause-honest
 returns-in_err-solution-clause-honest g c =

@@ -10,7 +10,7 @@ loop-clause-init c = each_begin (one_clause c.args.place) _ _ _ _
 pub loop-clause-preserved : goal.loop-clause-preserved
 loop-clause-preserved c =
     each_more (one_clause c.args.place) _ _ _ _ _ _ _ _ _ c.clause-item.result _ c.loop-clause.invariant c.loop-clause-test.true c.clause-item.is
-    (clause_went c.args.place _ _ _ _ _ _ _ c.modified_in.ensures c.in_ok-note_names.ensures)
+    (clause_went c.args.place _ _ _ _ _ _ _ c.modified_in.ensures.names c.in_ok-note_names.ensures)
 
 pub returns : goal.returns
 returns c =

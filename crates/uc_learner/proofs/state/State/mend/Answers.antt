@@ -9,11 +9,23 @@ use Rattle.uc_learner.specs.declared.state.State.{State}
 use Rattle.uc_learner.proofs.Walking.{clause_read}
 use Rattle.uc_learner.proofs.Learning.{length-values}
 use Rattle.uc_learner.proofs.Progress.{implied_inside, forced_room}
-use Rattle.uc_learner.proofs.Queue.{look_at, look_none, mended_stays, mended_conflict, mended_pushed, mended_moved}
+use Rattle.uc_learner.proofs.Queue.{look_at, look_none, other_inside, mended_stays, mended_conflict, mended_pushed, mended_moved}
 use Rattle.uc_learner.proofs.state.State.mend.Goals as goal
+
+pub index-requires : goal.index-requires
+index-requires c =
+    let inside : c.partner.result < length c.args.self.now.watches.watched.items = other_inside c.args.self.now c.args.slot _ c.requires.ready c.requires.at_false c.partner.ensures in
+    omega (arith, inside, c.args.self.now.watches.watched.ok.0)
 
 pub returns-in_default : goal.returns-in_default
 returns-in_default c = absurd (look_none c.args.self.now c.args.slot _ _ c.requires.ready c.requires.at_false c.partner.ensures c.index.ensures c.in_default.not-Some)
+
+pub index-requires-2 : goal.index-requires-2
+index-requires-2 c =
+    let s : State = c.args.self.now in
+    let slots : SlotOf s.clauses.items s.watches.watched.items c.args.slot c.requires.at_false.literal c.in-Some.other =
+    look_at s c.args.slot _ _ c.in-Some.other c.requires.ready c.requires.at_false c.partner.ensures c.index.ensures c.in-Some.is in
+    omega (arith, slots.inside, s.clauses.ok.0)
 
 pub fate_of-requires-clause-within : goal.fate_of-requires-clause-within
 fate_of-requires-clause-within c =
@@ -84,3 +96,12 @@ returns-in-Implies c =
     let forces : Forces s.values.items c.as_slice.result.now c.in-Implies.literal = subst (λ (v : List (Option Bool)). Forces v c.as_slice.result.now c.in-Implies.literal) c.as_slice-2.ensures.value c.in-Implies.ensures.0 in
     mended_pushed s c.push.new.self c.args.slot c.in-Some.other _ c.requires.ready slots.partner c.push.ensures refl slots.inside
     (subst (λ (k : List Lit). Forces s.values.items k c.in-Implies.literal) same forces) c.in-Implies.ensures.1
+
+pub returns-in-Conflict : goal.returns-in-Conflict
+returns-in-Conflict c =
+    let s : State = c.args.self.now in
+    let slots : SlotOf s.clauses.items s.watches.watched.items c.args.slot c.requires.at_false.literal c.in-Some.other =
+    look_at s c.args.slot _ _ c.in-Some.other c.requires.ready c.requires.at_false c.partner.ensures c.index.ensures c.in-Some.is in
+    let same : c.as_slice.result.now ≡ get_or s.clauses.items (c.args.slot / 2) [] = clause_read s (c.args.slot / 2) _ _ slots.inside c.index-2.ensures c.as_slice.ensures in
+    mended_conflict s c.args.slot c.requires.ready slots.inside
+    (subst (IsFalsified s.values.items) same (subst (λ (v : List (Option Bool)). IsFalsified v c.as_slice.result.now) c.as_slice-2.ensures.value c.in-Conflict.ensures))

@@ -1,15 +1,50 @@
 use Rattle.std.proofs.Common.{arith, refl, subst, sym, ap, inl, inr, ◌∙◌, ◌^◌, Bool, false, List, Option}
+use Rattle.std.proofs.lemmas.Nat.{pow_pos}
 use Rattle.uc_log.specs.Problems.{Question}
 use Rattle.uc_learner.specs.Opened.{known_now, HasQuestion}
+use Rattle.uc_learner.specs.Moves.{Ready}
 use Rattle.uc_learner.specs.Answered.{Holds, GoesOn, inputs_count}
 use Rattle.uc_learner.proofs.Opening.{accepted}
 use Rattle.uc_learner.proofs.Queue.{waiting_none}
 use Rattle.uc_learner.proofs.Completion.{candidate_true}
-use Rattle.uc_learner.proofs.Answering.{Started, started, holds_same, extends_same, extends_more, went_on, refuted_by, settled_on, used_up}
+use Rattle.uc_learner.proofs.Answering.{Started, started, holds_same, kept_same, kept_on, not_found, not_stopped, one_end, went_on, refuted_by, settled_on, used_up}
 use Rattle.uc_learner.proofs.state.State.next.Goals as goal
 
-pub returns-in-Some-clause-refuted : goal.returns-in-Some-clause-refuted
-returns-in-Some-clause-refuted g c = λ _. accepted c.args.terms.now (g.M.Meter.opened c.repeat_empty.new.meter) c.repeat_empty.new.log c.in_ok-repeat_empty.ensures.recorded.valid c.in_ok-repeat_empty.ensures.ok
+pub returns-then-len-budget-clause-kept : goal.returns-then-len-budget-clause-kept
+returns-then-len-budget-clause-kept g c = kept_same g.M.Meter.opened g.M.Meter.here g.M.Meter.total c.args.terms.now c.args.meter.now c.args.log.now c.requires.recorded
+
+pub returns-then-len-budget-clause-candidate : goal.returns-then-len-budget-clause-candidate
+returns-then-len-budget-clause-candidate g c = λ is. absurd (not_found _ _ is)
+
+pub returns-then-len-budget-clause-refuted : goal.returns-then-len-budget-clause-refuted
+returns-then-len-budget-clause-refuted g c = λ is. absurd (not_found _ _ is)
+
+pub returns-then-len-budget-clause-within : goal.returns-then-len-budget-clause-within
+returns-then-len-budget-clause-within g c = λ room. room
+
+pub returns-then-len-budget-clause-enough : goal.returns-then-len-budget-clause-enough
+returns-then-len-budget-clause-enough g c = λ room _. omega (arith, pow_pos (inputs_count c.args.self.now.inputs.items), c.requires.recorded.count)
+
+pub returns-then-len-budget-clause-unit : goal.returns-then-len-budget-clause-unit
+returns-then-len-budget-clause-unit g c = λ room _ _. omega (arith, c.requires.recorded.count)
+
+pub returns-in_err-repeat_empty-clause-kept : goal.returns-in_err-repeat_empty-clause-kept
+returns-in_err-repeat_empty-clause-kept g c = c.in_err-repeat_empty.ensures.records.kept
+
+pub returns-in_err-repeat_empty-clause-within : goal.returns-in_err-repeat_empty-clause-within
+returns-in_err-repeat_empty-clause-within g c = λ room. omega (arith, c.in_err-repeat_empty.ensures.records.few, c.requires.recorded.count)
+
+pub returns-in-Some : goal.returns-in-Some
+returns-in-Some g c = record {
+  kept = c.in_ok-repeat_empty.ensures.records.kept;
+  candidate = λ is. absurd (one_end _ is refl);
+  refuted =
+      λ _. accepted c.args.terms.now (g.M.Meter.opened c.repeat_empty.new.meter) c.repeat_empty.new.log c.in_ok-repeat_empty.ensures.records.kept.recorded.valid c.in_ok-repeat_empty.ensures.ok;
+  budget = λ is. absurd (not_stopped _ _ is);
+  within = λ room. omega (arith, c.in_ok-repeat_empty.ensures.records.few, c.requires.recorded.count);
+  enough = λ _ is. not_stopped _ _ is;
+  unit = λ _ _ is. not_stopped _ _ is;
+}
 
 pub loop-conflict-init : goal.loop-conflict-init
 loop-conflict-init g c =
@@ -18,25 +53,69 @@ loop-conflict-init g c =
       ready = start.ready;
       waiting = waiting_none c.cut.new.self c.cut.ensures.head;
       inputs = c.cut.ensures.cut.inputs;
-      recorded = c.requires.recorded;
-      opened = refl;
-      total = refl;
+      kept = kept_same g.M.Meter.opened g.M.Meter.here g.M.Meter.total c.args.terms.now c.args.meter.now c.args.log.now c.requires.recorded;
       holds = holds_same c.args.self.now c.cut.new.self 0 _ c.cut.ensures.cut c.requires.holds;
       within = λ room. room;
       none_empty = c.in_default.ensures;
-      stay = extends_same c.args.log.now;
       count = omega (arith, start.all_left, ap (λ (k : List Bool). 2 ^ inputs_count k) c.cut.ensures.cut.inputs);
       settled = inl (refl, start.none, c.cut.ensures.cut.clauses);
     }
+
+pub returns-then-len-budget-2-clause-kept : goal.returns-then-len-budget-2-clause-kept
+returns-then-len-budget-2-clause-kept g c = c.loop-conflict.invariant.kept
+
+pub returns-then-len-budget-2-clause-candidate : goal.returns-then-len-budget-2-clause-candidate
+returns-then-len-budget-2-clause-candidate g c = λ is. absurd (not_found _ _ is)
+
+pub returns-then-len-budget-2-clause-refuted : goal.returns-then-len-budget-2-clause-refuted
+returns-then-len-budget-2-clause-refuted g c = λ is. absurd (not_found _ _ is)
+
+pub returns-then-len-budget-2-clause-budget : goal.returns-then-len-budget-2-clause-budget
+returns-then-len-budget-2-clause-budget g c = λ _. sym c.loop-conflict.invariant.kept.recorded.count ∙ (sym c.len-in-loop-conflict.ensures ∙ c.if-len-budget-2.true)
+
+pub returns-then-len-budget-2-clause-within : goal.returns-then-len-budget-2-clause-within
+returns-then-len-budget-2-clause-within g c = c.loop-conflict.invariant.within
 
 pub returns-then-len-budget-2-clause-unit : goal.returns-then-len-budget-2-clause-unit
 returns-then-len-budget-2-clause-unit g c =
     λ room refutable _. used_up c.args.self.now c.loop-conflict.self c.loop-conflict.log c.args.log.now c.args.budget (g.M.Meter.here c.args.meter.now)
     c.loop-conflict.invariant.settled (sym c.len-in-loop-conflict.ensures ∙ c.if-len-budget-2.true) c.requires.recorded.count room refutable
 
-pub returns-then-branch-clause-refuted : goal.returns-then-branch-clause-refuted
-returns-then-branch-clause-refuted g c = λ _. accepted c.args.terms.now (g.M.Meter.opened c.conclude.new.meter) c.conclude.new.log c.in_ok-conclude.ensures.recorded.valid
-    (refuted_by c.descend.new.self c.conclude.new.self c.loop-conflict.log c.conclude.new.log _ c.in_ok-conclude.field-0 c.if-branch.true c.in_ok-conclude.ensures.ok)
+pub returns-in_err-conclude-clause-kept : goal.returns-in_err-conclude-clause-kept
+returns-in_err-conclude-clause-kept g c =
+    kept_on g.M.Meter.opened g.M.Meter.here g.M.Meter.total c.args.terms.now _ _ _ _ _ _ c.loop-conflict.invariant.kept c.in_err-conclude.ensures.records.kept
+
+pub returns-in_err-conclude-clause-within : goal.returns-in_err-conclude-clause-within
+returns-in_err-conclude-clause-within g c =
+    λ room. omega (
+      arith,
+      c.loop-conflict.invariant.within room,
+      c.if-len-budget-2.false,
+      c.len-in-loop-conflict.ensures,
+      c.loop-conflict.invariant.kept.recorded.count,
+      c.in_err-conclude.ensures.records.few,
+    )
+
+pub returns-then-branch : goal.returns-then-branch
+returns-then-branch g c = record {
+  kept = kept_on g.M.Meter.opened g.M.Meter.here g.M.Meter.total c.args.terms.now _ _ _ _ _ _ c.loop-conflict.invariant.kept c.in_ok-conclude.ensures.records.kept;
+  candidate = λ is. absurd (one_end _ is refl);
+  refuted =
+      λ _. accepted c.args.terms.now (g.M.Meter.opened c.conclude.new.meter) c.conclude.new.log c.in_ok-conclude.ensures.records.kept.recorded.valid
+      (refuted_by c.descend.new.self c.conclude.new.self c.loop-conflict.log c.conclude.new.log _ c.in_ok-conclude.field-0 c.if-branch.true c.in_ok-conclude.ensures.ok);
+  budget = λ is. absurd (not_stopped _ _ is);
+  within =
+      λ room. omega (
+        arith,
+        c.loop-conflict.invariant.within room,
+        c.if-len-budget-2.false,
+        c.len-in-loop-conflict.ensures,
+        c.loop-conflict.invariant.kept.recorded.count,
+        c.in_ok-conclude.ensures.records.few,
+      );
+  enough = λ _ is. not_stopped _ _ is;
+  unit = λ _ _ is. not_stopped _ _ is;
+}
 
 pub loop-conflict-preserved : goal.loop-conflict-preserved
 loop-conflict-preserved g c =
@@ -45,21 +124,33 @@ loop-conflict-preserved g c =
     went_on c.descend.new.self c.conclude.new.self c.loop-conflict.log c.conclude.new.log _ c.in_ok-conclude.field-0 c.if-branch.false c.in_ok-conclude.ensures.ok in
     record {
       ready = on.1;
-      waiting = c.in_ok-conclude.ensures.waiting c.if-branch.false;
+      waiting = on.6;
       inputs = on.4 ∙ c.descend.ensures.onward.inputs ∙ inv.inputs;
-      recorded = c.in_ok-conclude.ensures.recorded;
-      opened = c.in_ok-conclude.ensures.opened ∙ inv.opened;
-      total = omega (arith, inv.total, c.in_ok-conclude.ensures.total);
-      holds = subst (λ (k : Option Question). Holds c.conclude.new.self (known_now k c.conclude.new.log)) (sym c.in_ok-conclude.ensures.opened) on.0;
-      within = λ room. omega (arith, inv.within room, c.if-len-budget-2.false, c.len-in-loop-conflict.ensures, inv.recorded.count, c.in_ok-conclude.ensures.few);
+      kept = kept_on g.M.Meter.opened g.M.Meter.here g.M.Meter.total c.args.terms.now _ _ _ _ _ _ inv.kept c.in_ok-conclude.ensures.records.kept;
+      holds = subst (λ (k : Option Question). Holds c.conclude.new.self (known_now k c.conclude.new.log)) (sym c.in_ok-conclude.ensures.records.kept.still_open) on.0;
+      within = λ room. omega (arith, inv.within room, c.if-len-budget-2.false, c.len-in-loop-conflict.ensures, inv.kept.recorded.count, c.in_ok-conclude.ensures.records.few);
       none_empty = on.2;
-      stay = extends_more c.args.log.now c.loop-conflict.log c.conclude.new.log inv.stay c.in_ok-conclude.ensures.stay;
       count = omega (arith, inv.count, on.3, c.descend.ensures.onward.left_le, c.in_ok-conclude.ensures.ok.one_more);
       settled = inr (settled_on c.args.self.now c.loop-conflict.self c.descend.new.self c.loop-conflict.log c.args.log.now inv.settled c.descend.ensures.decided on.5);
     }
 
-pub returns-in_default-descend-clause-candidate : goal.returns-in_default-descend-clause-candidate
-returns-in_default-descend-clause-candidate g c =
-    λ _. candidate_true c.loop-conflict.self c.descend.new.self c.args.terms.now (g.M.Meter.opened c.loop-conflict.meter) c.loop-conflict.log c.descend.result c.in_default-descend.is c.descend.ensures
-    c.loop-conflict.invariant.holds c.loop-conflict.invariant.recorded.valid
-    (subst HasQuestion (sym c.loop-conflict.invariant.opened) c.look_at_problem.ensures)
+pub returns-in_default-descend : goal.returns-in_default-descend
+returns-in_default-descend g c =
+    let inv = c.loop-conflict.invariant in
+    let ready : Ready c.descend.new.self = c.descend.ensures.onward.ready in
+    record {
+      kept = inv.kept;
+      candidate = λ _. record {
+        whole = record { sound = ready.sound; watched = ready.watched; room = ready.room };
+        holds = record { inputs = c.descend.ensures.onward.inputs ∙ inv.holds.inputs; clauses = c.descend.ensures.onward.clauses ∙ inv.holds.clauses };
+        satisfies =
+            candidate_true c.loop-conflict.self c.descend.new.self c.args.terms.now (g.M.Meter.opened c.loop-conflict.meter) c.loop-conflict.log c.descend.result c.in_default-descend.is c.descend.ensures
+            inv.holds inv.kept.recorded.valid
+            (subst HasQuestion (sym inv.kept.still_open) c.look_at_problem.ensures);
+      };
+      refuted = λ is. absurd (one_end _ refl is);
+      budget = λ is. absurd (not_stopped _ _ is);
+      within = inv.within;
+      enough = λ _ is. not_stopped _ _ is;
+      unit = λ _ _ is. not_stopped _ _ is;
+    }

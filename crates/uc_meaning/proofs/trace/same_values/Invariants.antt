@@ -1,6 +1,0 @@
-use Rattle.std.proofs.Common.{◌≡◌, drop}
-use Rattle.uc_values.specs.Tables.{same_scalars}
-use Rattle.uc_meaning.proofs.trace.same_values.Given as goal
-
-abbrev pub invariant-loop-place : goal.invariant-loop-place
-invariant-loop-place l = same_scalars l.left l.right ≡ same_scalars (drop l.place l.left) (drop l.place l.right)

@@ -1,0 +1,5 @@
+use Rattle.uclid_laws.proofs.Runs as laws
+use Rattle.uclid_laws.proofs.failed_run.Goals as goal
+
+pub returns : goal.returns
+returns c = laws.failed_run
