@@ -1,6 +1,5 @@
 //! Faults of the texts and of the sink, and words and texts that no row can have.
 
-use crate::status_in;
 use std::alloc::{AllocError, Global};
 use std::process::Abort;
 use std::test::Fail;
@@ -60,7 +59,7 @@ fn add_file(
 /// The status of a run. Nothing else of what it gives is kept.
 fn status_of(alloc: Global, words: &[&str], texts: &mut MemTexts, sink: &mut MemSink) -> u8 {
     let mut meter = CountMeter::new();
-    status_in(run(alloc, words, texts, sink, &mut meter))
+    run(alloc, words, texts, sink, &mut meter).into_status()
 }
 
 const TOGGLE: &[u8] =
