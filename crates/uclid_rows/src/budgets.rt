@@ -1,7 +1,8 @@
 //! Lines that a budget leaves undecided.
 
+use crate::in_memory::{file_of, print_ended};
 use std::alloc::{AllocError, Global};
-use std::process::Abort;
+use std::io;
 use uc_control::{report_text, status_of};
 use uc_front::read_design;
 use uc_io::MemTexts;
@@ -13,68 +14,31 @@ use uc_runnable::Runnable;
 const PIGEONS: &[u8] =
     b"module main { var a, b, c, d, e, f : boolean; invariant crowded : !(a || b) || !(c || d) || !(e || f) || !(!a || !c) || !(!a || !e) || !(!c || !e) || !(!b || !d) || !(!b || !f) || !(!d || !f); invariant some : a || b; control { unroll(0); check; print_results; } }";
 
-/// A budget, the status, and the report.
-type Row = (u64, u8, &'static [u8]);
-
-const ROWS: [Row; 2] = [
-    (
-        1,
-        1,
-        b"0 assertions passed.\n1 assertions failed.\n1 assertions indeterminate.\n  UNDEF (budget 1) -> unroll [step 0] invariant crowded\n  FAILED -> unroll [step 0] invariant some\n",
-    ),
-    // 2 to the number of variables is enough.
-    (
-        64,
-        1,
-        b"1 assertions passed.\n1 assertions failed.\n0 assertions indeterminate.\n  PASSED -> unroll [step 0] invariant crowded\n  FAILED -> unroll [step 0] invariant some\n",
-    ),
-];
-
-/// The text, under its name.
-fn texts_of(alloc: Global, text: &[u8]) -> Result<MemTexts, AllocError> {
-    let text = text.to_vec(alloc)?;
-    let name = String::from_str(alloc, "m.ucl")?;
+/// By a budget of one entry, and by 2 to the number of variables, which is enough.
+pub(crate) fn print_budgets(rt: &HostRuntime) -> io::Result<()> {
+    let alloc = rt.alloc();
     let mut files = Vec::new(alloc);
-    files.push((name, text))?;
-    Ok(MemTexts::new(files, 4096, Vec::new(alloc)))
+    files.push(file_of(alloc, "m.ucl", PIGEONS)?)?;
+    let mut texts = MemTexts::new(files, 4096, Vec::new(alloc));
+    match read_design(alloc, &mut texts, &["m.ucl"]) {
+        Ok(design) => print_judged(rt, &design),
+        Err(_) => println!(rt; "the design is refused"),
+    }
 }
 
-fn design_of(rt: &impl Abort, alloc: Global, text: &[u8]) -> Result<Runnable, AllocError> {
-    let mut texts = texts_of(alloc, text)?;
-    match read_design(alloc, &mut texts, &["m.ucl"]) {
-        Ok(design) => Ok(design),
-        Err(_) => panic!(rt; "the design is refused"),
+fn print_judged(rt: &HostRuntime, design: &Runnable) -> io::Result<()> {
+    for budget in [1, 64] {
+        println!(rt; "# budget {budget}")?;
+        let (status, text) = judged(rt.alloc(), design, budget)?;
+        print_ended(rt, text.as_slice(), status)?;
     }
+    Ok(())
 }
 
 /// The status and the report under a budget.
-fn judged(alloc: Global, d: &Runnable, budget: u64) -> Result<(u8, Vec<u8>), AllocError> {
+fn judged(alloc: Global, design: &Runnable, budget: u64) -> Result<(u8, Vec<u8>), AllocError> {
     let mut meter = CountMeter::new();
-    let report = run_control(alloc, d, budget.max(1), &mut meter)?;
-    let text = report_text(alloc, &shown_design(d), &report)?;
+    let report = run_control(alloc, design, budget.max(1), &mut meter)?;
+    let text = report_text(alloc, &shown_design(design), &report)?;
     Ok((status_of(&report), text))
-}
-
-fn check_budget(rt: &impl Abort, alloc: Global, d: &Runnable, row: &Row) -> Result<(), AllocError> {
-    let &(budget, status, written) = row;
-    let (found, text) = judged(alloc, d, budget)?;
-    assert_eq!(rt; found, status);
-    assert_eq!(rt; text.as_slice(), written);
-    Ok(())
-}
-
-fn check_budgets(rt: &impl Abort, alloc: Global, d: &Runnable) -> Result<(), AllocError> {
-    for row in &ROWS {
-        check_budget(rt, alloc, d, row)?;
-    }
-    Ok(())
-}
-
-#[test]
-fn a_budget_decides_or_is_told(rt: HostRuntime) -> Result<(), AllocError> {
-    let alloc = rt.alloc();
-    let design = design_of(&rt, alloc, PIGEONS)?;
-    let checked = check_budgets(&rt, alloc, &design);
-    drop(design);
-    checked
 }

@@ -1,14 +1,16 @@
 //! Worked rows of the whole verifier. Each line of the file `rows` has the words of one command line, which name files beside it. What each
-//! run writes, and its status, are printed, and the gate compares them with what is wanted.
+//! run writes, and its status, are printed. Behind them come runs that no line of the file can have: texts and a sink in memory, whose calls
+//! fail in turn, texts past the limit, designs of many variables, other budgets. The gate compares all of it with what is wanted.
 #![tactic(auto)]
 
-#[cfg(test)]
 mod budgets;
-#[cfg(test)]
 mod faults;
-#[cfg(test)]
+mod in_memory;
 mod many_variables;
 
+use crate::budgets::print_budgets;
+use crate::faults::print_faults;
+use crate::many_variables::print_rings;
 use std::alloc::{AllocError, Global};
 use std::{fs, io};
 use uc_files::{FileTexts, WriterSink};
@@ -16,10 +18,17 @@ use uc_log::CountMeter;
 use uclid::run;
 
 fn main(rt: HostRuntime) -> io::Result<()> {
-    let rows = fs::read_to_string(&rt, "rows")?;
+    print_rows(&rt)?;
+    print_faults(&rt)?;
+    print_rings(&rt)?;
+    print_budgets(&rt)
+}
+
+fn print_rows(rt: &HostRuntime) -> io::Result<()> {
+    let rows = fs::read_to_string(rt, "rows")?;
     for row in rows.lines() {
         println!(rt; "$ uclid {row}")?;
-        let status = status_of(&rt, row)?;
+        let status = status_of(rt, row)?;
         println!(rt; "status {status}")?;
     }
     Ok(())
