@@ -1,5 +1,0 @@
-//! Code over cells, which only tests build.
-#![tactic(auto)]
-
-#[cfg(test)]
-mod built;
