@@ -4,9 +4,8 @@ use Rattle.uc_syntax.specs.declared.expression.Expr.{Expr}
 use Rattle.uc_meaning.specs.declared.scope.Scope.{Scope}
 use Rattle.uc_meaning.specs.declared.overflow.Wide.{Wide}
 use Rattle.uc_meaning.specs.Lookup.{System}
-use Rattle.uc_meaning.specs.Expressions.{Reading, reads_nothing, reading, reading_through, name}
+use Rattle.uc_meaning.specs.Expressions.{Reading, reads_nothing, reading, reading_through, longest_way, name}
 use Rattle.uc_meaning.specs.Overflow.{met, met_through, name_met}
-use Rattle.uc_meaning.specs.Cells.{longest_chain}
 use Rattle.uc_shapes.specs.Levels.{reading_at, met_at}
 
 reading_level : (n : ℕ) (system : System) (s : Scope) (e : Expr) → reading_through (suc n) system s e ≡ reading_at n system s e
@@ -35,11 +34,11 @@ unfolding met_through
 none_met n system s e none = ap (λ k. met_through k system s e) none
 
 -- names whose bindings are read through one level more are those that read bindings as expressions
-pub name_above : (system : System) (s : Scope) (x : ℕ) (primed : Bool) → name system (reading_through (longest_chain + 1) system) s x primed ≡ name system (reading system) s x primed
-name_above system s x primed = ap (λ f. name system f s x primed) (λ k s' e. reading_level longest_chain system s' e k)
+pub name_above : (system : System) (s : Scope) (x : ℕ) (primed : Bool) → name system (reading_through (longest_way + 1) system) s x primed ≡ name system (reading system) s x primed
+name_above system s x primed = ap (λ f. name system f s x primed) (λ k s' e. reading_level longest_way system s' e k)
 
-pub name_met_above : (system : System) (s : Scope) (x : ℕ) (primed : Bool) → name_met system (met_through (longest_chain + 1) system) s x primed ≡ name_met system (met system) s x primed
-name_met_above system s x primed = ap (λ f. name_met system f s x primed) (λ k s' e. met_level longest_chain system s' e k)
+pub name_met_above : (system : System) (s : Scope) (x : ℕ) (primed : Bool) → name_met system (met_through (longest_way + 1) system) s x primed ≡ name_met system (met system) s x primed
+name_met_above system s x primed = ap (λ f. name_met system f s x primed) (λ k s' e. met_level longest_way system s' e k)
 
 -- How far: for each level more than all bodies together.
 unfoldable pub levels : ℕ → ℕ → ℕ

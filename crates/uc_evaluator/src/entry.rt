@@ -18,8 +18,8 @@ use uc_scopes::ScopeRef;
 use uc_syntax::Expr;
 use uc_values::Value;
 
-/// How many defines and bindings stand on one chain of uses at most.
-const LONGEST_CHAIN: u32 = 32;
+/// How many defines and bindings, those of outputs counted, are read one behind another at most.
+const LONGEST_WAY: u32 = 64;
 
 /// The value of an expression in a scope.
 pub fn eval_expr(
@@ -46,7 +46,7 @@ pub fn reading(
     ensures value { IfOk result (λ r. reading_of r ≡ reading layout.now (scope_in scope.now) e.now) }
     ensures wide { TellsWide (first_wide (met layout.now (scope_in scope.now) e.now)) result }
 {
-    said(alloc, layout, LONGEST_CHAIN, scope, e)
+    said(alloc, layout, LONGEST_WAY, scope, e)
 }
 
 /// Whether a formula is true in a scope.
@@ -75,5 +75,5 @@ pub fn name_reading(
     ensures value { IfOk result (λ r. reading_of r ≡ name_says layout.now (reading layout.now) (scope_in scope.now) name is_primed) }
     ensures wide { TellsWide (first_wide (name_met layout.now (met layout.now) (scope_in scope.now) name is_primed)) result }
 {
-    named(alloc, layout, LONGEST_CHAIN + 1, scope, name, is_primed)
+    named(alloc, layout, LONGEST_WAY + 1, scope, name, is_primed)
 }

@@ -10,7 +10,7 @@ use Rattle.uc_syntax.specs.declared.declaration.WrittenRun.TheVariants.{Unroll}
 use Rattle.uc_syntax.specs.declared.declaration.Command.{Command}
 use Rattle.uc_syntax.specs.declared.declaration.Command.TheVariants.{Run, Check, PrintResults, PrintCounterexamples}
 use Rattle.uc_syntax.specs.declared.declaration.Decl.{Decl}
-use Rattle.uc_syntax.specs.declared.declaration.Decl.TheVariants.{TypeAlias, Variables, Init, Next, Invariant, Axiom, Control}
+use Rattle.uc_syntax.specs.declared.declaration.Decl.TheVariants.{TypeAlias, TypeImport, Variables, Init, Next, Invariant, Axiom, Control}
 use Rattle.uc_syntax.specs.declared.declaration.VariableKind.TheVariants.{Constant}
 use Rattle.uc_syntax.specs.declared.declaration.Module.{Module}
 use Rattle.uc_rules.specs.Names.{names_one_of}
@@ -69,9 +69,10 @@ spares_arrays_form other = true
 unfoldable pub spares_arrays : TypeExpr → Bool
 spares_arrays = fold-TypeExpr Bool spares_arrays_form
 
--- an alias of a type without arrays, a declaration of variables, inputs, outputs or constants, a block, an invariant, an axiom, or a control block that runs once
+-- an alias of a type without arrays, an import of types, a declaration of variables, inputs, outputs or constants, a block, an invariant, an axiom, or a control block that runs once
 abbrev pub is_plain_decl : List ℕ → Decl → Bool
 is_plain_decl cells (TypeAlias place i type) = spares_arrays type
+is_plain_decl cells (TypeImport place m) = true
 is_plain_decl cells (Variables place kind is type) = true
 is_plain_decl cells (Init place block) = true
 is_plain_decl cells (Next place block) = true

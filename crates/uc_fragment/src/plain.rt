@@ -17,6 +17,7 @@ fn is_plain_decl(cells: &NameSet, decl: &Decl) -> bool
 {
     match decl {
         Decl::TypeAlias(_, _, ty) => spares_arrays(ty),
+        Decl::TypeImport(..) => true,
         Decl::Variables(..) => true,
         Decl::Init(..) => true,
         Decl::Next(..) => true,
@@ -24,7 +25,6 @@ fn is_plain_decl(cells: &NameSet, decl: &Decl) -> bool
         Decl::Axiom(..) => true,
         Decl::Control(_, commands) => runs_once(cells, commands.as_slice()),
         Decl::OpaqueType(..) => false,
-        Decl::TypeImport(..) => false,
         Decl::Function(..) => false,
         Decl::Define(..) => false,
         Decl::Procedure(..) => false,

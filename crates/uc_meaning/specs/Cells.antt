@@ -16,7 +16,7 @@ use Rattle.uc_meaning.specs.declared.scope.State.{State}
 use Rattle.uc_meaning.specs.Lookup.{System, InstanceParts, instances_of, module_named, main_module, bound_to}
 use Rattle.uc_meaning.specs.Types.{type_of_written}
 
--- how many modules stand on one chain of instances at most, and how many defines, procedures and bindings on one chain of uses and calls
+-- how many modules stand on one chain of instances at most, and how many defines, procedures and bindings of inputs on one chain of uses and calls
 abbrev pub longest_chain : ℕ
 longest_chain = 32
 

@@ -340,9 +340,13 @@ unfoldable pub reading_through : ℕ → System → Scope → Expr → Reading
 reading_through zero system s e = reads_nothing
 reading_through (suc n) system s e = reading_by system (reading_through n system) e s
 
--- how bodies of defines and bindings are read: no accepted design has a longer chain of uses
+-- How bodies of defines and bindings are read. No accepted design has a longer chain: defines and inputs are at most longest_chain on one chain of uses, and
+-- behind the last of them stand bound outputs alone, each a name one instance further up, of which no path has more.
+abbrev pub longest_way : ℕ
+longest_way = longest_chain + longest_chain
+
 abbrev pub elsewhere : System → Elsewhere
-elsewhere system = reading_through longest_chain system
+elsewhere system = reading_through longest_way system
 
 -- what an expression says in a scope
 abbrev pub reading : System → Scope → Expr → Reading

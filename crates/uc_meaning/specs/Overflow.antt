@@ -20,9 +20,8 @@ use Rattle.uc_meaning.specs.declared.overflow.WideOp.TheVariants.{Add, Sub, Mul}
 use Rattle.uc_meaning.specs.declared.overflow.Wide.{Wide}
 use Rattle.uc_meaning.specs.declared.scope.Scope.{Scope}
 use Rattle.uc_meaning.specs.Lookup.{System}
-use Rattle.uc_meaning.specs.Cells.{longest_chain}
 use Rattle.uc_meaning.specs.Operators.{holds, plus, minus, product}
-use Rattle.uc_meaning.specs.Expressions.{Part, Elsewhere, Source, OfBinding, Reached, reached, meaning_of, Applied, OfDefine, applied, at_entry, reading_form, reading_through, elsewhere}
+use Rattle.uc_meaning.specs.Expressions.{Part, Elsewhere, Source, OfBinding, Reached, reached, meaning_of, Applied, OfDefine, applied, at_entry, reading_form, reading_through, elsewhere, longest_way}
 
 -- The operations met on the way to the value of an expression, in each scope.
 abbrev pub Met : Type 0
@@ -148,7 +147,7 @@ met_through (suc n) system s e = met_by system (reading_through n system) (met_t
 
 -- the operations met on the way to the value of an expression in a scope
 abbrev pub met : System → Scope → Expr → List Wide
-met system s e = met_by system (elsewhere system) (met_through longest_chain system) e s
+met system s e = met_by system (elsewhere system) (met_through longest_way system) e s
 
 abbrev pub exact : Wide → ℤ
 exact w = by w.op w.a w.b

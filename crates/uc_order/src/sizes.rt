@@ -1,16 +1,14 @@
 //! Loops and enums that are too large, and designs that pass a limit as a whole.
 
-ghost use Rattle.std.specs.Prelude.{◌≡◌, ◌++◌, None, IfOk, OnOk};
+ghost use Rattle.std.specs.Prelude.{◌≡◌, ◌++◌, ◌||◌, ◌&&◌, None, is_none, IfOk, OnOk};
 ghost use Rattle.std.specs.List.{flat_map};
-ghost use Rattle.uc_meaning.specs.Lookup.{main_module};
-ghost use Rattle.uc_meaning.specs.Cells.{as_list};
-ghost use Rattle.uc_rules.specs.declared.rule.Rule.TheVariants.{TooLarge};
-ghost use Rattle.uc_rules.specs.Faults.{first_of, breaks_where};
+ghost use Rattle.uc_rules.specs.Faults.{first_of};
 ghost use Rattle.uc_use_bounds.specs.BoundLaw.{InstancesEnd};
 ghost use Rattle.uc_order_rules.specs.Sizes.{label_faults, turn_faults};
-ghost use Rattle.uc_order_rules.specs.Order.{cycles, size_faults, whole_faults, passes_limit};
+ghost use Rattle.uc_order_rules.specs.Order.{cycles, size_faults, whole_faults, whole_faults_if, has_large_tree, passes_limit};
 
 use std::alloc::{AllocError, Global};
+use uc_instance_counts::{has_many_cells, has_many_instances};
 use uc_instance_depth::has_deep_module;
 use uc_lone_faults::{note_large_enums, note_long_loops};
 use uc_module_names::DesignNames;
@@ -19,7 +17,7 @@ use uc_sizes::is_too_large;
 use uc_syntax::Module;
 use uc_use_rules::has_long_uses;
 
-/// Notes what is too large, behind the cycles of uses: the limits on the whole are judged only where nothing else was noted.
+/// Notes what is too large, behind the cycles of uses.
 pub(crate) fn note_sizes(
     alloc: Global,
     names: &DesignNames<'_>,
@@ -29,9 +27,6 @@ pub(crate) fn note_sizes(
 {
     let modules = names.system().modules;
     note_each(alloc, modules, first)?;
-    if first.is_some() {
-        return Ok(());
-    }
     note_whole(alloc, names, first)
 }
 
@@ -52,12 +47,12 @@ fn note_whole(
     names: &DesignNames<'_>,
     first: &mut Option<Fault>,
 ) -> Result<(), AllocError>
-    ensures { OnOk result (InstancesEnd names.now → first.new ≡ first_of first.old (flat_map (λ m. breaks_where (passes_limit names.now) TooLarge m.place) (as_list (main_module names.now)))) }
+    ensures { OnOk result (InstancesEnd names.now → first.new ≡ first_of first.old (whole_faults_if names.now (is_none first.old))) }
 {
     let system = names.system();
     match system.main_module() {
         Some(main) => {
-            let is_broken = passes_limit(alloc, names)?;
+            let is_broken = breaks_limits(alloc, names, first.is_none())?;
             note_where(first, is_broken, Rule::TooLarge, main.place);
             Ok(())
         }
@@ -65,13 +60,38 @@ fn note_whole(
     }
 }
 
-/// Whether some chain is too long, or what main expands to is too large.
-fn passes_limit(alloc: Global, names: &DesignNames<'_>) -> Result<bool, AllocError>
-    ensures { IfOk result (λ b. InstancesEnd names.now → b ≡ passes_limit names.now) }
+/// Whether the design passes a limit as a whole. What rests on cycles, enums and loops is judged only where these are bounded.
+fn breaks_limits(
+    alloc: Global,
+    names: &DesignNames<'_>,
+    is_bounded: bool,
+) -> Result<bool, AllocError>
+    ensures { IfOk result (λ b. InstancesEnd names.now → b ≡ (has_large_tree names.now || (is_bounded && passes_limit names.now))) }
+{
+    if has_large_tree(alloc, names)? {
+        return Ok(true);
+    }
+    if !is_bounded {
+        return Ok(false);
+    }
+    passes_limit(alloc, names)
+}
+
+/// Whether a chain of instances is too long, or there are too many instances or cells.
+fn has_large_tree(alloc: Global, names: &DesignNames<'_>) -> Result<bool, AllocError>
+    ensures { IfOk result (λ b. b ≡ has_large_tree names.now) }
 {
     if has_deep_module(alloc, names)? {
         return Ok(true);
     }
+    let system = names.system();
+    Ok(has_many_instances(&system) || has_many_cells(&system))
+}
+
+/// Whether a chain of uses is too long, or what main expands to is too large.
+fn passes_limit(alloc: Global, names: &DesignNames<'_>) -> Result<bool, AllocError>
+    ensures { IfOk result (λ b. InstancesEnd names.now → b ≡ passes_limit names.now) }
+{
     if has_long_uses(alloc, names)? {
         return Ok(true);
     }

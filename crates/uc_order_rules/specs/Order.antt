@@ -1,10 +1,10 @@
 -- All faults of order and size of a design that keeps the static rules.
-use Rattle.std.specs.Prelude.{◌≡◌, ℕ, zero, suc, Bool, true, false, ◌||◌, ◌&&◌, not, if◌then◌else◌, List, [], ◌∷◌, ◌++◌, Option, Some, None}
+use Rattle.std.specs.Prelude.{◌≡◌, ℕ, zero, suc, Bool, true, false, ◌||◌, ◌&&◌, not, if◌then◌else◌, List, [], ◌∷◌, ◌++◌, length, nat_lt, Option, Some, None}
 use Rattle.std.specs.List.{flat_map, list_any}
 use Rattle.uc_lexer.specs.declared.place.Place.{Place}
 use Rattle.uc_syntax.specs.declared.declaration.Module.{Module}
 use Rattle.uc_meaning.specs.Lookup.{System, main_module}
-use Rattle.uc_meaning.specs.Cells.{as_list}
+use Rattle.uc_meaning.specs.Cells.{as_list, cells_of}
 use Rattle.uc_rules.specs.declared.fault.Fault.{Fault}
 use Rattle.uc_rules.specs.declared.rule.Rule.TheVariants.{TooLarge}
 use Rattle.uc_rules.specs.Faults.{breaks_where, IsFirst}
@@ -13,7 +13,7 @@ use Rattle.uc_order_rules.specs.Uses.{use_cycles, has_long_chain}
 use Rattle.uc_order_rules.specs.Writes.{twice_assigned, is_empty}
 use Rattle.uc_order_rules.specs.Stepped.{stepped_twice}
 use Rattle.uc_order_rules.specs.Dependence.{cyclic_steps}
-use Rattle.uc_order_rules.specs.Sizes.{label_faults, turn_faults, has_deep_chain, has_deep_module, has_many_instances, is_too_large}
+use Rattle.uc_order_rules.specs.Sizes.{label_faults, turn_faults, has_deep_chain, has_deep_module, has_many_instances, most_cells, is_too_large}
 
 -- a module with the design of which it is the root
 abbrev pub Root : Type 0
@@ -59,16 +59,26 @@ step_faults system = flat_map (twice_faults system) system.modules ++ flat_map d
 abbrev pub has_long_uses : Root → Bool
 has_long_uses r = is_judged r && has_long_chain r.0
 
--- some chain is too long, or what main expands to is too large
-abbrev pub passes_limit : System → Bool
-passes_limit system = has_deep_module system || (list_any has_long_uses (roots system) || is_too_large system)
+-- a chain of instances is too long, or there are too many instances or cells
+abbrev pub has_large_tree : System → Bool
+has_large_tree system = has_deep_module system || (has_many_instances system || nat_lt most_cells (length (cells_of system)))
 
--- The limits on the whole rest on cycles, enums and loops: they are judged where none of these is at fault. The place is that of main.
+-- a chain of uses is too long, or what main expands to is too large
+abbrev pub passes_limit : System → Bool
+passes_limit system = list_any has_long_uses (roots system) || is_too_large system
+
+-- no cycle, enum or loop is at fault
+abbrev pub is_bounded : System → Bool
+is_bounded system = is_empty (cycles system) && is_empty (size_faults system)
+
+-- the limits on the whole, at the place of main, where cycles, enums and loops are in order or not
+abbrev pub whole_faults_if : System → Bool → List Fault
+whole_faults_if system bounded = flat_map (λ m. breaks_where (has_large_tree system || (bounded && passes_limit system)) TooLarge m.place) (as_list (main_module system))
+
+-- How long chains of instances are, and how many instances and cells there are, rests on nothing that is judged here. Chains of uses and what main expands to rest
+-- on cycles, enums and loops: they are judged where none of these is at fault.
 abbrev pub whole_faults : System → List Fault
-whole_faults system =
-    if is_empty (cycles system) && is_empty (size_faults system)
-    then flat_map (λ m. breaks_where (passes_limit system) TooLarge m.place) (as_list (main_module system))
-    else []
+whole_faults system = whole_faults_if system (is_bounded system)
 
 -- All faults, in no order.
 unfoldable pub order_faults : System → List Fault

@@ -164,7 +164,7 @@ runs_once other = false
 abbrev pub outside_declaration : Decl → Option Place
 outside_declaration (OpaqueType place i) = Some place
 outside_declaration (TypeAlias place i type) = outside_type type
-outside_declaration (TypeImport place m) = Some place
+outside_declaration (TypeImport place m) = None
 outside_declaration (Variables place kind names type) = outside_type type
 outside_declaration (Function place i parameters type) = Some place
 outside_declaration (Define place i parameters type body) = Some place

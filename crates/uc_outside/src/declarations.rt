@@ -58,7 +58,7 @@ fn outside_declaration(declaration: &Decl) -> Option<Place>
     match declaration {
         Decl::OpaqueType(place, _) => Some(*place),
         Decl::TypeAlias(_, _, ty) => outside_type(ty),
-        Decl::TypeImport(place, _) => Some(*place),
+        Decl::TypeImport(..) => None,
         Decl::Variables(_, _, _, ty) => outside_type(ty),
         Decl::Function(place, _, _, _) => Some(*place),
         Decl::Define(place, _, _, _, _) => Some(*place),

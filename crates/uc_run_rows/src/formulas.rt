@@ -12,7 +12,7 @@ use uc_values::{Table, Value};
 
 /// What a formula is found to be.
 #[derive(Clone, Copy, Debug, PartialEq, Eq)]
-enum Answer {
+pub(crate) enum Answer {
     True,
     False,
     /// An operation of this kind leaves 128 bits.
@@ -91,20 +91,25 @@ fn interpretation(alloc: Global) -> Result<Interp, AllocError> {
     Ok(Interp { consts, tables })
 }
 
-fn scope(alloc: Global) -> Result<Scope, AllocError> {
-    Ok(Scope {
+/// The scope of main in a state.
+pub(crate) fn scope_of_main(alloc: Global, before: State, interp: Interp) -> Scope {
+    Scope {
         path: Path::main(alloc),
-        before: state(alloc)?,
+        before,
         after: None,
         at_entry: None,
         copies: Items::new(alloc),
         locals: Items::new(alloc),
-        interp: interpretation(alloc)?,
-    })
+        interp,
+    }
+}
+
+fn scope(alloc: Global) -> Result<Scope, AllocError> {
+    Ok(scope_of_main(alloc, state(alloc)?, interpretation(alloc)?))
 }
 
 /// What the formula of the first invariant of a text is.
-fn judged(alloc: Global, scope: &Scope, text: &[u8]) -> Result<Answer, AllocError> {
+pub(crate) fn judged(alloc: Global, scope: &Scope, text: &[u8]) -> Result<Answer, AllocError> {
     let Some(layout) = layout_of(alloc, text)? else {
         return Ok(NotRead);
     };

@@ -10,7 +10,7 @@ use Rattle.uc_syntax.specs.declared.statement.Stmt.TheOpen.{Stmt-F}
 use Rattle.uc_syntax.specs.declared.statement.Stmt.TheOpen.Stmt-F.{Local, Skip, Block, Assert, Assume, Havoc, Assign, If, Case, For, Call, Next as NextStatement}
 use Rattle.uc_syntax.specs.declared.statement.Stmt.TheFolds.{fold-Stmt}
 use Rattle.uc_syntax.specs.declared.declaration.Decl.{Decl}
-use Rattle.uc_syntax.specs.declared.declaration.Decl.TheVariants.{OpaqueType, TypeAlias, TypeImport, Variables, Init, Next, Invariant, Axiom}
+use Rattle.uc_syntax.specs.declared.declaration.Decl.TheVariants.{OpaqueType, TypeAlias, Variables, Init, Next, Invariant, Axiom}
 use Rattle.uc_syntax.specs.declared.declaration.Module.{Module}
 use Rattle.uc_meaning.specs.Lookup.{System, or_else, first_some}
 use Rattle.uc_meaning.specs.Types.{type_of_written}
@@ -85,10 +85,9 @@ unfit_type system m place type = if is_cell_type (type_of_written system m type)
 abbrev pub unfit_condition : List Meant → Place → Expr → Option Place
 unfit_condition names place e = unless_there place (option_and_then (condition_of 1 0) (flat_of names e))
 
--- A type that is not finite, a block with a statement that has no code, an invariant that is no truth value over cells, or an axiom that is none over constants.
+-- A type without a definition or one that is not finite, a block with a statement that has no code, an invariant that is no truth value over cells, or an axiom that is none over constants.
 abbrev pub unfit : System → Module → List Meant → ℕ → Decl → Option Place
 unfit system m names count (OpaqueType place i) = Some place
-unfit system m names count (TypeImport place n) = Some place
 unfit system m names count (TypeAlias place i type) = unfit_type system m place type
 unfit system m names count (Variables place kind is type) = unfit_type system m place type
 unfit system m names count (Init place block) = unfit_init (cell_type_of system m) names count block

@@ -56,7 +56,6 @@ fn unfit(
 {
     match decl {
         Decl::OpaqueType(place, _) => Ok(Some(*place)),
-        Decl::TypeImport(place, _) => Ok(Some(*place)),
         Decl::TypeAlias(place, _, ty) => unfit_type(alloc, tables, code, *place, ty),
         Decl::Variables(place, _, _, ty) => unfit_type(alloc, tables, code, *place, ty),
         Decl::Init(_, block) => unfit_init(alloc, tables, code, names, count, block.as_slice()),

@@ -2,7 +2,7 @@
 use Rattle.std.proofs.Common.{◌≡◌, ℕ, ◌+◌, ◌<◌, List, [], ◌∷◌, ◌++◌, length, map, take, Option, Some, refl, sym, ap, ◌∙◌, subst, arith, slice_get, zero, suc, get_or, length-append, append-nil, append_assoc, add-one, inl, inr}
 use Rattle.std.specs.Prelude.{All, Bool as Truth, true, false, not, ◌&&◌}
 use Rattle.std.specs.List.{list_all, flat_map}
-use Rattle.std.proofs.lemmas.List.{take_more, map-append, length-take-le}
+use Rattle.std.proofs.lemmas.List.{take_more, map-append}
 use Rattle.std.proofs.lemmas.List.Elements.{All-head, All-tail, All-append}
 use Rattle.std.proofs.lemmas.Option.{slice_get-get_or}
 use Rattle.uc_values.specs.declared.ty.Ty.{Ty}
@@ -26,7 +26,7 @@ use Rattle.uc_symstep.specs.declared.state.SymState.{SymState}
 use Rattle.uc_symstep.specs.Growing.{Grows, IsTerm, AreCells}
 use Rattle.uc_symstep.specs.Stands.{holds, IsTruth}
 use Rattle.uc_flat.specs.declared.statement.Statement.{Statement}
-use Rattle.uc_flat.specs.Unrolled.{started, stepped, seen, initial, after_step, reached, formula_in, holds_in, axioms_hold, is_refuted}
+use Rattle.uc_flat.specs.Unrolled.{started, stepped, seen, initial, after_step, reached, formula_in, holds_in}
 use Rattle.uc_symstep.specs.Unrolled.{shows, IsSeen, StartsAs, StepsAs}
 use Rattle.uc_symstep.specs.Designs.{ShowsAt, AreStates, Unrolls, IsInitialWhereTaken, HasEachInitial, IsStepWhereTaken}
 use Rattle.uc_flat.specs.Executions.{IsInitial, IsStep, IsAt}
@@ -119,22 +119,6 @@ list_all-push p (y ∷ xs) x = ap (λ b. p y && b) (list_all-push p xs x) ∙ an
     and_assoc : (a b c : Truth) → (a && (b && c)) ≡ ((a && b) && c)
     and_assoc true b c = refl
     and_assoc false b c = refl
-
-pub no_axioms : (old now : List Node) (f : Flat) (t : ℕ) → IsTerm old now t Bool (λ m. Boolean true) → IsTerm old now t Bool (λ m. Boolean (list_all (true_formula f m) (take 0 f.formulas)))
-no_axioms old now f t a = a
-
-pub axiom_copies : (nodes : List Node) (f : Flat) (k : ℕ) (x : Formula) → IsSound f → k < f.axioms → x ≡ get_or f.formulas k x → AreCells nodes (repeated x.copies (cell_types f)) []
-unfolding repeated
-axiom_copies nodes f k x s l i =
-    let none : x.copies ≡ 0 = ap (λ (y : Formula). y.copies) (i ∙ sym (get_or-take f.formulas f.axioms k x l)) ∙ s.no_copy k x (omega (arith, l, length-take-le f.axioms f.formulas s.axioms)) in
-    subst (λ n. AreCells nodes (repeated n (cell_types f)) []) (sym none) (record { there = λ j d q. absurd (omega (arith, q)); typed = refl })
-  where
-    get_or-take : (xs : List Formula) (n j : ℕ) (d : Formula) → j < n → get_or (take n xs) j d ≡ get_or xs j d
-    get_or-take [] zero j d h = refl
-    get_or-take [] (suc n) j d h = refl
-    get_or-take (y ∷ xs) zero j d h = absurd (omega (arith, h))
-    get_or-take (y ∷ xs) (suc n) zero d h = refl
-    get_or-take (y ∷ xs) (suc n) (suc j) d h = get_or-take xs n j d (omega (arith, h))
 
 pub axiom_more : (old now mid new : List Node) (f : Flat) (k all one t : ℕ) (x : Formula) (cells : List ℕ) → k < length f.formulas → x ≡ get_or f.formulas k x → cells ≡ []
     → IsTerm old now all Bool (λ m. Boolean (list_all (true_formula f m) (take k f.formulas)))
@@ -290,11 +274,6 @@ unrolls_more f first old now new turn number after states more run s t u q j a k
 pub last_state : (f : Flat) (first : ℕ) (old now : List Node) (n number : ℕ) (states run : List SymState) (s : SymState) → Unrolls f first old now n states number → run ≡ states → s ≡ get_or run n s → slice_get states n ≡ Some s
 last_state f first old now n number states run s u q j = slice_get-get_or states n s (omega (arith, u.states.count)) ∙ ap Some (sym (j ∙ ap (λ ss. get_or ss n s) q))
 
-pub one_copy : (nodes : List Node) (f : Flat) (x : Formula) (s : SymState) (cells : List ℕ) → x.copies ≡ 1 → IsSeen nodes (cell_types f) s → cells ≡ s.cells → AreCells nodes (repeated x.copies (cell_types f)) cells
-unfolding repeated
-one_copy nodes f x s cells n h i =
-    subst (λ k. AreCells nodes (repeated k (cell_types f)) cells) (sym n) (subst (λ ts. AreCells nodes ts cells) (sym (append-nil (cell_types f))) (subst (AreCells nodes (cell_types f)) (sym i) h.cells))
-
 pub both_there : (old a b : List Node) (path fails : ℕ) (v : Model → Value) → IsTruth old path → Grows old a → IsTerm a b fails Bool v → ((path < length b) × (fails < length b)) × ((type_at b path ≡ Bool) × (type_at b fails ≡ Bool))
 both_there old a b path fails v p g q =
     let h = truth_grows old b path (grows_on old a b g q.grown) p in
@@ -321,25 +300,6 @@ refuted_is old a b c new f x axioms truth fails broken all s cells h g i p q r t
           ∙ ap (λ v. Boolean (holds m old axioms && (truth_of v && truth_of (value m b fails)))) (grows_value old b ob m s.path g.path.there)
           ∙ ap (λ v. Boolean (holds m old axioms && (holds m old s.path && truth_of v))) (q.means m)
           ∙ ap (λ v. Boolean (holds m old axioms && (holds m old s.path && not (truth_of v)))) (p.means m ∙ ap (λ ts. formula_in f x m (map (value m old) ts)) i);
-    }
-
-pub goal_is : (old a b new : List Node) (f : Flat) (first k n number : ℕ) (axioms term : ℕ) (states run : List SymState) (s : SymState) (x : Formula)
-    → IsTerm old a axioms Bool (λ m. Boolean (axioms_hold f m)) → Unrolls f first a b n states number → run ≡ states → s ≡ get_or run n s
-    → k < length f.formulas → x ≡ get_or f.formulas k x
-    → IsTerm b new term Bool (λ m. Boolean (holds m b axioms && (holds m b s.path && not (holds_in f x m (map (value m b) s.cells)))))
-    → (y : Formula) → slice_get f.formulas k ≡ Some y → IsTerm old new term Bool (λ m. Boolean (is_refuted f y m (reached f first m n)))
-goal_is old a b new f first k n number axioms term states run s x p u q j l i t y h =
-    let e = formula_is f k x y l i h in
-    let own = last_state f first a b n number states run s u q j in
-    record {
-      grown = grows_on old a new p.grown (grows_on a b new u.grown t.grown);
-      there = t.there;
-      typed = t.typed;
-      means = λ m.
-          t.means m
-          ∙ ap (λ v. Boolean (truth_of v && (holds m b s.path && not (holds_in f x m (map (value m b) s.cells))))) (grows_value a b u.grown m axioms p.there ∙ p.means m)
-          ∙ ap (λ (d : Drawn). Boolean (axioms_hold f m && (d.goes && not (holds_in f x m d.cells)))) (u.last s own m)
-          ∙ ap (λ z. Boolean (is_refuted f z m (reached f first m n))) e;
     }
 
 pub goal_ready : (a b : List Node) (f : Flat) (first n number : ℕ) (states run : List SymState) (s : SymState) → Unrolls f first a b n states number → run ≡ states → s ≡ get_or run n s → IsSeen b (cell_types f) s

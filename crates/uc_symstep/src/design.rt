@@ -3,19 +3,17 @@
 ghost use Rattle.std.specs.Prelude.{◌≡◌, ◌<◌, ◌≤◌, ◌++◌, List, map, length, slice_get, IfOk, OnErr, All, Some};
 ghost use Rattle.uc_values.specs.declared.ty.Ty.{Ty as AType};
 ghost use Rattle.std.specs.List.{flat_map};
-ghost use Rattle.uc_values.specs.declared.value.Value.TheVariants.{Bool as Truth};
 ghost use Rattle.uc_values.specs.declared.ty.Ty.TheVariants.{Bool};
 ghost use Rattle.uc_terms.specs.Values.{value};
 ghost use Rattle.uc_flat.specs.declared.flat.Formula.{Formula as AFormula};
-ghost use Rattle.uc_flat.specs.Flats.{cell_types, init_types, repeated, axioms_of, IsSound, IsFormula};
-ghost use Rattle.uc_flat.specs.Unrolled.{initial, after_step, formula_in, axioms_hold};
+ghost use Rattle.uc_flat.specs.Flats.{cell_types, init_types, repeated, IsSound, IsFormula};
+ghost use Rattle.uc_flat.specs.Unrolled.{initial, after_step, formula_in};
 ghost use Rattle.uc_flat.specs.Fine.{ReadsTyped};
 ghost use Rattle.uc_symstep.specs.Growing.{Grows, IsTerm, AreCells};
 ghost use Rattle.uc_symstep.specs.Unrolled.{IsSeen, StartsAs, StepsAs};
 ghost use Rattle.uc_symstep.specs.Designs.{IsInitialWhereTaken, HasEachInitial, IsStepWhereTaken};
 ghost use Rattle.uc_symstep.specs.Known.{IsKnown, CodeReadsTyped, draw_types, constants_typed, step_types, supply_after, KnowsState};
 
-use crate::build::{both, literal};
 use crate::formula::sym_expression;
 use crate::state::{Fresh, SymState};
 use crate::unroll::{start, step_on};
@@ -187,26 +185,4 @@ pub fn sym_formula(
         cells.as_slice(),
     )?;
     Ok(t)
-}
-
-/// A term that is true where every axiom is.
-#[tactic(auto, using(crate::proofs::Grown::grows_on))]
-pub(crate) fn axioms_term(
-    terms: &mut Terms,
-    alloc: Global,
-    f: &Flat,
-    types: &[Ty],
-) -> Result<TermId, AllocError>
-    requires sound { IsSound f.now }
-    requires types { types.now ≡ cell_types f.now }
-    ensures ok { IfOk result (λ t. IsTerm terms.old terms.new t Bool (λ m. Truth (axioms_hold f.now m))) }
-    ensures grown { Grows terms.old terms.new }
-{
-    let mut all = literal(terms, alloc, true)?;
-    let formulas = f.formulas.as_slice();
-    for place in 0..f.axioms as usize {
-        let one = formula_term(terms, alloc, f, types, &formulas[place], &[])?;
-        all = both(terms, alloc, all, one)?;
-    }
-    Ok(all)
 }

@@ -1,4 +1,4 @@
-//! Symbolic code: terms for the values that statements give, for initial states, steps and formulas of a design, and goals.
+//! Symbolic code: terms for the values that statements give, and for initial states, steps and formulas of a design.
 #![tactic(auto)]
 
 mod branch;
@@ -6,7 +6,6 @@ mod build;
 mod code;
 mod design;
 mod formula;
-mod goal;
 mod simple;
 mod state;
 mod unroll;
@@ -15,5 +14,4 @@ pub use build::{both, literal, negated};
 pub use code::sym_code;
 pub use design::{sym_formula, sym_init, sym_step};
 pub use formula::sym_expression;
-pub use goal::{Goal, sym_goal};
 pub use state::{Choice, Fresh, Hit, SymState, Symbolic};

@@ -2,13 +2,14 @@
 #![tactic(auto)]
 
 use std::alloc::{AllocError, Global};
+use std::io::ErrorKind;
 use std::process::ExitCode;
 use std::{env, io};
 use uc_files::{FileTexts, WriterSink};
 use uc_log::CountMeter;
 use uclid::run;
 
-/// The status where the words of the command line could not be had.
+/// The status where there is no memory for the words of the command line.
 const NO_WORDS: u8 = 7;
 
 fn main(rt: HostRuntime) -> ExitCode {
@@ -25,13 +26,19 @@ fn main(rt: HostRuntime) -> ExitCode {
     ExitCode::from(outcome.into_status())
 }
 
-/// The words after the program's name.
+/// The words after the program's name; none where one of them is no UTF-8, which is no command line either.
 fn command_words(rt: &HostRuntime) -> io::Result<Vec<String>> {
     let mut words = Vec::new(rt.alloc());
-    for word in env::args(rt)?.skip(1) {
-        words.push(word)?;
+    match env::args(rt) {
+        Ok(all) => {
+            for word in all.skip(1) {
+                words.push(word)?;
+            }
+            Ok(words)
+        }
+        Err(fault) if fault.kind() == ErrorKind::InvalidData => Ok(words),
+        Err(fault) => Err(fault),
     }
-    Ok(words)
 }
 
 fn borrowed(alloc: Global, words: &[String]) -> Result<Vec<&str>, AllocError> {
