@@ -21,8 +21,12 @@ fn is_printed(alloc: Global, text: &[u8], expected: &[u8]) -> bool {
 }
 
 /// Texts that have each production, and the texts that are printed of what they spell.
-const ROWS: [(&[u8], &[u8]); 14] = [
+const ROWS: [(&[u8], &[u8]); 15] = [
     (b"", b""),
+    (
+        b"module main{invariant ok:true;}",
+        b"module main { invariant ok : true ; }\n",
+    ),
     (
         b"module m { } // none\nmodule n{}",
         b"module m { }\nmodule n { }\n",

@@ -32,7 +32,7 @@ fn run_failing(alloc: Global, reads: &[u64], writes: &[u64]) -> Result<Ended, Al
     finish(alloc, &["m.ucl"], &world)
 }
 
-/// Prints how much of the report was written.
+/// Prints how much of the report was written, and whether there is a session.
 fn print_front(rt: &HostRuntime, report: &[u8], ended: &Ended) -> io::Result<()> {
     let count = ended.written.len();
     let is_front = report.get(..count) == Some(ended.written.as_slice());
@@ -41,22 +41,37 @@ fn print_front(rt: &HostRuntime, report: &[u8], ended: &Ended) -> io::Result<()>
     } else {
         "of another text"
     };
-    println!(rt; "{count} bytes {of}")?;
+    let session = if ended.has_session {
+        "a session"
+    } else {
+        "no session"
+    };
+    println!(rt; "{count} bytes {of}, {session}")?;
     println!(rt; "status {}", ended.status)
 }
 
-/// One file too many; and two texts, each within the limit, and both together not.
+/// Texts of blanks at the limit and past it, alone and together: how many are in the first, and how many in the second.
+const BLANKS: [(usize, usize); 3] = [(9_000_000, 9_000_000), (16_777_216, 0), (16_777_217, 0)];
+
+/// One file too many, and texts that are large.
 fn print_limits(rt: &HostRuntime) -> io::Result<()> {
-    let alloc = rt.alloc();
     println!(rt; "# 257 files")?;
-    let ended = finish(alloc, &["m.ucl"; 257], &World::of(TOGGLE))?;
+    let ended = finish(rt.alloc(), &["m.ucl"; 257], &World::of(TOGGLE))?;
     print_ended(rt, ended.written.as_slice(), ended.status)?;
-    println!(rt; "# two texts of 9,000,000 blanks")?;
-    let blanks = vec![in alloc; b' '; 9_000_000]?;
-    let blanks = blanks.as_slice();
+    for (first, second) in BLANKS {
+        print_blanks(rt, first, second)?;
+    }
+    Ok(())
+}
+
+fn print_blanks(rt: &HostRuntime, first: usize, second: usize) -> io::Result<()> {
+    let alloc = rt.alloc();
+    println!(rt; "# texts of {first} and {second} blanks")?;
+    let first = vec![in alloc; b' '; first]?;
+    let second = vec![in alloc; b' '; second]?;
     let world = World {
-        second: blanks,
-        ..World::of(blanks)
+        second: second.as_slice(),
+        ..World::of(first.as_slice())
     };
     let ended = finish(alloc, &["m.ucl", "n.ucl"], &world)?;
     print_ended(rt, ended.written.as_slice(), ended.status)

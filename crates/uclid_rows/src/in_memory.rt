@@ -6,10 +6,11 @@ use uc_io::{MemSink, MemTexts};
 use uc_log::CountMeter;
 use uclid::run;
 
-/// The status of a run, and what was written.
+/// The status of a run, whether it has a session, and what was written.
 #[derive(Drop)]
 pub(crate) struct Ended {
     pub(crate) status: u8,
+    pub(crate) has_session: bool,
     pub(crate) written: Vec<u8>,
 }
 
@@ -40,9 +41,14 @@ pub(crate) fn finish(alloc: Global, words: &[&str], world: &World) -> Result<End
     let mut sink = MemSink::new(alloc, 10, world.failing_writes.to_vec(alloc)?);
     let mut meter = CountMeter::new();
     let outcome = run(alloc, words, &mut texts, &mut sink, &mut meter);
+    let has_session = outcome.session.is_some();
     let status = outcome.into_status();
     let written = sink.bytes().to_vec(alloc)?;
-    Ok(Ended { status, written })
+    Ok(Ended {
+        status,
+        has_session,
+        written,
+    })
 }
 
 fn texts_of(alloc: Global, world: &World) -> Result<MemTexts, AllocError> {
