@@ -12,11 +12,12 @@ use Rattle.uc_symstep.proofs.Grown.{grows_value}
 use Rattle.uc_symstep.proofs.Known.{known_grows}
 use Rattle.uc_flat_traces.specs.declared.trace.FlatTrace.{FlatTrace}
 use Rattle.uc_flat_traces.specs.Traces.{RefutesFlat}
+use Rattle.uc_log.specs.Problems.{Question}
 use Rattle.uc_obligations.specs.Goals.{IsGoal, IsObligation, IsTold}
 use Rattle.uc_obligations.proofs.Goaled.{goal_grows}
 use Rattle.uc_flat_lines.specs.declared.line.FlatWhy.{FlatWhy}
 use Rattle.uc_flat_lines.specs.declared.line.FlatWhy.TheVariants.{Memory, Budget, Untold}
-use Rattle.uc_flat_lines.specs.Deciding.{IsSolution, IsOutcome, IsSpentFor, IsSpentOn, IsHonestFor, IsHonestAfter, verdict_of}
+use Rattle.uc_flat_lines.specs.Deciding.{IsSolution, IsOutcome, IsSpentFor, IsSpentOn, IsHonestFor, IsHonestAfter, IsOpenedFor, IsOpenedAfter, IsOpenedOn, verdict_of}
 use Rattle.uc_flat_lines.specs.Lines.{IsFlatVerdict, IsHonestVerdict}
 
 -- where no model makes the goal true, no trace refutes the formula
@@ -33,6 +34,13 @@ pub honest_after : (f : Flat) (budget n : ℕ) (nodes : List Node) (goal : ℕ) 
 honest_after f budget n nodes goal Budget k h = λ reads. h (supply_after f n) (k reads)
 honest_after f budget n nodes goal Memory k h = tt
 honest_after f budget n nodes goal Untold k h = absurd h
+
+-- the problem of a goal is that of its formula
+pub opened_after : (f : Flat) (k n : ℕ) (old new : List Node) (goal : ℕ) (opened : Option Question) (here budget : ℕ) (why : FlatWhy) → Grows old new → goal < length old
+    → ((x : Formula) → slice_get f.formulas k ≡ Some x → IsGoal f x n old goal) → IsOpenedFor new goal opened here budget why → IsOpenedAfter f k n new opened here budget why
+opened_after f k n old new goal opened here budget Budget g l is h = (goal, (λ x at. goal_grows f x n old new goal g l (is x at)), h.0, h.1)
+opened_after f k n old new goal opened here budget Memory g l is h = tt
+opened_after f k n old new goal opened here budget Untold g l is h = tt
 
 -- a model of a known goal tells a trace
 pub never_untold : (f : Flat) (budget n : ℕ) (old new : List Node) (goal : ℕ) (m : Model) → Grows old new → goal < length old → IsSolution old goal (Some m) → (ReadsOwnTypes f → IsKnown (supply_after f n) old goal)
@@ -57,3 +65,9 @@ verdict_honest f budget n (Ok (Some t)) h = tt
 verdict_honest f budget n (Err Budget) h = h
 verdict_honest f budget n (Err Untold) h = h
 verdict_honest f budget n (Err Memory) h = tt
+
+pub verdict_opened : (f : Flat) (k n : ℕ) (nodes : List Node) (opened : Option Question) (here budget : ℕ) (r : Result (Option FlatTrace) FlatWhy) → IfErr r (IsOpenedAfter f k n nodes opened here budget)
+    → IsOpenedOn f k n nodes opened here budget (verdict_of r)
+verdict_opened f k n nodes opened here budget (Ok None) h = tt
+verdict_opened f k n nodes opened here budget (Ok (Some t)) h = tt
+verdict_opened f k n nodes opened here budget (Err why) h = h

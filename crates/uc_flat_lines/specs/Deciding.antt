@@ -1,5 +1,5 @@
 -- What is decided of a goal, and of a formula after so many steps.
-use Rattle.std.specs.Prelude.{◌≡◌, ℕ, ◌+◌, ◌<◌, ◌≤◌, ◌^◌, true, List, Option, None, Some, Result, Ok, Err}
+use Rattle.std.specs.Prelude.{◌≡◌, ℕ, ◌+◌, ◌<◌, ◌≤◌, ◌^◌, true, List, slice_get, Option, None, Some, Result, Ok, Err}
 use Rattle.uc_values.specs.declared.ty.Ty.{Ty}
 use Rattle.uc_ops.specs.declared.model.Model.{Model}
 use Rattle.uc_ops.specs.declared.node.Node.{Node}
@@ -9,17 +9,24 @@ use Rattle.uc_flat.specs.declared.flat.Formula.{Formula}
 use Rattle.uc_symstep.specs.Stands.{holds}
 use Rattle.uc_symstep.specs.Known.{IsKnown, ReadsOwnTypes}
 use Rattle.uc_lower.specs.Bits.{type_bits}
+use Rattle.uc_log.specs.Problems.{Question}
+use Rattle.uc_solver.specs.Stands.{OpenedStands}
 use Rattle.uc_solver.specs.declared.answer.Answer.{Answer}
 use Rattle.uc_solver.specs.declared.answer.Answer.TheVariants.{Model as Found, Refuted}
 use Rattle.uc_solver.specs.declared.answer.SolveError.{SolveError}
 use Rattle.uc_solver.specs.declared.answer.SolveError.TheVariants.{NoMemory, Budget as SpentBudget}
 use Rattle.uc_flat_traces.specs.declared.trace.FlatTrace.{FlatTrace}
 use Rattle.uc_flat_traces.specs.Traces.{constant_types, RefutesFlat}
+use Rattle.uc_obligations.specs.Goals.{IsGoal}
 use Rattle.uc_flat_lines.specs.Lines.{free_bits}
 use Rattle.uc_flat_lines.specs.declared.line.FlatVerdict.{FlatVerdict}
 use Rattle.uc_flat_lines.specs.declared.line.FlatVerdict.TheVariants.{Passed, Failed, Undef}
 use Rattle.uc_flat_lines.specs.declared.line.FlatWhy.{FlatWhy}
 use Rattle.uc_flat_lines.specs.declared.line.FlatWhy.TheVariants.{Memory, Budget, Untold}
+
+-- the term is known by some supply of types
+abbrev pub IsKnownBySome : List Node → ℕ → Type 0
+IsKnownBySome nodes goal = (supply : List Ty) × IsKnown supply nodes goal
 
 -- a model makes the goal true, or none does
 abbrev pub IsSolution : List Node → ℕ → Option Model → Type 0
@@ -51,6 +58,21 @@ abbrev pub IsHonestAfter : Flat → ℕ → ℕ → FlatWhy → Type 0
 IsHonestAfter f budget n Budget = ReadsOwnTypes f → budget < 2 ^ free_bits f n
 IsHonestAfter f budget n Untold = ReadsOwnTypes f → AllValid (constant_types f) → ⊥
 IsHonestAfter f budget n Memory = Unit {0}
+
+-- A goal is undecided by its budget: the opened problem stands for it, and the budget was spent on that problem.
+abbrev pub IsOpenedFor : List Node → ℕ → Option Question → ℕ → ℕ → FlatWhy → Type 0
+IsOpenedFor nodes goal opened here budget Budget = OpenedStands nodes goal opened × (here ≡ budget)
+IsOpenedFor nodes goal opened here budget other = Unit {0}
+
+-- So is formula k after n steps: the problem stands for a term that is its goal.
+abbrev pub IsOpenedAfter : Flat → ℕ → ℕ → List Node → Option Question → ℕ → ℕ → FlatWhy → Type 0
+IsOpenedAfter f k n nodes opened here budget Budget =
+    (goal : ℕ) × ((x : Formula) → slice_get f.formulas k ≡ Some x → IsGoal f x n nodes goal) × OpenedStands nodes goal opened × (here ≡ budget)
+IsOpenedAfter f k n nodes opened here budget other = Unit {0}
+
+abbrev pub IsOpenedOn : Flat → ℕ → ℕ → List Node → Option Question → ℕ → ℕ → FlatVerdict → Type 0
+IsOpenedOn f k n nodes opened here budget (Undef why) = IsOpenedAfter f k n nodes opened here budget why
+IsOpenedOn f k n nodes opened here budget other = Unit {0}
 
 -- what an answer of the solver says of a goal: there is a model, there is none, or the same cause why neither is known
 abbrev pub solution_of : Result Answer SolveError → Result (Option Model) FlatWhy

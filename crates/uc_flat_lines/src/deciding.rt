@@ -4,9 +4,10 @@ ghost use Rattle.std.specs.Prelude.{◌≡◌, ◌+◌, ◌≤◌, ◌<◌, ◌^
 ghost use Rattle.uc_flat.specs.declared.flat.Formula.{Formula as AFormula};
 ghost use Rattle.uc_flat.specs.Flats.{IsSound};
 ghost use Rattle.uc_symstep.specs.Growing.{Grows};
+ghost use Rattle.uc_symstep.specs.Known.{ReadsOwnTypes};
 ghost use Rattle.uc_flat_lines.specs.Lines.{IsFlatVerdict, IsHonestVerdict};
 ghost use Rattle.uc_obligations.specs.Unrolling.{IsUnrolled};
-ghost use Rattle.uc_flat_lines.specs.Deciding.{IsOutcome, IsSpentFor, IsSpentOn, IsHonestAfter, verdict_of};
+ghost use Rattle.uc_flat_lines.specs.Deciding.{IsOutcome, IsSpentFor, IsSpentOn, IsHonestAfter, IsOpenedAfter, IsOpenedOn, verdict_of};
 
 use crate::line::{FlatVerdict, FlatWhy};
 use crate::solving::solution;
@@ -17,8 +18,9 @@ use uc_log::Meter;
 use uc_obligations::{Unrolling, build, goal};
 use uc_terms::Terms;
 
-/// The verdict on formula `k`, which speaks of one copy, after so many steps.
-pub(crate) fn verdict_on<M: Meter>(
+/// The verdict on formula `k`, which speaks of one copy, after so many steps. Where it is undecided by its budget, that was spent on the
+/// problem that is open at the meter, which stands for the formula's goal.
+pub fn judge<M: Meter>(
     alloc: Global,
     terms: &mut Terms,
     f: &Flat,
@@ -32,11 +34,13 @@ pub(crate) fn verdict_on<M: Meter>(
     requires unrolled { IsUnrolled f.now terms.old steps run.now }
     requires there { k < length f.now.formulas }
     requires single { (x : AFormula) → slice_get f.now.formulas k ≡ Some x → x.copies ≡ 1 }
+    requires own { ReadsOwnTypes f.now }
     requires some { 1 ≤ budget }
     requires total { M.total meter.old + 2 ^ 32 ≤ 2 ^ 127 }
     ensures right { (x : AFormula) → slice_get f.now.formulas k ≡ Some x → IsFlatVerdict f.now x steps result }
     ensures spent { IsSpentOn budget (M.total meter.old) (M.total meter.new) result }
     ensures honest { IsHonestVerdict f.now budget steps result }
+    ensures opened { IsOpenedOn f.now k steps terms.new (M.opened meter.new) (M.here meter.new) budget result }
     ensures few { M.total meter.new ≤ M.total meter.old + 2 ^ 32 }
     ensures within { M.total meter.new ≤ M.total meter.old + budget }
     ensures grown { Grows terms.old terms.new }
@@ -71,11 +75,13 @@ fn refutation<M: Meter>(
     requires unrolled { IsUnrolled f.now terms.old steps run.now }
     requires there { k < length f.now.formulas }
     requires single { (x : AFormula) → slice_get f.now.formulas k ≡ Some x → x.copies ≡ 1 }
+    requires own { ReadsOwnTypes f.now }
     requires some { 1 ≤ budget }
     requires total { M.total meter.old + 2 ^ 32 ≤ 2 ^ 127 }
     ensures outcome { IfOk result (λ o. (x : AFormula) → slice_get f.now.formulas k ≡ Some x → IsOutcome f.now x steps o) }
     ensures cause { IfErr result (IsSpentFor budget (M.total meter.old) (M.total meter.new)) }
     ensures honest { IfErr result (IsHonestAfter f.now budget steps) }
+    ensures opened { IfErr result (IsOpenedAfter f.now k steps terms.new (M.opened meter.new) (M.here meter.new) budget) }
     ensures later { M.total meter.old ≤ M.total meter.new }
     ensures few { M.total meter.new ≤ M.total meter.old + 2 ^ 32 }
     ensures within { M.total meter.new ≤ M.total meter.old + budget }

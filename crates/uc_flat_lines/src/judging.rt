@@ -4,10 +4,11 @@ ghost use Rattle.std.specs.Prelude.{◌≡◌, ◌+◌, ◌≤◌, ◌<◌, ◌^
 ghost use Rattle.uc_flat.specs.Drawn.{listed_if};
 ghost use Rattle.uc_flat.specs.Flats.{IsSound};
 ghost use Rattle.uc_symstep.specs.Growing.{Grows};
+ghost use Rattle.uc_symstep.specs.Known.{ReadsOwnTypes};
 ghost use Rattle.uc_flat_lines.specs.Lines.{speaks_of_one, lines_below, step_lines, AreFlatJudged};
 ghost use Rattle.uc_obligations.specs.Unrolling.{IsUnrolled};
 
-use crate::deciding::verdict_on;
+use crate::deciding::judge;
 use crate::line::FlatLine;
 use std::alloc::{AllocError, Global};
 use uc_flat::Flat;
@@ -16,11 +17,10 @@ use uc_log::Meter;
 use uc_obligations::{Unrolling, advance, begin};
 use uc_terms::Terms;
 
-/// A line for each formula of one copy after 0, 1 and so on up to `depth` steps, each within its budget. Where the design reads each
-/// constant at its own type, a line is undecided by its budget only where the budget is below 2 to its free bits, and where the types
-/// of the constants are valid too, none is for a model that tells no trace. A line is undecided for want of memory also where its goal
-/// has integers, arrays or functions, or where one number is read as constants of two types. There is an error for want of memory, and
-/// where there are 2^32 constants, formulas or symbols.
+/// A line for each formula of one copy after 0, 1 and so on up to `depth` steps, each within its budget. A line is undecided by its
+/// budget only where that is below 2 to its free bits and, where the types of the constants are valid, never for a model that tells no
+/// trace. It is undecided for want of memory also where its goal has integers, arrays or functions. There is an error for want of
+/// memory, and where there are 2^32 constants, formulas or symbols.
 pub fn judge_flat<M: Meter>(
     alloc: Global,
     f: &Flat,
@@ -29,6 +29,7 @@ pub fn judge_flat<M: Meter>(
     meter: &mut M,
 ) -> Result<Items<FlatLine>, AllocError>
     requires sound { IsSound f.now }
+    requires own { ReadsOwnTypes f.now }
     requires some { 1 ≤ budget }
     requires total { M.total meter.old < 2 ^ 126 }
     ensures judged { IfOk result (AreFlatJudged f.now budget (M.total meter.old) (M.total meter.new) (lines_below f.now (depth + 1))) }
@@ -60,6 +61,7 @@ fn judge_step<M: Meter>(
     meter: &mut M,
 ) -> Result<Items<FlatLine>, AllocError>
     requires sound { IsSound f.now }
+    requires own { ReadsOwnTypes f.now }
     requires unrolled { IsUnrolled f.now terms.old steps run.now }
     requires some { 1 ≤ budget }
     requires total { M.total meter.old < 2 ^ 126 + 2 ^ 97 }
@@ -92,6 +94,7 @@ fn judge_formula<M: Meter>(
     meter: &mut M,
 ) -> Result<Items<FlatLine>, AllocError>
     requires sound { IsSound f.now }
+    requires own { ReadsOwnTypes f.now }
     requires unrolled { IsUnrolled f.now terms.old steps run.now }
     requires there { k < length f.now.formulas }
     requires some { 1 ≤ budget }
@@ -104,7 +107,7 @@ fn judge_formula<M: Meter>(
     if formulas[k as usize].copies != 1 {
         return Ok(Items::new(alloc));
     }
-    let verdict = verdict_on(alloc, terms, f, run, steps, k, budget, meter);
+    let verdict = judge(alloc, terms, f, run, steps, k, budget, meter);
     let mut lines = Items::new(alloc);
     lines.push(FlatLine {
         steps,

@@ -10,6 +10,7 @@ mod law;
 mod line;
 mod solving;
 
+pub use deciding::judge;
 pub use judging::judge_flat;
 pub use law::{is_even_where_known, reads_own_types};
 pub use line::{FlatLine, FlatVerdict, FlatWhy};

@@ -6,17 +6,17 @@ ghost use Rattle.uc_ops.specs.Typing.{type_at};
 ghost use Rattle.uc_terms.specs.Subterms.{EvenlyTyped};
 ghost use Rattle.uc_lower.specs.Lowering.{IsFiniteTerm};
 ghost use Rattle.uc_symstep.specs.Growing.{Grows};
-ghost use Rattle.uc_flat_lines.specs.Deciding.{IsSolution, IsSpentFor, IsHonestFor, solution_of};
+ghost use Rattle.uc_flat_lines.specs.Deciding.{IsKnownBySome, IsSolution, IsSpentFor, IsHonestFor, IsOpenedFor, solution_of};
 
 use crate::line::FlatWhy;
 use std::alloc::Global;
-use uc_finite::{is_evenly_typed, is_finite_term};
+use uc_finite::is_finite_term;
 use uc_log::Meter;
 use uc_solver::{Answer, SolveError, solve};
 use uc_terms::{Model, TermId, Terms};
 
 /// A model under which the goal is true, or none where there is none. Memory also counts as used up where the goal has integers,
-/// arrays or functions, or one number for symbols of two types.
+/// arrays or functions.
 pub(crate) fn solution<M: Meter>(
     alloc: Global,
     terms: &mut Terms,
@@ -26,19 +26,18 @@ pub(crate) fn solution<M: Meter>(
 ) -> Result<Option<Model>, FlatWhy>
     requires there { goal < length terms.old }
     requires boolean { type_at terms.old goal ≡ Bool }
+    requires known { IsKnownBySome terms.old goal }
     requires some { 1 ≤ budget }
     requires total { M.total meter.old + 2 ^ 32 ≤ 2 ^ 127 }
     ensures solution { IfOk result (IsSolution terms.old goal) }
     ensures cause { IfErr result (IsSpentFor budget (M.total meter.old) (M.total meter.new)) }
     ensures honest { IfErr result (IsHonestFor budget terms.old goal) }
+    ensures opened { IfErr result (IsOpenedFor terms.new goal (M.opened meter.new) (M.here meter.new) budget) }
     ensures later { M.total meter.old ≤ M.total meter.new }
     ensures few { M.total meter.new ≤ M.total meter.old + 2 ^ 32 }
     ensures within { M.total meter.new ≤ M.total meter.old + budget }
     ensures grown { Grows terms.old terms.new }
 {
-    if !is_evenly_typed(alloc, terms, goal)? {
-        return Err(FlatWhy::Memory);
-    }
     if !is_finite_term(alloc, terms, goal)? {
         return Err(FlatWhy::Memory);
     }
@@ -63,6 +62,7 @@ fn asked<M: Meter>(
     ensures solution { IfOk result (IsSolution terms.old goal) }
     ensures cause { IfErr result (IsSpentFor budget (M.total meter.old) (M.total meter.new)) }
     ensures honest { IfErr result (IsHonestFor budget terms.old goal) }
+    ensures opened { IfErr result (IsOpenedFor terms.new goal (M.opened meter.new) (M.here meter.new) budget) }
     ensures later { M.total meter.old ≤ M.total meter.new }
     ensures few { M.total meter.new ≤ M.total meter.old + 2 ^ 32 }
     ensures within { M.total meter.new ≤ M.total meter.old + budget }

@@ -18,13 +18,13 @@ use Rattle.uc_flat.proofs.Forms.{type_cell, type_apply}
 use Rattle.uc_flat.proofs.Making.{typed_cell, typed_apply, reads_cell, reads_apply, fine_assign, reads_assign}
 use Rattle.uc_flat_lines_rows.specs.Toggles.{low, enabled, turned, is_low, gives, stays_low, toggle}
 
-none : {A : Type 0} (P : A → Type 0) → All P []
+pub none : {A : Type 0} (P : A → Type 0) → All P []
 none P k d l = absurd (omega (arith, l))
 
-one : {A : Type 0} (P : A → Type 0) (x : A) → P x → All P (x ∷ [])
+pub one : {A : Type 0} (P : A → Type 0) (x : A) → P x → All P (x ∷ [])
 one P x h = All-cons P x [] h (none P)
 
-two : {A : Type 0} (P : A → Type 0) (x y : A) → P x → P y → All P (x ∷ y ∷ [])
+pub two : {A : Type 0} (P : A → Type 0) (x y : A) → P x → P y → All P (x ∷ y ∷ [])
 two P x y h g = All-cons P x (y ∷ []) h (one P y g)
 
 abbrev both : List Ty

@@ -32,8 +32,8 @@ impl Model for Ordered {
 }
 
 impl Ordered {
-    /// A design that was found to keep the rules.
-    pub(crate) fn of(typed: TypedDesign) -> Ordered
+    /// A design that keeps all rules.
+    pub fn of(typed: TypedDesign) -> Ordered
         requires { KeepsAll typed }
         ensures { result ≡ typed }
     {

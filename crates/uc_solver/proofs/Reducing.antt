@@ -20,7 +20,7 @@ use Rattle.uc_terms.proofs.Fitting.{value-fits}
 use Rattle.uc_simplify.specs.Simplified.{Grows as Simplified}
 use Rattle.uc_simplify.specs.Features.{BringsNoMore}
 use Rattle.uc_simplify.proofs.Features.{sub-grows, node_of_op}
-use Rattle.uc_lower.specs.Fields.{coded}
+use Rattle.uc_lower.specs.Fields.{low_types, coded}
 use Rattle.uc_lower.specs.Made.{Grows, Within, HasBits}
 use Rattle.uc_lower.specs.Lowering.{Pair, stand_ins, IsSymbol, IsFiniteTerm, Agree, Partner, CorrespondBy, IsPairOf, IsMapOf, IsLoweredTerm}
 use Rattle.uc_lower.specs.Bits.{IsSymbolBelow, HasNoMoreBits, bits_at, AreApart}
@@ -212,10 +212,43 @@ bits_of_goal n0 n1 n2 goal r u pairs s us ts a hu ht c =
     (λ k y. omega (arith, (was_subterm n0 n2 goal s.well g s.there k y.below).there, longer n0 n1 s.first)) ts ht in
     omega (arith, s.no_more_bits us ts a hu listed, bits_kept n1 n2 ts s.second within)
 
+-- a symbol stays one
+symbol_on : (n1 n2 : List Node) (k : ℕ) → Grows n1 n2 → k < length n1 → IsSymbol n1 k → IsSymbol n2 k
+symbol_on n1 n2 k g l y = record { number = y.number; ty = y.ty; has = kept_op n1 n2 k (Symbol y.number y.ty) g l y.has }
+
+-- the simplified goal in the last table
+simple_same : (n0 n1 n2 : List Node) (goal r u : ℕ) (pairs : List Pair) → Steps n0 n1 n2 goal r u pairs → SameUnderEveryModel n2 r n2 goal
+simple_same n0 n1 n2 goal r u pairs s m = kept_value m n1 n2 r s.second s.r_there ∙ goal_value n0 n1 n2 goal r u pairs s m
+
+simple_map : (n0 n1 n2 : List Node) (goal r u : ℕ) (pairs : List Pair) → Steps n0 n1 n2 goal r u pairs → IsMapOf n2 r n2 u pairs
+simple_map n0 n1 n2 goal r u pairs s = record {
+  complete = λ k b y.
+      let a = was_subterm n1 n2 r s.first.well s.second s.r_there k b in
+      let there : IsSymbol n1 k = record { number = y.number; ty = y.ty; has = had_op n1 n2 k (Symbol y.number y.ty) s.second a.there y.has } in
+      s.is_map.complete k a.below there ∙ ap low_types (sym (kept_type n1 n2 k s.second a.there));
+  only = All-weaker (IsPairOf n1 r n2) (IsPairOf n2 r n2) (λ (p : Pair) q. record {
+    below = sub_on n1 n2 r p.0 s.first.well s.r_there s.second q.below;
+    first = symbol_on n1 n2 p.0 s.second (subterm_there n1 r p.0 s.first.well s.r_there q.below) q.first;
+    second = q.second;
+  }) pairs s.is_map.only;
+  listed = s.is_map.listed;
+}
+
+simple_equal : (n0 n1 n2 : List Node) (goal r u : ℕ) (pairs : List Pair) → Steps n0 n1 n2 goal r u pairs → (m n : Model) → Agree m n n2 r n2 pairs → value n n2 u ≡ value m n2 r
+simple_equal n0 n1 n2 goal r u pairs s m n a =
+    let agree : Agree m n n1 r n2 pairs = λ k b y.
+    let inside = subterm_there n1 r k s.first.well s.r_there b in
+    a k (sub_on n1 n2 r k s.first.well s.r_there s.second b) (symbol_on n1 n2 k s.second inside y) ∙ coded_kept m n1 n2 k s.second inside in
+    s.corresponds.same m n agree ∙ sym (kept_value m n1 n2 r s.second s.r_there)
+
 pub reduces : (n0 n1 n2 : List Node) (goal r u : ℕ) (pairs : List Pair) → Steps n0 n1 n2 goal r u pairs → IsReduced n2 goal u pairs
 reduces n0 n1 n2 goal r u pairs s =
     let g = whole n0 n1 n2 goal r u pairs s in
     record {
+      simple = r;
+      same = simple_same n0 n1 n2 goal r u pairs s;
+      map = simple_map n0 n1 n2 goal r u pairs s;
+      equal = simple_equal n0 n1 n2 goal r u pairs s;
       goal_there = omega (arith, s.there, longer n0 n2 g);
       goal_even = grown_even n0 n2 goal s.well s.there g s.even s.finite;
       goal_finite = grown_finite n0 n2 goal s.well s.there g s.finite;

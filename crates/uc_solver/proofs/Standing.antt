@@ -76,7 +76,13 @@ atoms_kept nodes u q m e (constant b h is) f = subst (λ x. All (KeepsAtom nodes
 -- the models of the goal and of the problem go over into each other
 pub stands : (nodes : List Node) (goal u : ℕ) (pairs : List Pair) (q : Question) → WellTyped nodes → NoTwoEqual nodes → IsReduced nodes goal u pairs → IsProblemOf nodes u q → Stands nodes goal q
 stands nodes goal u pairs q w two r p = record {
+  simple = r.simple;
+  low = u;
   pairs = pairs;
+  same = r.same;
+  map = r.map;
+  equal = r.equal;
+  problem = p.stands;
   there = λ m h.
       let n = r.there m h in
       let i = p.stands.there n.0 n.2 in

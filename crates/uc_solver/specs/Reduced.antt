@@ -3,8 +3,9 @@ use Rattle.std.specs.Prelude.{◌≡◌, ℕ, ◌<◌, ◌≤◌, List, length, 
 use Rattle.uc_ops.specs.declared.model.Model.{Model}
 use Rattle.uc_ops.specs.declared.node.Node.{Node}
 use Rattle.uc_terms.specs.Subterms.{EvenlyTyped}
-use Rattle.uc_terms.specs.Laws.{IsModelOf}
-use Rattle.uc_lower.specs.Lowering.{Pair, IsFiniteTerm, IsLoweredTerm}
+use Rattle.uc_terms.specs.Laws.{IsModelOf, SameUnderEveryModel}
+use Rattle.uc_terms.specs.Values.{value}
+use Rattle.uc_lower.specs.Lowering.{Pair, Agree, IsMapOf, IsFiniteTerm, IsLoweredTerm}
 use Rattle.uc_lower.specs.Bits.{bits_at, AreApart, IsSymbolBelow}
 use Rattle.uc_models.specs.Codes.{IsSymbolPair, GoesBack}
 use Rattle.uc_solver.specs.Stands.{Follows}
@@ -14,8 +15,12 @@ pub record Match (m n : Model) (nodes : List Node) (goal : ℕ) (pairs : List Pa
   pub follows : Follows m n nodes pairs
   pub model : IsModelOf m nodes goal
 
--- u is a lowered term whose models are those of the goal by the map, and its symbols have no more bits than those of the goal
+-- u is a lowered term whose models are those of the goal by the map, which is that of a term with the goal's value, and its symbols have no more bits than those of the goal
 pub record IsReduced (nodes : List Node) (goal u : ℕ) (pairs : List Pair) : Type 0 where
+  pub simple : ℕ
+  pub same : SameUnderEveryModel nodes simple nodes goal
+  pub map : IsMapOf nodes simple nodes u pairs
+  pub equal : (m n : Model) → Agree m n nodes simple nodes pairs → value n nodes u ≡ value m nodes simple
   pub goal_there : goal < length nodes
   pub goal_even : EvenlyTyped nodes goal
   pub goal_finite : IsFiniteTerm nodes goal

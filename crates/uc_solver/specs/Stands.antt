@@ -4,10 +4,11 @@ use Rattle.uc_ops.specs.declared.model.Model.{Model}
 use Rattle.uc_ops.specs.declared.node.Node.{Node}
 use Rattle.uc_ops.specs.Typing.{type_at}
 use Rattle.uc_terms.specs.Values.{value, values_at}
-use Rattle.uc_terms.specs.Laws.{IsModelOf}
+use Rattle.uc_terms.specs.Laws.{IsModelOf, SameUnderEveryModel}
 use Rattle.uc_lower.specs.Fields.{coded}
-use Rattle.uc_lower.specs.Lowering.{Pair, stand_ins}
+use Rattle.uc_lower.specs.Lowering.{Pair, stand_ins, Agree, IsMapOf}
 use Rattle.uc_lower.specs.Bits.{bits_at, IsSymbolBelow}
+use Rattle.uc_blast.specs.Blasting.{StandsFor}
 use Rattle.uc_log.specs.Problems.{Question, IsModelOf as IsModelOfProblem}
 
 -- the symbols that the map speaks of
@@ -26,9 +27,17 @@ pub record GoesOver (m : Model) (inputs : List Truth) (nodes : List Node) (goal 
   pub goal_model : IsModelOf m nodes goal
   pub problem_model : IsModelOfProblem between inputs nodes q
 
--- by a map of symbols every model of the goal goes over into one of the problem, and every model of the problem into one of the goal
+-- There is a term with the goal's value under every model, and a lowered one whose problem this is. The map has for each symbol of the one the symbols of the other that
+-- stand for its innermost fields: models that agree by it give both terms one value, every model of the goal goes over into one of the problem, and every model of
+-- the problem into one of the goal.
 pub record Stands (nodes : List Node) (goal : ℕ) (q : Question) : Type 0 where
+  pub simple : ℕ
+  pub low : ℕ
   pub pairs : List Pair
+  pub same : SameUnderEveryModel nodes simple nodes goal
+  pub map : IsMapOf nodes simple nodes low pairs
+  pub equal : (m n : Model) → Agree m n nodes simple nodes pairs → value n nodes low ≡ value m nodes simple
+  pub problem : StandsFor nodes low q
   pub there : (m : Model) → IsModelOf m nodes goal → (inputs : List Truth) × GoesOver m inputs nodes goal q pairs
   pub back : (n : Model) (inputs : List Truth) → IsModelOfProblem n inputs nodes q → (m : Model) × GoesOver m inputs nodes goal q pairs
 

@@ -6,7 +6,7 @@ use crate::others::{
 };
 use std::alloc::Global;
 use std::test::Fail;
-use uc_linear::LinearError;
+use uc_linear::{LinearError, Wide, WideOp};
 use uc_values::{Value, lookup};
 
 /// Three truth values, whether all hold, and whether one does.
@@ -127,6 +127,14 @@ fn sums_hold(alloc: Global) -> Result<bool, LinearError> {
     Ok(true)
 }
 
+/// The operation that leaves 128 bits in a sum, if one does.
+fn wide_in_sum(alloc: Global, a: i128, b: i128, c: i128) -> Option<Wide> {
+    match sum(alloc, a, b, c) {
+        Err(LinearError::Wide(wide)) => Some(wide),
+        _ => None,
+    }
+}
+
 fn multiples_hold(alloc: Global) -> Result<bool, LinearError> {
     for (factor, a, product) in multiples() {
         if !is_number(multiple(alloc, factor, a)?, product) {
@@ -193,6 +201,12 @@ fn truth_values_and_integers_are_as_in_arithmetic(rt: HostRuntime) -> Result<(),
     assert!(rt; choices_hold(alloc)?);
     assert!(rt; comparisons_hold(alloc)?);
     assert!(rt; sums_hold(alloc)?);
+    let wide = Wide {
+        op: WideOp::Add,
+        a: i128::MAX,
+        b: 1,
+    };
+    assert_eq!(rt; wide_in_sum(alloc, i128::MAX, 1, 0), Some(wide));
     assert!(rt; multiples_hold(alloc)?);
     Ok(())
 }

@@ -32,8 +32,8 @@ impl Model for TypedDesign {
 }
 
 impl TypedDesign {
-    /// A design that was found to keep the rules.
-    pub(crate) fn of(design: Design, main: u32) -> TypedDesign
+    /// A design that keeps the rules.
+    pub fn of(design: Design, main: u32) -> TypedDesign
         requires { KeepsTypes (record { contents = design; main = main }) }
         ensures { result ≡ record { contents = design; main = main } }
     {

@@ -1,11 +1,12 @@
 use Rattle.std.proofs.Common.{arith, subst, sym}
 use Rattle.std.specs.Prelude.{IfErr}
 use Rattle.std.proofs.lemmas.Result.{err_from_is_err_and}
+use Rattle.uc_symstep.specs.Known.{supply_after}
 use Rattle.uc_symstep.proofs.Grown.{grows_length, grows_on}
 use Rattle.uc_obligations.proofs.Unrollings.{unrolled_grows}
 use Rattle.uc_obligations.specs.Goals.{IsTold}
-use Rattle.uc_flat_lines.specs.Deciding.{IsSolution, IsHonestAfter}
-use Rattle.uc_flat_lines.proofs.Outcomes.{none_all, one_all, honest_after, never_untold}
+use Rattle.uc_flat_lines.specs.Deciding.{IsSolution, IsHonestAfter, IsOpenedAfter}
+use Rattle.uc_flat_lines.proofs.Outcomes.{none_all, one_all, honest_after, opened_after, never_untold}
 use Rattle.uc_flat_lines.proofs.deciding.refutation.Goals as goal
 
 pub solution-requires-clause-there : goal.solution-requires-clause-there
@@ -13,6 +14,9 @@ solution-requires-clause-there g c = c.in_ok-goal.ensures.truth.there
 
 pub solution-requires-clause-boolean : goal.solution-requires-clause-boolean
 solution-requires-clause-boolean g c = c.in_ok-goal.ensures.truth.typed
+
+pub solution-requires-clause-known : goal.solution-requires-clause-known
+solution-requires-clause-known g c = (supply_after c.args.f.now c.args.steps, c.in_ok-goal.ensures.known c.requires.own)
 
 pub build-requires-clause-unrolled : goal.build-requires-clause-unrolled
 build-requires-clause-unrolled g c =
@@ -42,4 +46,11 @@ returns-in_err-solution-clause-honest g c =
     let p = err_from_is_err_and c.from_residual-in_err-solution.result c.from_residual-in_err-solution.ensures.1 in
     let own = honest_after c.args.f.now c.args.budget c.args.steps _ _ c.in_err-solution.field-0.0 c.in_ok-goal.ensures.known c.in_err-solution.ensures.honest in
     let why = IsHonestAfter c.args.f.now c.args.budget c.args.steps in
+    subst (λ r. IfErr r why) (sym p.1) (subst why (sym p.2) own)
+
+pub returns-in_err-solution-clause-opened : goal.returns-in_err-solution-clause-opened
+returns-in_err-solution-clause-opened g c =
+    let p = err_from_is_err_and c.from_residual-in_err-solution.result c.from_residual-in_err-solution.ensures.1 in
+    let why = IsOpenedAfter c.args.f.now c.args.k c.args.steps c.solution.new.terms (g.M.Meter.opened c.solution.new.meter) (g.M.Meter.here c.solution.new.meter) c.args.budget in
+    let own = opened_after c.args.f.now c.args.k c.args.steps _ _ c.in_ok-goal.goal _ _ c.args.budget c.in_err-solution.field-0.0 c.in_err-solution.ensures.grown c.in_ok-goal.ensures.truth.there c.in_ok-goal.ensures.goal c.in_err-solution.ensures.opened in
     subst (λ r. IfErr r why) (sym p.1) (subst why (sym p.2) own)
