@@ -39,9 +39,15 @@ cycles_in r = if is_judged r then use_cycles r.0 else []
 abbrev pub cycles : System → List Fault
 cycles system = flat_map cycles_in (roots system)
 
--- enums and loops that are too large themselves
+-- loops that are too long, and enums that are too large, by themselves
+abbrev pub loop_faults : System → List Fault
+loop_faults system = flat_map turn_faults system.modules
+
+abbrev pub enum_faults : System → List Fault
+enum_faults system = flat_map label_faults system.modules
+
 abbrev pub size_faults : System → List Fault
-size_faults system = flat_map (λ m. label_faults m ++ turn_faults m) system.modules
+size_faults system = loop_faults system ++ enum_faults system
 
 -- cells that depend on themselves
 abbrev pub dependence_in : Root → List Fault
@@ -63,22 +69,15 @@ has_long_uses r = is_judged r && has_long_chain r.0
 abbrev pub has_large_tree : System → Bool
 has_large_tree system = has_deep_module system || (has_many_instances system || nat_lt most_cells (length (cells_of system)))
 
--- a chain of uses is too long, or what main expands to is too large
-abbrev pub passes_limit : System → Bool
-passes_limit system = list_any has_long_uses (roots system) || is_too_large system
+-- the limits on the whole, at the place of main, where cycles are in order or not, and where loops are too
+abbrev pub whole_faults_if : System → Bool → Bool → List Fault
+whole_faults_if system acyclic bounded =
+    flat_map (λ m. breaks_where (has_large_tree system || ((acyclic && list_any has_long_uses (roots system)) || (bounded && is_too_large system))) TooLarge m.place) (as_list (main_module system))
 
--- no cycle, enum or loop is at fault
-abbrev pub is_bounded : System → Bool
-is_bounded system = is_empty (cycles system) && is_empty (size_faults system)
-
--- the limits on the whole, at the place of main, where cycles, enums and loops are in order or not
-abbrev pub whole_faults_if : System → Bool → List Fault
-whole_faults_if system bounded = flat_map (λ m. breaks_where (has_large_tree system || (bounded && passes_limit system)) TooLarge m.place) (as_list (main_module system))
-
--- How long chains of instances are, and how many instances and cells there are, rests on nothing that is judged here. Chains of uses and what main expands to rest
--- on cycles, enums and loops: they are judged where none of these is at fault.
+-- How long chains of instances are, and how many instances and cells there are, rests on nothing that is judged here. Chains of uses rest on cycles, and what main
+-- expands to on cycles and loops: they are judged where none of these is at fault.
 abbrev pub whole_faults : System → List Fault
-whole_faults system = whole_faults_if system (is_bounded system)
+whole_faults system = whole_faults_if system (is_empty (cycles system)) (is_empty (cycles system) && is_empty (loop_faults system))
 
 -- All faults, in no order.
 unfoldable pub order_faults : System → List Fault

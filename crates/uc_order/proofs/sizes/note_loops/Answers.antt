@@ -1,0 +1,14 @@
+use Rattle.uc_order_rules.specs.Sizes.{turn_faults}
+use Rattle.uc_statement_rules.proofs.Noted.{noted_begin, noted_end, noted_more}
+use Rattle.uc_order.proofs.sizes.note_loops.Goals as goal
+
+pub loop-code-init : goal.loop-code-init
+loop-code-init c = noted_begin turn_faults c.args.modules.now c.args.first.now
+
+pub loop-code-preserved : goal.loop-code-preserved
+loop-code-preserved c =
+    noted_more turn_faults c.args.modules.now c.args.first.now c.loop-code.code-index c.loop-code.first c.note_long_loops.new.first c.code-item.result c.code-item.result
+    c.loop-code.invariant c.loop-code-test.true c.code-item.is c.note_long_loops.ensures
+
+pub returns : goal.returns
+returns c = noted_end turn_faults c.args.modules.now c.args.first.now c.loop-code.code-index c.loop-code.first c.loop-code.invariant c.loop-code-test.false
