@@ -13,7 +13,7 @@ use Rattle.uc_flat.specs.Drawn.{listed_if}
 use Rattle.uc_flat_lines.specs.declared.line.FlatLine.{FlatLine}
 use Rattle.uc_flat_lines.specs.declared.line.FlatVerdict.{FlatVerdict}
 use Rattle.uc_flat_lines.specs.declared.line.FlatVerdict.TheVariants.{Passed, Failed, Undef}
-use Rattle.uc_flat_lines.specs.declared.line.FlatWhy.TheVariants.{Memory, Budget, Untold}
+use Rattle.uc_flat_lines.specs.declared.line.FlatWhy.TheVariants.{Memory, Budget}
 use Rattle.uc_flat_lines.specs.Lines.{speaks_of_one, singles_below, lines_of, step_lines, lines_below, IsFlatVerdict, IsRightLine, is_out_of_budget, IsHonestVerdict, IsHonestLine, AreFlatJudged}
 use Rattle.uc_flat_lines.specs.Deciding.{IsSpentOn}
 
@@ -56,7 +56,6 @@ spent_one budget before after Passed h = omega (arith, h)
 spent_one budget before after (Failed t) h = omega (arith, h)
 spent_one budget before after (Undef Budget) h = omega (arith, h)
 spent_one budget before after (Undef Memory) h = omega (arith, h)
-spent_one budget before after (Undef Untold) h = omega (arith, h)
 
 -- the formula at a place
 pub one_of : (f : Flat) (k : ℕ) (x : Formula) (xs : List Formula) → xs ≡ f.formulas → k < length f.formulas → slice_get f.formulas k ≡ Some (get_or xs k x)

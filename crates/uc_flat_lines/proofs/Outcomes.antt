@@ -4,19 +4,20 @@ use Rattle.std.specs.Prelude.{Result, Ok, Err, IfOk, IfErr}
 use Rattle.uc_values.specs.Values.{truth_of}
 use Rattle.uc_ops.specs.declared.model.Model.{Model}
 use Rattle.uc_ops.specs.declared.node.Node.{Node}
+use Rattle.uc_ops.specs.Typing.{AllValid}
 use Rattle.uc_flat.specs.declared.flat.Flat.{Flat}
 use Rattle.uc_flat.specs.declared.flat.Formula.{Formula}
 use Rattle.uc_symstep.specs.Growing.{Grows}
-use Rattle.uc_symstep.specs.Known.{IsKnown, ReadsOwnTypes, supply_after}
+use Rattle.uc_symstep.specs.Known.{IsKnown, supply_after}
 use Rattle.uc_symstep.proofs.Grown.{grows_value}
 use Rattle.uc_symstep.proofs.Known.{known_grows}
 use Rattle.uc_flat_traces.specs.declared.trace.FlatTrace.{FlatTrace}
-use Rattle.uc_flat_traces.specs.Traces.{RefutesFlat}
+use Rattle.uc_flat_traces.specs.Traces.{constant_types, RefutesFlat}
 use Rattle.uc_log.specs.Problems.{Question}
 use Rattle.uc_obligations.specs.Goals.{IsGoal, IsObligation, IsTold}
 use Rattle.uc_obligations.proofs.Goaled.{goal_grows}
 use Rattle.uc_flat_lines.specs.declared.line.FlatWhy.{FlatWhy}
-use Rattle.uc_flat_lines.specs.declared.line.FlatWhy.TheVariants.{Memory, Budget, Untold}
+use Rattle.uc_flat_lines.specs.declared.line.FlatWhy.TheVariants.{Memory, Budget}
 use Rattle.uc_flat_lines.specs.Deciding.{IsSolution, IsOutcome, IsSpentFor, IsSpentOn, IsHonestFor, IsHonestAfter, IsOpenedFor, IsOpenedAfter, IsOpenedOn, verdict_of}
 use Rattle.uc_flat_lines.specs.Lines.{IsFlatVerdict, IsHonestVerdict}
 
@@ -30,22 +31,20 @@ pub one_all : (f : Flat) (k n : ℕ) (old new : List Node) (goal : ℕ) (t : Fla
     → ((x : Formula) → IsGoal f x n new goal → RefutesFlat f x n t) → (x : Formula) → slice_get f.formulas k ≡ Some x → IsOutcome f x n (Some t)
 one_all f k n old new goal t grown l g built x at = built x (goal_grows f x n old new goal grown l (g x at))
 
-pub honest_after : (f : Flat) (budget n : ℕ) (nodes : List Node) (goal : ℕ) (why : FlatWhy) → (ReadsOwnTypes f → IsKnown (supply_after f n) nodes goal) → IsHonestFor budget nodes goal why → IsHonestAfter f budget n why
-honest_after f budget n nodes goal Budget k h = λ reads. h (supply_after f n) (k reads)
+pub honest_after : (f : Flat) (budget n : ℕ) (nodes : List Node) (goal : ℕ) (why : FlatWhy) → IsKnown (supply_after f n) nodes goal → IsHonestFor budget nodes goal why → IsHonestAfter f budget n why
+honest_after f budget n nodes goal Budget k h = h (supply_after f n) k
 honest_after f budget n nodes goal Memory k h = tt
-honest_after f budget n nodes goal Untold k h = absurd h
 
 -- the problem of a goal is that of its formula
 pub opened_after : (f : Flat) (k n : ℕ) (old new : List Node) (goal : ℕ) (opened : Option Question) (here budget : ℕ) (why : FlatWhy) → Grows old new → goal < length old
     → ((x : Formula) → slice_get f.formulas k ≡ Some x → IsGoal f x n old goal) → IsOpenedFor new goal opened here budget why → IsOpenedAfter f k n new opened here budget why
 opened_after f k n old new goal opened here budget Budget g l is h = (goal, (λ x at. goal_grows f x n old new goal g l (is x at)), h.0, h.1)
 opened_after f k n old new goal opened here budget Memory g l is h = tt
-opened_after f k n old new goal opened here budget Untold g l is h = tt
 
 -- a model of a known goal tells a trace
-pub never_untold : (f : Flat) (budget n : ℕ) (old new : List Node) (goal : ℕ) (m : Model) → Grows old new → goal < length old → IsSolution old goal (Some m) → (ReadsOwnTypes f → IsKnown (supply_after f n) old goal)
-    → IsTold f n new goal m None → IsHonestAfter f budget n Untold
-never_untold f budget n old new goal m g l s k t = λ own valid. t valid (known_grows (supply_after f n) old new g goal (k own)) (ap truth_of (grows_value old new g m goal l) ∙ s)
+pub never_untold : (f : Flat) (n : ℕ) (old new : List Node) (goal : ℕ) (m : Model) → Grows old new → goal < length old → IsSolution old goal (Some m) → IsKnown (supply_after f n) old goal → AllValid (constant_types f)
+    → IsTold f n new goal m None → ⊥
+never_untold f n old new goal m g l s k valid t = t valid (known_grows (supply_after f n) old new g goal k) (ap truth_of (grows_value old new g m goal l) ∙ s)
 
 -- from what is found of a formula to its verdict
 pub verdict_right : (f : Flat) (x : Formula) (n k : ℕ) (r : Result (Option FlatTrace) FlatWhy) → IfOk r (λ o. (y : Formula) → slice_get f.formulas k ≡ Some y → IsOutcome f y n o) → slice_get f.formulas k ≡ Some x
@@ -63,7 +62,6 @@ pub verdict_honest : (f : Flat) (budget n : ℕ) (r : Result (Option FlatTrace) 
 verdict_honest f budget n (Ok None) h = tt
 verdict_honest f budget n (Ok (Some t)) h = tt
 verdict_honest f budget n (Err Budget) h = h
-verdict_honest f budget n (Err Untold) h = h
 verdict_honest f budget n (Err Memory) h = tt
 
 pub verdict_opened : (f : Flat) (k n : ℕ) (nodes : List Node) (opened : Option Question) (here budget : ℕ) (r : Result (Option FlatTrace) FlatWhy) → IfErr r (IsOpenedAfter f k n nodes opened here budget)

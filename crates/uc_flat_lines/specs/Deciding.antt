@@ -3,11 +3,10 @@ use Rattle.std.specs.Prelude.{◌≡◌, ℕ, ◌+◌, ◌<◌, ◌≤◌, ◌^�
 use Rattle.uc_values.specs.declared.ty.Ty.{Ty}
 use Rattle.uc_ops.specs.declared.model.Model.{Model}
 use Rattle.uc_ops.specs.declared.node.Node.{Node}
-use Rattle.uc_ops.specs.Typing.{AllValid}
 use Rattle.uc_flat.specs.declared.flat.Flat.{Flat}
 use Rattle.uc_flat.specs.declared.flat.Formula.{Formula}
 use Rattle.uc_symstep.specs.Stands.{holds}
-use Rattle.uc_symstep.specs.Known.{IsKnown, ReadsOwnTypes}
+use Rattle.uc_symstep.specs.Known.{IsKnown}
 use Rattle.uc_lower.specs.Bits.{type_bits}
 use Rattle.uc_log.specs.Problems.{Question}
 use Rattle.uc_solver.specs.Stands.{OpenedStands}
@@ -16,13 +15,13 @@ use Rattle.uc_solver.specs.declared.answer.Answer.TheVariants.{Model as Found, R
 use Rattle.uc_solver.specs.declared.answer.SolveError.{SolveError}
 use Rattle.uc_solver.specs.declared.answer.SolveError.TheVariants.{NoMemory, Budget as SpentBudget}
 use Rattle.uc_flat_traces.specs.declared.trace.FlatTrace.{FlatTrace}
-use Rattle.uc_flat_traces.specs.Traces.{constant_types, RefutesFlat}
+use Rattle.uc_flat_traces.specs.Traces.{RefutesFlat}
 use Rattle.uc_obligations.specs.Goals.{IsGoal}
 use Rattle.uc_flat_lines.specs.Lines.{free_bits}
 use Rattle.uc_flat_lines.specs.declared.line.FlatVerdict.{FlatVerdict}
 use Rattle.uc_flat_lines.specs.declared.line.FlatVerdict.TheVariants.{Passed, Failed, Undef}
 use Rattle.uc_flat_lines.specs.declared.line.FlatWhy.{FlatWhy}
-use Rattle.uc_flat_lines.specs.declared.line.FlatWhy.TheVariants.{Memory, Budget, Untold}
+use Rattle.uc_flat_lines.specs.declared.line.FlatWhy.TheVariants.{Memory, Budget}
 
 -- the term is known by some supply of types
 abbrev pub IsKnownBySome : List Node → ℕ → Type 0
@@ -47,16 +46,14 @@ abbrev pub IsSpentOn : ℕ → ℕ → ℕ → FlatVerdict → Type 0
 IsSpentOn budget before after (Undef why) = IsSpentFor budget before after why
 IsSpentOn budget before after other = before ≤ after
 
--- A goal is undecided by its budget only where the budget is below 2 to the bits of each supply of types that knows it. No trace is told of it.
+-- A goal is undecided by its budget only where the budget is below 2 to the bits of each supply of types that knows it.
 abbrev pub IsHonestFor : ℕ → List Node → ℕ → FlatWhy → Type 0
 IsHonestFor budget nodes goal Budget = (supply : List Ty) → IsKnown supply nodes goal → budget < 2 ^ type_bits supply
-IsHonestFor budget nodes goal Untold = ⊥
 IsHonestFor budget nodes goal Memory = Unit {0}
 
--- So is a formula after n steps, with the free bits of its line. A model of its goal tells a trace where each constant is read at its own type and these types are valid.
+-- So is a formula after n steps, with the free bits of its line.
 abbrev pub IsHonestAfter : Flat → ℕ → ℕ → FlatWhy → Type 0
-IsHonestAfter f budget n Budget = ReadsOwnTypes f → budget < 2 ^ free_bits f n
-IsHonestAfter f budget n Untold = ReadsOwnTypes f → AllValid (constant_types f) → ⊥
+IsHonestAfter f budget n Budget = budget < 2 ^ free_bits f n
 IsHonestAfter f budget n Memory = Unit {0}
 
 -- A goal is undecided by its budget: the opened problem stands for it, and the budget was spent on that problem.

@@ -3,15 +3,14 @@ use Rattle.std.specs.Prelude.{◌≡◌, ℕ, zero, suc, ◌+◌, ◌*◌, ◌<�
 use Rattle.uc_flat.specs.declared.flat.Flat.{Flat}
 use Rattle.uc_flat.specs.declared.flat.Formula.{Formula}
 use Rattle.uc_flat.specs.Drawn.{listed_if}
-use Rattle.uc_symstep.specs.Known.{supply_after, ReadsOwnTypes}
+use Rattle.uc_symstep.specs.Known.{supply_after}
 use Rattle.uc_lower.specs.Bits.{type_bits}
-use Rattle.uc_ops.specs.Typing.{AllValid}
 use Rattle.uc_flat_traces.specs.declared.trace.FlatTrace.{FlatTrace}
-use Rattle.uc_flat_traces.specs.Traces.{constant_types, RefutesFlat}
+use Rattle.uc_flat_traces.specs.Traces.{RefutesFlat}
 use Rattle.uc_flat_lines.specs.declared.line.FlatLine.{FlatLine}
 use Rattle.uc_flat_lines.specs.declared.line.FlatVerdict.{FlatVerdict}
 use Rattle.uc_flat_lines.specs.declared.line.FlatVerdict.TheVariants.{Passed, Failed, Undef}
-use Rattle.uc_flat_lines.specs.declared.line.FlatWhy.TheVariants.{Budget, Untold}
+use Rattle.uc_flat_lines.specs.declared.line.FlatWhy.TheVariants.{Budget}
 
 -- whether there is a formula and it speaks of one copy
 abbrev pub speaks_of_one : Option Formula → Bool
@@ -53,10 +52,9 @@ is_out_of_budget other = false
 abbrev pub free_bits : Flat → ℕ → ℕ
 free_bits f n = type_bits (supply_after f n)
 
--- Where each constant is read at its own type, a line is undecided by its budget only where the budget is below 2 to its free bits; and where the types of the constants are valid too, none is for a model that tells no trace.
+-- A line is undecided by its budget only where the budget is below 2 to its free bits.
 abbrev pub IsHonestVerdict : Flat → ℕ → ℕ → FlatVerdict → Type 0
-IsHonestVerdict f budget n (Undef Budget) = ReadsOwnTypes f → budget < 2 ^ free_bits f n
-IsHonestVerdict f budget n (Undef Untold) = ReadsOwnTypes f → AllValid (constant_types f) → ⊥
+IsHonestVerdict f budget n (Undef Budget) = budget < 2 ^ free_bits f n
 IsHonestVerdict f budget n other = Unit {0}
 
 abbrev pub IsHonestLine : Flat → ℕ → FlatLine → Type 0

@@ -5,6 +5,8 @@ ghost use Rattle.uc_flat.specs.declared.flat.Formula.{Formula as AFormula};
 ghost use Rattle.uc_flat.specs.Flats.{IsSound};
 ghost use Rattle.uc_symstep.specs.Growing.{Grows};
 ghost use Rattle.uc_symstep.specs.Known.{ReadsOwnTypes};
+ghost use Rattle.uc_ops.specs.Typing.{AllValid};
+ghost use Rattle.uc_flat_traces.specs.Traces.{constant_types};
 ghost use Rattle.uc_flat_lines.specs.Lines.{IsFlatVerdict, IsHonestVerdict};
 ghost use Rattle.uc_obligations.specs.Unrolling.{IsUnrolled};
 ghost use Rattle.uc_flat_lines.specs.Deciding.{IsOutcome, IsSpentFor, IsSpentOn, IsHonestAfter, IsOpenedAfter, IsOpenedOn, verdict_of};
@@ -35,6 +37,7 @@ pub fn judge<M: Meter>(
     requires there { k < length f.now.formulas }
     requires single { (x : AFormula) → slice_get f.now.formulas k ≡ Some x → x.copies ≡ 1 }
     requires own { ReadsOwnTypes f.now }
+    requires valid { AllValid (constant_types f.now) }
     requires some { 1 ≤ budget }
     requires total { M.total meter.old + 2 ^ 32 ≤ 2 ^ 127 }
     ensures right { (x : AFormula) → slice_get f.now.formulas k ≡ Some x → IsFlatVerdict f.now x steps result }
@@ -76,6 +79,7 @@ fn refutation<M: Meter>(
     requires there { k < length f.now.formulas }
     requires single { (x : AFormula) → slice_get f.now.formulas k ≡ Some x → x.copies ≡ 1 }
     requires own { ReadsOwnTypes f.now }
+    requires valid { AllValid (constant_types f.now) }
     requires some { 1 ≤ budget }
     requires total { M.total meter.old + 2 ^ 32 ≤ 2 ^ 127 }
     ensures outcome { IfOk result (λ o. (x : AFormula) → slice_get f.now.formulas k ≡ Some x → IsOutcome f.now x steps o) }
@@ -90,11 +94,9 @@ fn refutation<M: Meter>(
     let goal = goal(terms, alloc, f, run, steps, k)?;
     match solution(alloc, terms, goal, budget, meter)? {
         None => Ok(None),
-        Some(model) => {
-            let Some(trace) = build(alloc, terms, f, run, steps, goal, model)? else {
-                return Err(FlatWhy::Untold);
-            };
-            Ok(Some(trace))
-        }
+        Some(model) => match build(alloc, terms, f, run, steps, goal, model)? {
+            Some(trace) => Ok(Some(trace)),
+            None => unreachable!(),
+        },
     }
 }

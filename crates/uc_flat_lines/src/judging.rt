@@ -5,6 +5,8 @@ ghost use Rattle.uc_flat.specs.Drawn.{listed_if};
 ghost use Rattle.uc_flat.specs.Flats.{IsSound};
 ghost use Rattle.uc_symstep.specs.Growing.{Grows};
 ghost use Rattle.uc_symstep.specs.Known.{ReadsOwnTypes};
+ghost use Rattle.uc_ops.specs.Typing.{AllValid};
+ghost use Rattle.uc_flat_traces.specs.Traces.{constant_types};
 ghost use Rattle.uc_flat_lines.specs.Lines.{speaks_of_one, lines_below, step_lines, AreFlatJudged};
 ghost use Rattle.uc_obligations.specs.Unrolling.{IsUnrolled};
 
@@ -18,9 +20,8 @@ use uc_obligations::{Unrolling, advance, begin};
 use uc_terms::Terms;
 
 /// A line for each formula of one copy after 0, 1 and so on up to `depth` steps, each within its budget. A line is undecided by its
-/// budget only where that is below 2 to its free bits and, where the types of the constants are valid, never for a model that tells no
-/// trace. It is undecided for want of memory also where its goal has integers, arrays or functions. There is an error for want of
-/// memory, and where there are 2^32 constants, formulas or symbols.
+/// budget only where that is below 2 to its free bits, and for want of memory also where its goal has integers, arrays or functions.
+/// There is an error for want of memory, and where there are 2^32 constants, formulas or symbols.
 pub fn judge_flat<M: Meter>(
     alloc: Global,
     f: &Flat,
@@ -30,6 +31,7 @@ pub fn judge_flat<M: Meter>(
 ) -> Result<Items<FlatLine>, AllocError>
     requires sound { IsSound f.now }
     requires own { ReadsOwnTypes f.now }
+    requires valid { AllValid (constant_types f.now) }
     requires some { 1 ≤ budget }
     requires total { M.total meter.old < 2 ^ 126 }
     ensures judged { IfOk result (AreFlatJudged f.now budget (M.total meter.old) (M.total meter.new) (lines_below f.now (depth + 1))) }
@@ -62,6 +64,7 @@ fn judge_step<M: Meter>(
 ) -> Result<Items<FlatLine>, AllocError>
     requires sound { IsSound f.now }
     requires own { ReadsOwnTypes f.now }
+    requires valid { AllValid (constant_types f.now) }
     requires unrolled { IsUnrolled f.now terms.old steps run.now }
     requires some { 1 ≤ budget }
     requires total { M.total meter.old < 2 ^ 126 + 2 ^ 97 }
@@ -95,6 +98,7 @@ fn judge_formula<M: Meter>(
 ) -> Result<Items<FlatLine>, AllocError>
     requires sound { IsSound f.now }
     requires own { ReadsOwnTypes f.now }
+    requires valid { AllValid (constant_types f.now) }
     requires unrolled { IsUnrolled f.now terms.old steps run.now }
     requires there { k < length f.now.formulas }
     requires some { 1 ≤ budget }

@@ -9,8 +9,6 @@ use uc_linear::LinearError;
 pub enum FlatWhy {
     Memory,
     Budget,
-    /// The model of the goal tells no trace.
-    Untold,
 }
 
 impl From<AllocError> for FlatWhy {

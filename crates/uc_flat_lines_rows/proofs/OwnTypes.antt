@@ -1,12 +1,14 @@
--- The design reads its constant at its type.
+-- The design reads its constant at its type, which is a valid one.
 use Rattle.std.proofs.Common.{◌≡◌, ℕ, List, [], ◌∷◌, Some, rules, refl, sym, ap, ◌∙◌, subst, slice_get, ◌⊎◌, inl, inr}
 use Rattle.std.specs.Prelude.{All, Contains, false}
 use Rattle.std.proofs.lemmas.List.Elements.{All-contains}
 use Rattle.uc_values.specs.declared.ty.Ty.{Ty}
 use Rattle.uc_values.specs.declared.ty.Ty.TheVariants.{Bool}
 use Rattle.uc_values.specs.declared.value.Value.TheVariants.{Bool as Truth}
+use Rattle.uc_values.proofs.Shapes.{valid-Bool}
 use Rattle.uc_ops.specs.declared.op.Op.{Op}
 use Rattle.uc_ops.specs.declared.op.Op.TheVariants.{Const, Not, Eq, Symbol}
+use Rattle.uc_ops.specs.Typing.{Valid, AllValid}
 use Rattle.uc_flat.specs.declared.expression.Expression.{Expression}
 use Rattle.uc_flat.specs.declared.expression.Expression.TheOpen.{Expression-F}
 use Rattle.uc_flat.specs.declared.expression.Expression.TheOpen.Expression-F.{Cell as CellForm, Apply as ApplyForm}
@@ -22,6 +24,7 @@ use Rattle.uc_flat.specs.declared.flat.Formula.{Formula}
 use Rattle.uc_flat.specs.Fine.{IsWithin, itself, deeper, IsInside, ReadsTyped}
 use Rattle.uc_flat.proofs.Making.{inside_assign}
 use Rattle.uc_symstep.specs.Known.{CodeReadsTyped, ReadsOwnTypes}
+use Rattle.uc_flat_traces.specs.Traces.{constant_types}
 use Rattle.uc_flat_lines_rows.specs.Toggles.{low, enabled, turned, is_low, gives, stays_low, toggle}
 use Rattle.uc_flat_lines_rows.proofs.Sound.{none, one, two}
 
@@ -121,3 +124,6 @@ toggle_own = record {
 
 pub own_as : (f : Flat) → f ≡ toggle → ReadsOwnTypes f
 own_as f i = subst ReadsOwnTypes (sym i) toggle_own
+
+pub valid_as : (f : Flat) → f ≡ toggle → AllValid (constant_types f)
+valid_as f i = subst (λ (g : Flat). AllValid (constant_types g)) (sym i) (one Valid Bool valid-Bool)

@@ -36,9 +36,6 @@ fn main(rt: HostRuntime) -> Result<(), Fail> {
             FlatVerdict::Undef(FlatWhy::Budget) => println!(rt;
                 "after {steps} steps formula {formula} spent its budget"
             )?,
-            FlatVerdict::Undef(FlatWhy::Untold) => println!(rt;
-                "after {steps} steps formula {formula} has a model without a trace"
-            )?,
         }
     }
     Ok(())

@@ -56,7 +56,7 @@ use Rattle.uc_flat_design.proofs.Formulas.{axioms_read, invariants_read}
 use Rattle.uc_flat_design.proofs.Tables.{all_valid, zero_interpretation, zero_model, zeros_fit, zero_shared, says_at_zeros, axiom_says_at_zeros}
 use Rattle.uc_flat_design.proofs.NextTable.{next_table, next_says_at_zeros}
 use Rattle.uc_flat_design.proofs.Laws.{alone_of, flat_types, flat_further, flat_init_types, flat_constant_types}
-use Rattle.uc_flat_sound.specs.Law.{SoundLaw, OwnTypesLaw}
+use Rattle.uc_flat_sound.specs.Law.{SoundLaw, OwnTypesLaw, ValidConstantsLaw}
 
 valid_append : (xs ys : List Ty) → AllValid xs → AllValid ys → AllValid (xs ++ ys)
 valid_append [] ys f g = g
@@ -335,3 +335,6 @@ sound_holds system code f d = sound system code f d
 
 pub own_types_hold : OwnTypesLaw
 own_types_hold system code f d = own_types system code f d
+
+pub valid_constants_hold : ValidConstantsLaw
+valid_constants_hold system code f d = subst AllValid (sym (flat_constant_types system code f d)) (all_valid (constant_types system) d.constants)

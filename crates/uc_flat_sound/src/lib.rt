@@ -1,7 +1,7 @@
-//! Laws: the design over cells of a design is sound, and reads its constants at their types.
+//! Laws: the design over cells of a design is sound, and reads its constants at their types, which are valid.
 #![tactic(auto)]
 
-ghost use Rattle.uc_flat_sound.specs.Law.{SoundLaw, OwnTypesLaw};
+ghost use Rattle.uc_flat_sound.specs.Law.{SoundLaw, OwnTypesLaw, ValidConstantsLaw};
 
 /// Its code and its formulas fit its cells.
 pub fn is_sound()
@@ -11,4 +11,9 @@ pub fn is_sound()
 /// Its code and its formulas read each constant at its type.
 pub fn reads_own_types()
     ensures { OwnTypesLaw }
+{}
+
+/// The types of its constants are valid.
+pub fn has_valid_constants()
+    ensures { ValidConstantsLaw }
 {}

@@ -16,10 +16,8 @@ use Rattle.uc_flat_design.specs.Design.{next_names, next_arranged, invariant_in,
 use Rattle.uc_flat_lines.specs.declared.line.FlatLine.{FlatLine}
 use Rattle.uc_flat_lines.specs.declared.line.FlatVerdict.{FlatVerdict}
 use Rattle.uc_flat_lines.specs.declared.line.FlatVerdict.TheVariants.{Passed, Failed, Undef}
-use Rattle.uc_flat_lines.specs.declared.line.FlatWhy.TheVariants.{Budget, Memory, Untold}
+use Rattle.uc_flat_lines.specs.declared.line.FlatWhy.TheVariants.{Budget, Memory}
 use Rattle.uc_flat_lines.specs.Lines.{lines_below, free_bits, IsHonestVerdict, IsHonestLine as IsHonestFlat, AreFlatJudged}
-use Rattle.uc_flat_sound.proofs.Sound.{own_types_hold}
-use Rattle.uc_symstep.specs.Known.{ReadsOwnTypes}
 use Rattle.uc_control.specs.declared.report.LineResult.{LineResult}
 use Rattle.uc_control.specs.Verdicts.{IsHonest}
 use Rattle.uc_judge.specs.Lines.{verdict_as, line_as}
@@ -42,21 +40,20 @@ one_flat system code other f g d e =
 
 -- ---- verdicts
 
-honest_as : (f : Flat) (budget n : ℕ) (v : FlatVerdict) → ReadsOwnTypes f → IsHonestVerdict f budget n v → IsHonest budget (free_bits f n) (verdict_as budget v)
-honest_as f budget n Passed r h = tt
-honest_as f budget n (Failed t) r h = tt
-honest_as f budget n (Undef Budget) r h = (refl, h r)
-honest_as f budget n (Undef Memory) r h = tt
-honest_as f budget n (Undef Untold) r h = tt
+honest_as : (f : Flat) (budget n : ℕ) (v : FlatVerdict) → IsHonestVerdict f budget n v → IsHonest budget (free_bits f n) (verdict_as budget v)
+honest_as f budget n Passed h = tt
+honest_as f budget n (Failed t) h = tt
+honest_as f budget n (Undef Budget) h = (refl, h)
+honest_as f budget n (Undef Memory) h = tt
 
-each_honest : (f : Flat) (budget : ℕ) (ls : List FlatLine) → ReadsOwnTypes f → All (IsHonestFlat f budget) ls → All (IsHonestLine f budget) (map (line_as f budget) ls)
-each_honest f budget [] r h = All-nil (IsHonestLine f budget)
-each_honest f budget (l ∷ ls) r h =
+each_honest : (f : Flat) (budget : ℕ) (ls : List FlatLine) → All (IsHonestFlat f budget) ls → All (IsHonestLine f budget) (map (line_as f budget) ls)
+each_honest f budget [] h = All-nil (IsHonestLine f budget)
+each_honest f budget (l ∷ ls) h =
     All-cons (IsHonestLine f budget) (line_as f budget l) (map (line_as f budget) ls)
-    (honest_as f budget l.steps l.verdict r (All-head (IsHonestFlat f budget) l ls h))
-    (each_honest f budget ls r (All-tail (IsHonestFlat f budget) l ls h))
+    (honest_as f budget l.steps l.verdict (All-head (IsHonestFlat f budget) l ls h))
+    (each_honest f budget ls (All-tail (IsHonestFlat f budget) l ls h))
 
 pub honest_are : (system : System) (code : Module) (f : Flat) (budget before after n : ℕ) (ls : List FlatLine) → IsFlatOf system code f → AreFlatJudged f budget before after (lines_below f n) ls
     → (other : Module) (g : Flat) → IsFlatOf system other g → All (IsHonestLine g budget) (map (line_as f budget) ls)
 honest_are system code f budget before after n ls d j other g e =
-    subst (λ h. All (IsHonestLine h budget) (map (line_as f budget) ls)) (one_flat system code other f g d e) (each_honest f budget ls (own_types_hold system code f d) j.honest)
+    subst (λ h. All (IsHonestLine h budget) (map (line_as f budget) ls)) (one_flat system code other f g d e) (each_honest f budget ls j.honest)

@@ -17,7 +17,7 @@ use Rattle.uc_flat_design.specs.Design.{IsFlatOf}
 use Rattle.uc_flat_lines.specs.declared.line.FlatLine.{FlatLine}
 use Rattle.uc_flat_lines.specs.declared.line.FlatVerdict.{FlatVerdict}
 use Rattle.uc_flat_lines.specs.declared.line.FlatVerdict.TheVariants.{Passed, Failed, Undef}
-use Rattle.uc_flat_lines.specs.declared.line.FlatWhy.TheVariants.{Budget, Memory, Untold}
+use Rattle.uc_flat_lines.specs.declared.line.FlatWhy.TheVariants.{Budget, Memory}
 use Rattle.uc_flat_lines.specs.Lines.{speaks_of_one, singles_below, lines_of, step_lines, lines_below, IsRightLine, is_out_of_budget as is_flat_out, AreFlatJudged}
 use Rattle.uc_flat_verdicts.specs.Laws.{design_line, IsRightOf}
 use Rattle.uc_flat_verdicts.proofs.Judged.{order_holds, verdict_holds}
@@ -113,7 +113,6 @@ out_as budget Passed = refl
 out_as budget (Failed t) = refl
 out_as budget (Undef Budget) = refl
 out_as budget (Undef Memory) = refl
-out_as budget (Undef Untold) = refl
 
 count_cons : {A : Type 0} (p : A → Bool) (x : A) (xs : List A) → count_by p (x ∷ xs) ≡ 0 + cond (p x) 1 0 + count_by p xs
 count_cons p x xs = sum_by-append (λ y. cond (p y) 1 0) (x ∷ []) xs

@@ -6,7 +6,7 @@ use Rattle.uc_flat_lines.specs.declared.line.FlatLine.{FlatLine}
 use Rattle.uc_flat_lines.specs.declared.line.FlatVerdict.{FlatVerdict}
 use Rattle.uc_flat_lines.specs.declared.line.FlatVerdict.TheVariants.{Passed as FlatPassed, Failed as FlatFailed, Undef as FlatUndef}
 use Rattle.uc_flat_lines.specs.declared.line.FlatWhy.{FlatWhy}
-use Rattle.uc_flat_lines.specs.declared.line.FlatWhy.TheVariants.{Budget as FlatBudget, Memory as FlatMemory, Untold as FlatUntold}
+use Rattle.uc_flat_lines.specs.declared.line.FlatWhy.TheVariants.{Budget as FlatBudget, Memory as FlatMemory}
 use Rattle.uc_flat_verdicts.specs.Laws.{design_line}
 use Rattle.uc_control.specs.declared.report.Why.{Why}
 use Rattle.uc_control.specs.declared.report.Why.TheVariants.{Budget, Memory}
@@ -14,11 +14,10 @@ use Rattle.uc_control.specs.declared.report.Verdict.{Verdict}
 use Rattle.uc_control.specs.declared.report.Verdict.TheVariants.{Passed, Failed, Undef}
 use Rattle.uc_control.specs.declared.report.LineResult.{LineResult}
 
--- a model that tells no trace is no cause of its own in a report
+-- the cause of a verdict as one of a report
 abbrev pub why_as : ℕ → FlatWhy → Why
 why_as budget FlatBudget = Budget budget
 why_as budget FlatMemory = Memory
-why_as budget FlatUntold = Memory
 
 -- the verdict, with its trace as one of the design
 abbrev pub verdict_as : ℕ → FlatVerdict → Verdict

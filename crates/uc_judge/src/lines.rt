@@ -52,7 +52,7 @@ fn why_as(budget: u64, why: FlatWhy) -> Why
 {
     match why {
         FlatWhy::Budget => Why::Budget(budget),
-        FlatWhy::Memory | FlatWhy::Untold => Why::Memory,
+        FlatWhy::Memory => Why::Memory,
     }
 }
 

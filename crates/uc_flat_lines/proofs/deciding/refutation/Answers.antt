@@ -30,11 +30,11 @@ returns-in-None-clause-outcome g c =
     none_all c.args.f.now c.args.k c.args.steps _ _ c.in_ok-goal.ensures.traces
     (subst (IsSolution c.goal.new.terms c.in_ok-goal.goal) c.in-None.is c.in_ok-solution.ensures.solution)
 
-pub returns-in_default-clause-honest : goal.returns-in_default-clause-honest
-returns-in_default-clause-honest g c =
-    never_untold c.args.f.now c.args.budget c.args.steps _ _ c.in_ok-goal.goal c.in-Some.model c.in_ok-solution.ensures.grown c.in_ok-goal.ensures.truth.there
-    (subst (IsSolution c.goal.new.terms c.in_ok-goal.goal) c.in-Some.is c.in_ok-solution.ensures.solution) c.in_ok-goal.ensures.known
-    (subst (IsTold c.args.f.now c.args.steps c.solution.new.terms c.in_ok-goal.goal c.in-Some.model) c.in_default.is c.in_ok-trace-in-Some.ensures.told)
+pub prove-unreachable-requires : goal.prove-unreachable-requires
+prove-unreachable-requires g c =
+    never_untold c.args.f.now c.args.steps _ _ c.in_ok-goal.goal c.in-Some.model c.in_ok-solution.ensures.grown c.in_ok-goal.ensures.truth.there
+    (subst (IsSolution c.goal.new.terms c.in_ok-goal.goal) c.in-Some.is c.in_ok-solution.ensures.solution) (c.in_ok-goal.ensures.known c.requires.own) c.requires.valid
+    (subst (IsTold c.args.f.now c.args.steps c.solution.new.terms c.in_ok-goal.goal c.in-Some.model) c.in-None-2.is c.in_ok-build.ensures.told)
 
 pub returns-in-Some-2-clause-outcome : goal.returns-in-Some-2-clause-outcome
 returns-in-Some-2-clause-outcome g c =
@@ -44,7 +44,7 @@ returns-in-Some-2-clause-outcome g c =
 pub returns-in_err-solution-clause-honest : goal.returns-in_err-solution-clause-honest
 returns-in_err-solution-clause-honest g c =
     let p = err_from_is_err_and c.from_residual-in_err-solution.result c.from_residual-in_err-solution.ensures.1 in
-    let own = honest_after c.args.f.now c.args.budget c.args.steps _ _ c.in_err-solution.field-0.0 c.in_ok-goal.ensures.known c.in_err-solution.ensures.honest in
+    let own = honest_after c.args.f.now c.args.budget c.args.steps _ _ c.in_err-solution.field-0.0 (c.in_ok-goal.ensures.known c.requires.own) c.in_err-solution.ensures.honest in
     let why = IsHonestAfter c.args.f.now c.args.budget c.args.steps in
     subst (λ r. IfErr r why) (sym p.1) (subst why (sym p.2) own)
 

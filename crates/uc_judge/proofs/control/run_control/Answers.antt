@@ -1,5 +1,5 @@
 use Rattle.std.proofs.Common.{map, ap, ◌∙◌}
-use Rattle.uc_flat_sound.proofs.Sound.{sound_holds, own_types_hold}
+use Rattle.uc_flat_sound.proofs.Sound.{sound_holds, own_types_hold, valid_constants_hold}
 use Rattle.uc_prints.specs.Prints.{print_as}
 use Rattle.uc_judge.proofs.Reported.{unrolled_report, spent_report, within_report, empty_report}
 use Rattle.uc_judge.proofs.control.run_control.Goals as goal
@@ -9,6 +9,9 @@ judge_flat-requires-clause-sound g c = sound_holds c.args.d.now c.flat-f.ensures
 
 pub judge_flat-requires-clause-own : goal.judge_flat-requires-clause-own
 judge_flat-requires-clause-own g c = own_types_hold c.args.d.now c.flat-f.ensures.code c.flat-f.result.now c.flat-f.ensures.is_flat
+
+pub judge_flat-requires-clause-valid : goal.judge_flat-requires-clause-valid
+judge_flat-requires-clause-valid g c = valid_constants_hold c.args.d.now c.flat-f.ensures.code c.flat-f.result.now c.flat-f.ensures.is_flat
 
 pub returns-in_ok-prints-in-Some-clause-report : goal.returns-in_ok-prints-in-Some-clause-report
 returns-in_ok-prints-in-Some-clause-report g c =
