@@ -3,12 +3,13 @@
 use crate::in_memory::{file_of, print_ended};
 use std::alloc::{AllocError, Global};
 use std::io;
-use uc_control::{report_text, status_of};
+use uc_control::{Verdict, report_text, status_of};
 use uc_front::read_design;
 use uc_io::MemTexts;
 use uc_judge::{run_control, shown_design};
 use uc_log::CountMeter;
 use uc_runnable::Runnable;
+use uc_trace::cex_text;
 
 /// Three pigeons do not fit into two holes: the first formula says it. The second one is false somewhere.
 const PIGEONS: &[u8] =
@@ -35,10 +36,17 @@ fn print_judged(rt: &HostRuntime, design: &Runnable) -> io::Result<()> {
     Ok(())
 }
 
-/// The status and the report under a budget.
+/// The status and the report under a budget, and behind it the counterexample of each line that failed, which shows no cells.
 fn judged(alloc: Global, design: &Runnable, budget: u64) -> Result<(u8, Vec<u8>), AllocError> {
     let mut meter = CountMeter::new();
     let report = run_control(alloc, design, budget.max(1), &mut meter)?;
-    let text = report_text(alloc, &shown_design(design), &report)?;
+    let shown = shown_design(design);
+    let mut text = report_text(alloc, &shown, &report)?;
+    for result in report.lines.as_slice() {
+        if let Verdict::Failed(trace) = &result.verdict {
+            let told = cex_text(alloc, &shown, &result.line, trace, &[])?;
+            text.extend_from_slice(told.as_slice())?;
+        }
+    }
     Ok((status_of(&report), text))
 }
