@@ -30,11 +30,11 @@ returns-in-None-clause-outcome g c =
     none_all c.args.f.now c.args.k c.args.steps _ _ c.in_ok-goal.ensures.traces
     (subst (IsSolution c.goal.new.terms c.in_ok-goal.goal) c.in-None.is c.in_ok-solution.ensures.solution)
 
-pub prove-unreachable-requires : goal.prove-unreachable-requires
-prove-unreachable-requires g c =
+pub unreachable-requires : goal.unreachable-requires
+unreachable-requires g c =
     never_untold c.args.f.now c.args.steps _ _ c.in_ok-goal.goal c.in-Some.model c.in_ok-solution.ensures.grown c.in_ok-goal.ensures.truth.there
     (subst (IsSolution c.goal.new.terms c.in_ok-goal.goal) c.in-Some.is c.in_ok-solution.ensures.solution) (c.in_ok-goal.ensures.known c.requires.own) c.requires.valid
-    (subst (IsTold c.args.f.now c.args.steps c.solution.new.terms c.in_ok-goal.goal c.in-Some.model) c.in-None-2.is c.in_ok-build.ensures.told)
+    (subst (IsTold c.args.f.now c.args.steps c.solution.new.terms c.in_ok-goal.goal c.in-Some.model) c.in-None-2.is c.in_ok-trace-in-Some.ensures.told)
 
 pub returns-in-Some-2-clause-outcome : goal.returns-in-Some-2-clause-outcome
 returns-in-Some-2-clause-outcome g c =
