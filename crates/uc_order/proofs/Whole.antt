@@ -1,5 +1,5 @@
 -- The limits on the whole are judged as far as nothing that they rest on is at fault.
-use Rattle.std.specs.Prelude.{is_none}
+use Rattle.std.specs.Prelude.{not, is_some, is_none}
 use Rattle.std.proofs.Common.{◌≡◌, Bool, true, false, ◌&&◌, ◌||◌, if◌then◌else◌, List, [], ◌∷◌, ◌++◌, refl, sym, ap, ◌∙◌, Option, Some, None}
 use Rattle.std.specs.List.{flat_map, list_any}
 use Rattle.uc_meaning.specs.Lookup.{System, main_module}
@@ -35,6 +35,13 @@ first_empty : (xs ys : List Fault) → xs ++ ys ≡ [] → is_empty xs && is_emp
 first_empty [] [] h = refl
 first_empty [] (y ∷ ys) h = cc
 first_empty (x ∷ xs) ys h = cc
+
+-- what the test for nothing tells
+pub none_told : (o : Option Fault) (b : Bool) → is_some o ≡ not b → b ≡ is_none o
+none_told None true h = refl
+none_told None false h = cc
+none_told (Some f) true h = cc
+none_told (Some f) false h = refl
 
 -- nothing was noted exactly where there is no cycle
 acyclic_is : (s : System) (o : Option Fault) → first_of None (cycles s) ≡ o → is_empty (cycles s) ≡ is_none o
