@@ -30,7 +30,7 @@ pub struct CellTable {
 }
 
 impl CellTable {
-    /// Those of a tree.
+    /// The cells of a tree.
     pub fn of(alloc: Global, tree: &InstanceTree<'_>) -> Result<CellTable, AllocError>
         ensures { IfOk result (λ c. KnowsCells tree.now c) }
     {

@@ -122,6 +122,9 @@ Value module_braces = List Decl
 abbrev pub F : Type 0 → Type 1
 F A = Form words Nested Value A
 
+-- Above each form stands what it spells, alternatives in its order: a quoted word is itself, `[ ]` is once or not, `{ }` any number of times, and `Xs` one X
+-- or several with commas between them. Id, Num, Bits and BitsType are words with a value.
+
 -- ---- names
 
 -- the further kinds of names: those that the grammar knows
@@ -165,6 +168,7 @@ has None = false
 abbrev pub named_type : Word × Option Identifier → TypeExpr
 named_type x = elim x.1 [ Some i ↦ types.OfModule x.0.place (name_in x.0.kind) i | None ↦ types.Named x.0.place (name_in x.0.kind) ]
 
+-- "boolean" | "integer" | BitsType | "enum" "{" Ids "}" | "record" "{" Params "}" | "[" Type "]" Type | Id ["." Id]
 unfoldable pub ty : F TypeExpr
 ty = made (λ w. types.Boolean w.place) (word KwBoolean)
     <|> made (λ w. types.Integer w.place) (word KwInteger)
@@ -174,7 +178,7 @@ ty = made (λ w. types.Boolean w.place) (word KwBoolean)
     <|> deep array
     <|> made named_type (both a_name (optional (after Dot id)))
 
--- a name with its type
+-- Id ":" Type
 abbrev pub parameter : F (Parameter TypeExpr)
 parameter = made (λ x. record { identifier = x.0; ty = x.1 }) (both new_id (after Colon ty))
 
@@ -200,6 +204,8 @@ named x = elim x.1 [
   ]
 ]
 
+-- "true" | "false" | Num | Bits | "old" "(" Id ")" | "(" Expr ")"
+-- | Id "'" | Id "(" [Exprs] ")" | Id
 unfoldable pub primary : F Head
 primary = made (λ w. head w.place (primaries.Truth true)) (word KwTrue)
     <|> made (λ w. head w.place (primaries.Truth false)) (word KwFalse)
@@ -209,6 +215,8 @@ primary = made (λ w. head w.place (primaries.Truth true)) (word KwTrue)
     <|> made (λ p. (p.0, inr p.1)) (deep parens)
     <|> made named (both a_name (either (word Prime) (either (deep arguments) nothing)))
 
+-- "." Id | "." Num
+-- | "[" Num ":" Num "]" | "[" Expr "]" | "[" Expr "->" Expr "]"
 unfoldable pub selection : F (Selection Expr)
 selection = made (λ x. elim x.1 [ inl i ↦ selections_.Field x.0.place i | inr w ↦ selections_.Copy x.0.place (value_in w.kind) ]) (both (word Dot) (either id (word (Number 0)))) <|> deep brackets
 
@@ -219,6 +227,8 @@ selected_of x = elim x.0.1 [
   | inr e ↦ elim x.1 [ [] ↦ (x.0.0, e) | s ∷ ss ↦ (x.0.0, exprs_.Selected x.0.0 (primaries.Grouped e) (s ∷ ss)) ]
 ]
 
+-- ("!" | "-" | "~") Unary
+-- | Primary { Selection }
 unfoldable pub unary : F Placed
 unary = deep sign_operand <|> made selected_of (both primary (many selection))
 
@@ -250,39 +260,52 @@ comparison _ = comparisons.Equal
 abbrev pub compared_of : Placed × Option (Word × Placed) → Placed
 compared_of x = elim x.1 [ None ↦ x.0 | Some y ↦ (x.0.0, exprs_.Compare x.0.0 (comparison y.0.kind) y.0.place x.0.1 y.1.1) ]
 
+-- Unary { "*" Unary }
 unfoldable pub product : F Placed
 product = level exprs_.Product Star unary
 
+-- Product { ("+" | "-") Product }
 unfoldable pub summed : F Placed
 summed = made sum_of (both product (many (both (one_of Plus (Minus ∷ [])) product)))
 
+-- Summed { "++" Summed }
 unfoldable pub concatenated : F Placed
 concatenated = level exprs_.Concat Concat summed
 
+-- Concatenated { "&" Concatenated }
 unfoldable pub bit_and : F Placed
 bit_and = level exprs_.BitAnd Ampersand concatenated
 
+-- BitAnd { "^" BitAnd }
 unfoldable pub bit_xor : F Placed
 bit_xor = level exprs_.BitXor Caret bit_and
 
+-- BitXor { "|" BitXor }
 unfoldable pub bit_or : F Placed
 bit_or = level exprs_.BitOr Bar bit_xor
 
+-- BitOr [("==" | "!=" | "<" | "<=" | ">" | ">=" | "<_u" | "<=_u" | ">_u" | ">=_u") BitOr]
 unfoldable pub compared : F Placed
 compared = made compared_of (both bit_or (optional (both (one_of Equal (NotEqual ∷ Less ∷ LessEqual ∷ Greater ∷ GreaterEqual ∷ LessUnsigned ∷ LessEqualUnsigned ∷ GreaterUnsigned ∷ GreaterEqualUnsigned ∷ [])) bit_or)))
 
+-- Compared { "&&" Compared }
 unfoldable pub conjunction : F Placed
 conjunction = level exprs_.And And compared
 
+-- Conjunction { "||" Conjunction }
 unfoldable pub disjunction : F Placed
 disjunction = level exprs_.Or Or conjunction
 
+-- Disjunction { "==>" Disjunction }
 unfoldable pub implication : F Placed
 implication = level exprs_.Implies Implies disjunction
 
+-- Implication { "<==>" Implication }
 unfoldable pub equivalence : F Placed
 equivalence = level exprs_.Iff Iff implication
 
+-- Branch { Branch } Equivalence
+-- | Equivalence
 unfoldable pub expression : F Placed
 expression = deep if_expression <|> equivalence
 
@@ -311,20 +334,25 @@ labelled q f = made label_of (ahead q (Name 0) known Colon f f)
 abbrev pub target_of : Word × (Option Word × List TargetPart) → Target
 target_of x = record { place = x.0.place; name = name_in x.0.kind; is_primed = has x.1.0; parts = x.1.1 }
 
+-- "." Id
+-- | "[" Expr "]"
 unfoldable pub target_part : F TargetPart
 target_part = made (λ x. target_parts.Field x.0.place x.1) (both (word Dot) id) <|> deep target_index
 
+-- Id ["'"] { TargetPart }
 unfoldable pub target : F Target
 target = made target_of (both a_name (both (optional (word Prime)) (many target_part)))
 
 abbrev pub targets : F (List Target)
 targets = listed target
 
+-- "-" Num | Num | Bits
 unfoldable pub bound : F RangeBound
 bound = deep negative_bound
     <|> made (λ w. bounds.Number w.place false (value_in w.kind)) (word (Number 0))
     <|> made (λ w. bounds.BitsLiteral w.place (value_in w.kind) (width_in w.kind)) (word (BvLit 0 0))
 
+-- "{" { Stmt } "}"
 abbrev pub statements : F (List Stmt)
 statements = made (λ b. b.1) (deep block)
 
@@ -332,6 +360,7 @@ statements = made (λ b. b.1) (deep block)
 abbrev pub arm : F (Arm Stmt)
 arm = made (λ x. record { condition = x.0; body = x.1 }) (both expr statements)
 
+-- "if" Arm { "else" "if" Arm } ["else" Block]
 unfoldable pub if_statement : F Stmt
 if_statement = made (λ x. stmt_views.If x.0.place (x.1.0 ∷ x.1.1.0) x.1.1.1) (both (word KwIf) (both arm (chain (after KwElse (either (after KwIf arm) statements)))))
 
@@ -339,6 +368,7 @@ abbrev pub default_block : (List Stmt × Word) ⊎ Word → Option (List Stmt)
 default_block (inl x) = Some x.0
 default_block (inr w) = None
 
+-- "case" { Expr ":" Block } ["default" ":" Block] "esac"
 unfoldable pub case_statement : F Stmt
 case_statement = made (λ x. stmt_views.Case x.0.place x.1.0 (default_block x.1.1))
     (both (word KwCase) (until (made (λ x. record { condition = x.0; body = x.1 }) (both expr (after Colon statements))) (either (both (after KwDefault (after Colon statements)) (word KwEsac)) (word KwEsac))))
@@ -347,6 +377,7 @@ abbrev pub loop_variable : Parameter TypeExpr ⊎ Identifier → Identifier × O
 loop_variable (inl p) = (p.identifier, Some p.ty)
 loop_variable (inr i) = (i, None)
 
+-- "for" ("(" Param ")" | Id) "in" "range" "(" Bound "," Bound ")" Block
 unfoldable pub for_statement : F Stmt
 for_statement = made (λ x. stmt_views.For x.0.place x.1.0.0 x.1.0.1 x.1.1.0.0 x.1.1.0.1 x.1.1.1)
     (both (word KwFor) (both (made loop_variable (either (deep typed_name) new_id)) (after KwIn (after (Range 0) (both (deep range_bounds) statements)))))
@@ -355,6 +386,7 @@ abbrev pub called_targets : Option (List Target) → List Target
 called_targets (Some ts) = ts
 called_targets None = []
 
+-- "call" ["(" [Targets] ")" "="] Id "(" [Exprs] ")" ";"
 unfoldable pub call_statement : F Stmt
 call_statement = made (λ x. stmts_.Call x.0.place (called_targets x.1.0) x.1.1.0 x.1.1.1)
     (both (word KwCall) (both (optional (before (deep call_targets) Assign)) (both id (before (deep arguments) Semicolon))))
@@ -363,6 +395,15 @@ abbrev pub place_of : List Target → Place
 place_of (t ∷ ts) = t.place
 place_of [] = record { file = 0; line = 0; col = 0 }
 
+-- "var" Ids ":" Type ";"
+-- | "skip" ";"
+-- | Block
+-- | "assert" [Id ":"] Expr ";"
+-- | "assume" Expr ";"
+-- | "havoc" Id ["'"] ";"
+-- | IfStatement | CaseStatement | ForStatement | CallStatement
+-- | "next" "(" Id ")" ";"
+-- | Targets "=" Exprs ";"
 unfoldable pub statement : F Stmt
 statement = made (λ x. stmts_.Local x.0.place x.1.0 x.1.1) (both (word KwVar) (both (listed new_id) (after Colon (before ty Semicolon))))
     <|> made (λ x. stmts_.Skip x.0.place) (both (word KwSkip) (word Semicolon))
@@ -376,12 +417,15 @@ statement = made (λ x. stmts_.Local x.0.place x.1.0 x.1.1) (both (word KwVar) (
 
 -- ---- commands
 
--- Run
+-- "unroll" "(" Num ")"
+-- | "induction" ["(" [Num] ")"]
+-- | "verify" "(" Id ")"
 unfoldable pub run : F (Place × WrittenRun)
 run = made (λ x. (x.0.place, runs.Unroll x.1)) (both (word (Unroll 0)) (deep in_number))
     <|> made (λ x. (x.0.place, runs.Induction (flat x.1))) (both (word (Induction 0)) (optional (deep maybe_number)))
     <|> made (λ x. (x.0.place, runs.Verify x.1)) (both (word (Verify 0)) (deep in_name))
 
+-- "print_cex" ["(" [Paths] ")"] ";"
 unfoldable pub counterexample : F (Option (List (List Identifier)))
 counterexample = after (PrintCex 0) (before (optional (deep paths)) Semicolon)
 
@@ -395,12 +439,22 @@ command_of x = elim x.1 [
   | inr y ↦ elim y [ inl ps ↦ commands.PrintCounterexamples x.0.place (Some (identifier x.0)) ps | inr own ↦ own x.0 ]
 ]
 
+-- Word "=" Run ";"
+-- | Word "." Counterexample
+-- | Word Own, what the word itself begins
 abbrev pub led : F Word → F (Word → Command) → F Command
 led f own = made command_of (both f (either (after Assign (before run Semicolon)) (either (after Dot counterexample) own)))
 
 abbrev pub named_command : Word × ((Place × WrittenRun) ⊎ Option (List (List Identifier))) → Command
 named_command x = elim x.1 [ inl r ↦ commands.Run x.0.place (Some (identifier x.0)) r.1 | inr ps ↦ commands.PrintCounterexamples x.0.place (Some (identifier x.0)) ps ]
 
+-- "unroll" "(" Num ")" ";"
+-- | "induction" ["(" [Num] ")"] ";"
+-- | "verify" "(" Id ")" ";"
+-- | "check" ";"
+-- | "print_results" ";"
+-- | "print_cex" ["(" [Paths] ")"] ";"
+-- | Id "=" Run ";" | Id "." Counterexample, where the Id is also any of the words above
 unfoldable pub command : F Command
 command = led (word (Unroll 0)) (made (λ n w. commands.Run w.place None (runs.Unroll n)) (before (deep in_number) Semicolon))
     <|> led (word (Induction 0)) (made (λ n w. commands.Run w.place None (runs.Induction (flat n))) (before (optional (deep maybe_number)) Semicolon))
@@ -412,6 +466,9 @@ command = led (word (Unroll 0)) (made (λ n w. commands.Run w.place None (runs.U
 
 -- ---- declarations
 
+-- "requires" Expr ";"
+-- | "ensures" Expr ";"
+-- | "modifies" Ids ";"
 unfoldable pub clause : F Clause
 clause = made (λ x. clauses.Requires x.0.place x.1) (both (word KwRequires) (before expr Semicolon))
     <|> made (λ x. clauses.Ensures x.0.place x.1) (both (word KwEnsures) (before expr Semicolon))
@@ -429,6 +486,8 @@ type_of x = elim x.1 [
   | inr i ↦ decls_.TypeImport x.0.place i
 ]
 
+-- "type" Id ";" | "type" Id "=" Type ";"
+-- | "type" "*" "=" Id "." "*" ";"
 unfoldable pub type_declaration : F Decl
 type_declaration = made type_of (both (word KwType) (either (both new_id (either (word Semicolon) (after Assign (before ty Semicolon)))) (after Star (after Assign (before (before (before id Dot) Star) Semicolon)))))
 
@@ -439,12 +498,25 @@ results_of None = []
 abbrev pub procedure_of : Identifier × (List (Parameter TypeExpr) × (Option (List (Parameter TypeExpr)) × (List Clause × List Stmt))) → Procedure
 procedure_of x = record { identifier = x.0; parameters = x.1.0; results = results_of x.1.1.0; clauses = x.1.1.1.0; body = x.1.1.1.1 }
 
+-- Id "(" [Params] ")" ["returns" "(" Params ")"] { Clause } Block
 unfoldable pub procedure : F Procedure
 procedure = made procedure_of (both new_id (both (deep params) (both (optional (after KwReturns (deep results))) (both (many clause) statements))))
 
 abbrev pub hyper_of : Word × (ℕ × (Identifier × Expr)) → Decl
 hyper_of x = elim x.0.kind [ KwHyperaxiom ↦ decls_.Hyperaxiom x.0.place x.1.0 x.1.1.0 x.1.1.1 | _ ↦ decls_.Hyperinvariant x.0.place x.1.0 x.1.1.0 x.1.1.1 ]
 
+-- TypeDeclaration
+-- | ("var" | "input" | "output" | "const") Ids ":" Type ";"
+-- | "function" Id "(" [Params] ")" ":" Type ";"
+-- | "define" Id "(" [Params] ")" ":" Type "=" Expr ";"
+-- | "procedure" Procedure
+-- | "instance" Id ":" Id "(" [Binds] ")" ";"
+-- | "init" Block
+-- | "next" Block
+-- | "invariant" Id ":" Expr ";"
+-- | "axiom" [Id ":"] Expr ";"
+-- | ("hyperinvariant" | "hyperaxiom") "[" Num "]" Id ":" Expr ";"
+-- | "control" "{" { Command } "}"
 unfoldable pub declaration : F Decl
 declaration = type_declaration
     <|> made (λ x. decls_.Variables x.0.place (variable_kind x.0.kind) x.1.0 x.1.1) (both (one_of KwVar (KwInput ∷ KwOutput ∷ KwConst ∷ [])) (both (listed new_id) (after Colon (before ty Semicolon))))
@@ -459,10 +531,11 @@ declaration = type_declaration
     <|> made hyper_of (both (one_of KwHyperinvariant (KwHyperaxiom ∷ [])) (both (deep hyper_number) (both new_id (after Colon (before expr Semicolon)))))
     <|> made (λ x. decls_.Control x.0.place x.1) (both (word KwControl) (deep control_braces))
 
--- The count of declared names starts again at each module.
+-- "module" Id "{" { Decl } "}": the count of declared names starts again at each module
 unfoldable pub module_form : F Module
 module_form = made (λ x. record { place = x.0.place; name = name_in x.1.0.kind; decls = x.1.1 }) (both (restart KwModule) (both a_name (deep module_braces)))
 
+-- { Module }
 unfoldable pub text : F (List Module)
 text = many module_form
 
@@ -472,6 +545,32 @@ text = many module_form
 abbrev pub enclosed : {A : Type 0} → F (List A) → F (List A)
 enclosed f = after LeftParen (made (elim [ inl w ↦ [] | inr xs ↦ xs ]) (either (word RightParen) (before f RightParen)))
 
+-- The nested forms, each by its name. A Path is Id { "." Id }, and a Bind Id ":" "(" Expr ")".
+-- enum_braces: "{" Ids "}"
+-- record_braces: "{" Params "}"
+-- array: "[" Type "]" Type
+-- arguments: "(" [Exprs] ")"
+-- in_name: "(" Id ")"
+-- parens: "(" Expr ")"
+-- brackets: "[" Num ":" Num "]" | "[" Expr "]" | "[" Expr "->" Expr "]"
+-- sign_operand: ("!" | "-" | "~") Unary
+-- if_expression: Branch { Branch } Equivalence
+-- target_index: "[" Expr "]"
+-- block: "{" { Stmt } "}"
+-- typed_name: "(" Param ")"
+-- range_bounds: "(" Bound "," Bound ")"
+-- negative_bound: "-" Num
+-- call_targets: "(" [Targets] ")"
+-- in_number: "(" Num ")"
+-- maybe_number: "(" [Num] ")"
+-- paths: "(" [Paths] ")"
+-- control_braces: "{" { Command } "}"
+-- params: "(" [Params] ")"
+-- results: "(" Params ")"
+-- binds: "(" [Binds] ")"
+-- bind_value: "(" Expr ")"
+-- hyper_number: "[" Num "]"
+-- module_braces: "{" { Decl } "}"
 abbrev pub rule : Rules words Nested Value
 rule enum_braces = after LeftBrace (before (listed new_id) RightBrace)
 rule record_braces = after LeftBrace (before (listed parameter) RightBrace)

@@ -117,7 +117,8 @@ pub struct Word {
 }
 
 impl Kind {
-    /// A number for each kind, whatever name or number the word is.
+    /// A number for each kind, whatever name or number the word is. Nothing shows or stores it: the numbers only have to differ, and those
+    /// below 9 are the names.
     pub fn code(self) -> u8
         ensures { result ≡ code_of self }
     {

@@ -15,7 +15,7 @@ pub struct ModuleTable<'a> {
 }
 
 impl<'a> ModuleTable<'a> {
-    /// Those of a design.
+    /// The modules of a design.
     pub fn of(alloc: Global, modules: &'a [Module]) -> Result<ModuleTable<'a>, AllocError>
         ensures { IfOk result (λ t. KnowsModules modules.now t) }
     {

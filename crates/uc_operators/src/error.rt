@@ -3,6 +3,7 @@
 use std::alloc::{AllocError, AllocFailed};
 use uc_meaning::Wide;
 
+/// Why a value is not given.
 #[derive(Clone, Copy, Debug, PartialEq, Eq)]
 pub enum EvalError {
     NoMemory,

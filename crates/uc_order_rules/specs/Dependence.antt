@@ -52,6 +52,7 @@ arms_writing system path [] otherwise around = last_piece otherwise around
 arms_writing system path (a ∷ as') otherwise around =
     each a.body (around ++ cells_primed system path a.condition) ++ arms_writing system path as' otherwise (around ++ cells_primed system path a.condition)
 
+-- the body of a loop counts once, and not at all where the loop has no turn
 abbrev pub if_turns : {A : Type 0} → List A → Piece → Piece
 if_turns [] piece around = []
 if_turns (v ∷ vs) piece around = piece around
@@ -64,6 +65,8 @@ abbrev pub stepped_piece : Blocks → List ℕ → Option Module → Piece
 stepped_piece blocks path None around = []
 stepped_piece blocks path (Some m) around = blocks path (next_of m) around
 
+-- What a statement writes depends on the conditions around it and, but for a havoc, on the primed cells of its indices, sources and arguments. What is
+-- asserted or assumed writes nothing.
 abbrev pub writing_form : System → Blocks → List ℕ → Stmt-F Piece → Piece
 writing_form system blocks path (Block place block) around = each block around
 writing_form system blocks path (Havoc place i primed) around = writing place (name_part system path i.name) around

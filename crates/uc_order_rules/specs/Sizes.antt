@@ -37,24 +37,33 @@ use Rattle.uc_order_rules.specs.Roots.{NameAt, name_at, led, is_bound_input, ins
 use Rattle.uc_order_rules.specs.Mentions.{dotted, target_indices, all_of, otherwise_of}
 use Rattle.uc_order_rules.specs.Uses.{clause_expressions, has_way}
 
+-- The limits. A design that passes one is refused; one that just reaches it is not.
+
+-- how many labels an enum has at most
 abbrev pub most_labels : ℕ
 most_labels = 4096
 
+-- how many turns a loop has at most
 abbrev pub most_turns : ℕ
 most_turns = 4096
 
+-- how many statements main expands to at most: each one again for each turn, call and step
 abbrev pub most_statements : ℕ
 most_statements = 1000000
 
+-- how many nodes the expressions have at most that main expands to: each body of a define and each bound expression again for each use
 abbrev pub most_nodes : ℕ
 most_nodes = 4000000
 
+-- how many cells a state has at most
 abbrev pub most_cells : ℕ
 most_cells = 65535
 
+-- how many instances stand below a root at most, which is none of them itself
 abbrev pub most_instances : ℕ
 most_instances = 65535
 
+-- the sum of numbers
 abbrev pub total : List ℕ → ℕ
 total [] = 0
 total (n ∷ ns) = n + total ns
@@ -124,6 +133,7 @@ nodes system = nodes_through (suc longest_chain) system
 
 -- Statements with the expressions in them.
 
+-- How many statements code has, and how many nodes the expressions in them.
 pub record Size : Type 0 where
   pub statements : ℕ
   pub nodes : ℕ
@@ -221,6 +231,7 @@ procedure_size system (Procedure place p) =
     plus (size 0 (total (map (nodes system []) (flat_map clause_expressions p.clauses)))) (code_size system [] p.body)
 procedure_size system other = size 0 0
 
+-- the next block of main, the init code and the formulas of all instances, the axioms of the modules in use, and the procedures of main
 unfoldable pub expansion : System → Size
 expansion system =
     plus (code_size system [] (main_next system))

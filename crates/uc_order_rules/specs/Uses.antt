@@ -58,6 +58,7 @@ clause_expressions (Requires place e) = e ∷ []
 clause_expressions (Ensures place e) = e ∷ []
 clause_expressions (Modifies place is) = []
 
+-- what a procedure uses: those that its body calls, and what its clauses and the expressions of its body use
 abbrev pub procedure_uses : System → List ℕ → Option ProcedureParts → List Used
 procedure_uses system path None = []
 procedure_uses system path (Some p) =

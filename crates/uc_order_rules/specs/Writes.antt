@@ -34,6 +34,7 @@ abbrev pub modified_parts : System → List ℕ → Option ProcedureParts → Li
 modified_parts system path None = []
 modified_parts system path (Some p) = flat_map (name_part system path) (modifies_of p)
 
+-- a call writes its targets and what the procedure may modify
 abbrev pub call_parts : System → List ℕ → List Target → ℕ → List CellPart
 call_parts system path targets f =
     flat_map (target_part system path) targets ++ modified_parts system path (option_and_then (λ m. procedure_of m f) (module_at system path))
@@ -91,6 +92,7 @@ pub record Stepping : Type 0 where
 abbrev pub no_step : Stepping
 no_step = record { parts = []; meet = false }
 
+-- a step is at fault where one of its parts meets an earlier one, or two of them meet on a path inside the instance
 abbrev pub stepped_at : Meets → Place → Stepping → Stretch Part
 stepped_at meets place s before = record { happens = s.parts; faults = breaks_where (list_any (met meets before) s.parts || s.meet) TwiceAssigned place }
 
@@ -111,6 +113,7 @@ written_by modified steps meets code = in_turn (map (fold-Stmt (Stretch Part) (w
 
 -- A stepped instance writes what its module writes: a bound output is the parent's name, and all else is inside the instance.
 
+-- the parent's name that is bound to a name of the instance's module; no other expression counts
 abbrev pub outer_name : InstanceParts → ℕ → Option ℕ
 outer_name i x = option_and_then (λ e. name_form (out-Expr e)) (bound_to i x)
 
@@ -122,6 +125,7 @@ outer_part i (x ∷ fields) = option_map (λ y. y ∷ fields) (outer_name i x)
 abbrev pub is_inside : InstanceParts → Part → Bool
 is_inside i p = not (is_some (outer_part i p))
 
+-- what stepping an instance writes in the parent: the parts of bound names, and all cells inside the instance as one where it writes one of these
 abbrev pub stepped_parts : InstanceParts → List Part → List Part
 stepped_parts i parts = filter_map (outer_part i) parts ++ (if list_any (is_inside i) parts then part_of_name i.name ∷ [] else [])
 
@@ -131,6 +135,7 @@ abbrev pub meets_as : Meets → Option Part → Option Part → Bool
 meets_as meets (Some p) (Some q) = meets p q
 meets_as meets o r = false
 
+-- parts that meet in the parent and not in the instance's module
 abbrev pub meets_outside : InstanceParts → Meets → Meets
 meets_outside i meets p q = not (overlap p q) && meets_as meets (outer_part i p) (outer_part i q)
 
@@ -170,6 +175,7 @@ is_named_twice (x ∷ xs) = list_any (nat_eq x) xs || is_named_twice xs
 abbrev pub target_names : List Target → List ℕ
 target_names ts = map (λ t. t.name) ts
 
+-- an assignment or a call is at fault where two of its targets have one name
 abbrev pub twice_form : Stmt-F (List Fault) → List Fault
 twice_form (Block place block) = all_of block
 twice_form (Assign place targets sources) = breaks_where (is_named_twice (target_names targets)) TwiceAssigned place

@@ -1,6 +1,7 @@
 //! Reads the modules of a text from its tokens, exactly as the grammar has them.
 //!
-//! The contract of `parse` is `IsParsedText` in `specs/Verdict.antt`: the modules that the tokens spell, or the first fault.
+//! The contract of `parse` is `IsParsedText` in `specs/Verdict.antt`: the modules that the tokens spell, or the first fault. `levels` is everywhere
+//! how many nested forms may still be opened.
 #![tactic(auto)]
 
 mod behind;

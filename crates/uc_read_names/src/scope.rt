@@ -85,7 +85,7 @@ impl<'a, 'd> Scope<'a, 'd> {
         }
     }
 
-    /// The same in a next block.
+    /// The same scope in a next block.
     pub fn in_next(self) -> Scope<'a, 'd>
         ensures { result ≡ record self.entry { in_next = true } }
     {
@@ -94,7 +94,7 @@ impl<'a, 'd> Scope<'a, 'd> {
         scope
     }
 
-    /// The same in an `ensures`.
+    /// The same scope in an `ensures`.
     pub fn in_ensures(self) -> Scope<'a, 'd>
         ensures { result ≡ record self.entry { in_ensures = true } }
     {
@@ -103,7 +103,7 @@ impl<'a, 'd> Scope<'a, 'd> {
         scope
     }
 
-    /// The same in an axiom.
+    /// The same scope in an axiom.
     pub fn in_axiom(self) -> Scope<'a, 'd>
         ensures { result ≡ record self.entry { in_axiom = true } }
     {
@@ -112,7 +112,7 @@ impl<'a, 'd> Scope<'a, 'd> {
         scope
     }
 
-    /// The same in a hyper formula of so many copies.
+    /// The same scope in a hyper formula of so many copies.
     pub fn in_copies(self, count: u128) -> Scope<'a, 'd>
         ensures { result ≡ record self.entry { copies = Some count } }
     {
@@ -121,7 +121,7 @@ impl<'a, 'd> Scope<'a, 'd> {
         scope
     }
 
-    /// The same in the body of a procedure that may modify these names.
+    /// The same scope in the body of a procedure that may modify these names.
     pub fn in_body(self, modified: Modified) -> Scope<'a, 'd>
         ensures { result ≡ record self.entry { in_ensures = false; modifies = Some modified } }
     {

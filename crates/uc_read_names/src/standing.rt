@@ -52,7 +52,7 @@ impl Standing {
         }
     }
 
-    /// The same, where a fault is told already.
+    /// What stands here once its fault was told: a fault counts as broken from then on.
     pub fn told(self) -> Standing
         ensures { (ms : List Module) → standing_meant ms result ≡ told (standing_meant ms self) }
     {

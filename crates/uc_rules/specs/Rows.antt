@@ -83,6 +83,7 @@ abbrev pub two_unsigned : Ty → Ty → Outcome
 two_unsigned (bits w) (bits v) = if nat_eq w v then Has boolean else Breaks WrongType
 two_unsigned t u = Breaks WrongType
 
+-- by its sign, each of two values of one type
 abbrev pub compared : Comparison → Ty → Ty → Outcome
 compared Equal t u = two_alike t u
 compared Unequal t u = two_alike t u
@@ -208,11 +209,12 @@ array_shape index element = is_scalar index && is_flat element
 
 -- Arguments, targets and values, which have the types that are asked for.
 
+-- both have a type, and it is the same
 abbrev pub suits : Option Ty → Option Ty → Bool
 suits (Some t) (Some p) = same_type t p
 suits t p = false
 
--- each of the one list has a type, and so has each of the other one
+-- each has a type
 abbrev pub all_judged : List (Option Ty) → Bool
 all_judged [] = true
 all_judged (t ∷ ts) = is_some t && all_judged ts
@@ -222,11 +224,12 @@ abbrev pub all_suit : List (Option Ty) → List (Option Ty) → Bool
 all_suit (p ∷ ps) (t ∷ ts) = suits t p && all_suit ps ts
 all_suit ps ts = true
 
--- What is asked of values with types: that they are as many, which rests on no type, and that their types are the same.
+-- Whether the types of values are those that are asked for, one by one; unknown where one of either has no type. That they are as many is asked apart.
 pub data Fit : Type 0 where
   Suits : Fit
   Misfits : Fit
   Unknown : Fit
 
+-- one type that is not known leaves the whole open, so that no fault is told for what was at fault before
 abbrev pub types_fit : List (Option Ty) → List (Option Ty) → Fit
 types_fit ps ts = if all_judged ps && all_judged ts then (if all_suit ps ts then Suits else Misfits) else Unknown

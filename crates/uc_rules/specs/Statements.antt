@@ -163,6 +163,7 @@ misfit_faults place other = []
 abbrev pub fit_faults : Place → List (Option Ty) → List (Option Ty) → List Fault
 fit_faults place ps ts = if nat_eq (length ps) (length ts) then misfit_faults place (types_fit ps ts) else breaks WrongType place
 
+-- the targets and the sources by themselves, and then whether they fit each other
 abbrev pub assign_faults : Context → Place → List Target → List Expr → List Fault
 assign_faults c place targets sources =
     target_faults c targets ++ (faults_of (all_judged_in c sources) ++ fit_faults place (target_types c targets) (types_of (all_judged_in c sources)))
@@ -171,12 +172,14 @@ assign_faults c place targets sources =
 abbrev pub call_modifies : Context → Procedure → Bool
 call_modifies c p = list_all (may_modify c.modifies) (modifies_of c.system c.home p)
 
+-- there is such a procedure, the arguments fit its parameters and its results the targets, and it modifies no more than may be modified here
 abbrev pub called_faults : Context → Place → List (Option Ty) → Identifier → Option Procedure → List (Option Ty) → List Fault
 called_faults c place targets i None arguments = breaks UnknownName i.place
 called_faults c place targets i (Some p) arguments =
     fit_faults place (parameter_types c.system c.home p.parameters) arguments
     ++ (fit_faults place (parameter_types c.system c.home p.results) targets ++ breaks_where (not (call_modifies c p)) NotModifies place)
 
+-- the targets and the arguments of a call by themselves, and then the call
 abbrev pub call_faults : Context → Place → List Target → Identifier → List Expr → List Fault
 call_faults c place targets i arguments =
     target_faults c targets
@@ -236,10 +239,12 @@ abbrev pub else_faults : Option (List Piece) → Context → List Fault
 else_faults None c = []
 else_faults (Some block) c = block_faults block c
 
+-- no local stands in a next block, its names are new in their scope, and its type is right
 abbrev pub declare_faults : Context → Place → List Identifier → TypeExpr → List Fault
 declare_faults c place is type =
     breaks_where c.in_next BadPrime place ++ (repeated_in_scope c.system c.home (bound_names c) is ++ type_faults c.system c.home type)
 
+-- the name of the variable is new in its scope, and stands for a counter in the block
 abbrev pub for_faults : Context → Place → Identifier → Option TypeExpr → RangeBound → RangeBound → List Piece → List Fault
 for_faults c place i type from to block =
     (repeated_in_scope c.system c.home (bound_names c) (i ∷ []) ++ written_type_faults c type)
@@ -248,6 +253,7 @@ for_faults c place i type from to block =
 abbrev pub instance_there : Context → Identifier → Bool
 instance_there c i = is_some (instance_named c.system c.home i.name)
 
+-- what the rules say of each statement; only a local is known to what follows it
 abbrev pub found_form : Stmt-F Piece → Piece
 found_form (Declare place is type) c = record { faults = declare_faults c place is type; after = binds c Local is (type_of c.system c.home type) }
 found_form (Skip place) c = stays c []

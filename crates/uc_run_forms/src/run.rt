@@ -11,6 +11,7 @@ pub struct Run {
     pub used: usize,
 }
 
+/// How code ends.
 #[derive(Drop)]
 pub enum Ending {
     /// The code behind it goes on from there.

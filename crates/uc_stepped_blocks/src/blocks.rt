@@ -25,7 +25,7 @@ pub struct Blocks {
 }
 
 impl Blocks {
-    /// Those of a tree.
+    /// The blocks of a tree.
     pub fn of(alloc: Global, tree: &InstanceTree<'_>) -> Result<Blocks, AllocError>
         ensures { IfOk result (λ b. KnowsTree tree.now b.blocks) }
     {

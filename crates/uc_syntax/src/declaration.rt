@@ -9,6 +9,7 @@ use crate::type_expression::{Parameter, TypeExpr, copy_parameters};
 use std::alloc::{AllocError, Global};
 use uc_items::{Items, beside};
 
+/// How a variable is declared: by `var`, `input`, `output` or `const`.
 #[derive(Clone, Copy, Debug, PartialEq, Eq)]
 pub enum VariableKind {
     Variable,
@@ -17,6 +18,7 @@ pub enum VariableKind {
     Constant,
 }
 
+/// A clause of a procedure, with the place of its first word.
 #[derive(Drop)]
 pub enum Clause {
     Requires(Place, Expr),
@@ -24,6 +26,7 @@ pub enum Clause {
     Modifies(Place, Items<Identifier>),
 }
 
+/// A procedure, as it stands behind the word `procedure`.
 #[derive(Drop)]
 pub struct Procedure {
     pub identifier: Identifier,
@@ -40,6 +43,7 @@ pub struct Binding {
     pub expression: Expr,
 }
 
+/// What a command runs, with its number as it is written, which may be too large.
 #[derive(Clone, Copy, Debug, PartialEq, Eq)]
 pub enum WrittenRun {
     Unroll(u128),
@@ -47,8 +51,10 @@ pub enum WrittenRun {
     Verify(Identifier),
 }
 
+/// A command of a control block, with the place of its first word.
 #[derive(Drop)]
 pub enum Command {
+    /// The name that the run is given, and what is run.
     Run(Place, Option<Identifier>, WrittenRun),
     Check(Place),
     PrintResults(Place),
@@ -56,6 +62,7 @@ pub enum Command {
     PrintCounterexamples(Place, Option<Identifier>, Option<Items<Items<Identifier>>>),
 }
 
+/// A declaration, with the place of its first word.
 #[derive(Drop)]
 pub enum Decl {
     /// `type name;`
@@ -79,6 +86,7 @@ pub enum Decl {
     Control(Place, Items<Command>),
 }
 
+/// A module: the place of the word `module`, the number of its name, and its declarations in order.
 #[derive(Drop)]
 pub struct Module {
     pub place: Place,

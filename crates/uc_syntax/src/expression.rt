@@ -6,6 +6,7 @@ use crate::place::{Identifier, Place};
 use std::alloc::{AllocError, Global};
 use uc_items::{Boxed, Items, beside};
 
+/// A sign in front of an operand.
 #[derive(Clone, Copy, Debug, PartialEq, Eq)]
 pub enum UnaryOperator {
     /// `!`
@@ -16,6 +17,7 @@ pub enum UnaryOperator {
     Complement,
 }
 
+/// How two operands are compared. Bit-vectors count as signed where the name does not say otherwise.
 #[derive(Clone, Copy, Debug, PartialEq, Eq)]
 pub enum Comparison {
     Equal,
@@ -67,6 +69,7 @@ pub enum Selection<E> {
     Extract(Place, u128, u128),
 }
 
+/// What selections may follow. `E` is the type of an expression.
 #[derive(Drop)]
 pub enum Primary<E> {
     Truth(bool),

@@ -8,6 +8,7 @@ use crate::type_expression::TypeExpr;
 use std::alloc::{AllocError, Global};
 use uc_items::{Items, beside};
 
+/// What stands behind the name of a target, with the place of its first sign.
 #[derive(Drop)]
 pub enum TargetPart {
     /// `.name`
@@ -39,6 +40,7 @@ pub enum RangeBound {
     BitsLiteral(Place, u128, u32),
 }
 
+/// A statement, with the place of its first word.
 #[derive(Drop)]
 pub enum Stmt {
     /// `var names : type;`

@@ -13,6 +13,7 @@ pub struct Parameter<T> {
     pub ty: T,
 }
 
+/// A type as it is written, with the place of its first word.
 #[derive(Drop)]
 pub enum TypeExpr {
     Boolean(Place),

@@ -30,7 +30,7 @@ pub struct UseTable<'a> {
 }
 
 impl<'a> UseTable<'a> {
-    /// Those of a tree.
+    /// The uses of a tree.
     pub fn of(alloc: Global, tree: &InstanceTree<'a>) -> Result<UseTable<'a>, AllocError>
         ensures { IfOk result (λ u. KnowsUses tree.now u) }
     {
