@@ -58,6 +58,7 @@ pub data Ending : Type 0 where
 abbrev pub Execution : Type 0
 Execution = Running → Ending
 
+-- what follows runs only where the code before it goes on
 abbrev pub then_run : Ending → Execution → Ending
 then_run (Goes r) next = next r
 then_run Stopped next = Stopped
@@ -74,6 +75,7 @@ in_scope r s = record r { scope = s }
 abbrev pub keep_locals : ℕ → Scope → Scope
 keep_locals n s = record s { locals = drop (length s.locals - n) s.locals }
 
+-- statements one after another, whose locals end with them
 abbrev pub run_block : List Execution → Execution
 run_block block r = then_run (run_each block r) (λ r'. Goes (in_scope r' (keep_locals (length r.scope.locals) r'.scope)))
 
@@ -84,6 +86,7 @@ same_site a b = same_path a.path b.path && (same_place a.place b.place && nat_eq
 abbrev pub list_site : List Site → Site → List Site
 list_site sites site = if list_any (same_site site) sites then sites else sites ++ site ∷ []
 
+-- the site is listed where what is judged there is false; the code goes on all the same
 abbrev pub site_unless : Bool → Place → ℕ → Running → Running
 site_unless true place n r = r
 site_unless false place n r = record r { sites = list_site r.sites (record { path = r.scope.path; place = place; requires_ = n }) }
@@ -153,6 +156,7 @@ unfoldable pub set_local : List Local → ℕ → Value → List Local
 set_local [] x v = []
 set_local (l ∷ ls) x v = if nat_eq l.name x then record l { value = v } ∷ ls else l ∷ set_local ls x v
 
+-- a local is set where there is one of the name, else the cell for which the name stands
 abbrev pub set_found : System → Scope → ℕ → Value → Option Local → Scope
 set_found system s x v (Some l) = record s { locals = set_local s.locals x v }
 set_found system s x v None = record s { before = set_cell s.before (written_cell system s.path x) v }
@@ -207,6 +211,7 @@ turn_value (BitsLiteral place n w) k = word w (nat_abs k)
 abbrev pub turns : RangeBound → RangeBound → List Value
 turns from to = map (turn_value from) (numbers_to (bound_number from) (bound_number to))
 
+-- the block once for each value; the variable, and the locals of the block, end with each turn
 unfoldable pub run_turns : ℕ → Ty → List Execution → List Value → Execution
 run_turns x t block [] r = Goes r
 run_turns x t block (v ∷ vs) r =

@@ -66,6 +66,7 @@ Elsewhere = Scope → Expr → Reading
 abbrev pub values : List Part → Scope → List Value
 values parts s = map (λ p. (p s).value) parts
 
+-- the type of a chain, but of `++`: that of its first part
 abbrev pub first_type : List Part → Scope → Ty
 first_type [] s = boolean_type
 first_type (p ∷ ps) s = (p s).type
@@ -97,6 +98,7 @@ at_path s path = record s { path = path; locals = [] }
 abbrev pub at_copy : Scope → ℕ → Scope
 at_copy s k = at_state s (slice_index_or s.copies (k - 1) s.before)
 
+-- the scope of `old`: the entry state in place of the present one
 abbrev pub at_entry : Scope → Scope
 at_entry s = at_state s (unwrap_or s.at_entry s.before)
 
@@ -138,6 +140,7 @@ abbrev pub cell_source : System → Scope → ℕ → Bool → Option (List ℕ 
 cell_source system s x primed None = OfCell (state_in s primed) (cell_of system s.path x)
 cell_source system s x primed (Some b) = OfBinding (at_path (at_state s (state_in s primed)) b.0) b.1
 
+-- how a declared name is read: a constant by the interpretation, a variable by its own cell, an input or an output by what is bound to it, else by a cell
 abbrev pub variable_source : System → Scope → Module → ℕ → Bool → VariableKind → Source
 variable_source system s m x primed Constant = OfValue (slice_index_or s.interp.consts (constant_number system m x) (truth false))
 variable_source system s m x primed Variable = cell_source system s x primed None
@@ -216,7 +219,7 @@ unfoldable pub select_all : Scope → Reading → List (Selection Part) → Read
 select_all s r [] = r
 select_all s r (x ∷ xs) = select_all s (select s r x) xs
 
--- whether a name is that of an instance
+-- the instance of a name in the module of the scope, None where the name is that of none
 abbrev pub instance_at : System → Scope → ℕ → Option InstanceParts
 instance_at system s x = option_and_then (λ m. instance_of m x) (module_at system s.path)
 

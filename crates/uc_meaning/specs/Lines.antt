@@ -51,6 +51,7 @@ else_sites (Some block) path = all_sites block path
 abbrev pub site_at : List ℕ → Place → ℕ → Site
 site_at path place n = record { path = path; place = place; requires_ = n }
 
+-- each `requires` is a site at the call, numbered from n
 unfoldable pub requires_sites : List ℕ → Place → ℕ → List Expr → List Site
 requires_sites path place n [] = []
 requires_sites path place n (e ∷ es) = site_at path place n ∷ requires_sites path place (n + 1) es
@@ -68,6 +69,7 @@ abbrev pub sites_if_turns : {A : Type 0} → List A → List Site → List Site
 sites_if_turns [] sites = []
 sites_if_turns (v ∷ vs) sites = sites
 
+-- the sites of a statement: those of an assertion, of the `requires` and the body of what it calls, of the block that it steps, and of what is inside it
 abbrev pub sites_form : System → (List Stmt → Sites) → Stmt-F Sites → Sites
 sites_form system inside (Assert place label e) path = site_at path place 0 ∷ []
 sites_form system inside (Block place block) path = all_sites block path
@@ -86,7 +88,8 @@ unfoldable pub sites_through : ℕ → System → List Stmt → Sites
 sites_through zero system code path = []
 sites_through (suc n) system code path = sites_by system (sites_through n system) code path
 
--- a chain goes through at most so many instances and then so many calls
+-- As deep as steps and calls go: a block and longest_chain instances inside each other, then a body and longest_chain calls inside each other. So the
+-- blocks and bodies on one chain are two more than twice the longest chain.
 unfoldable pub sites_in : System → List Stmt → Sites
 sites_in system = sites_through (longest_chain + longest_chain + 2) system
 
@@ -144,10 +147,12 @@ unfoldable pub all_judged : System → List Site → List Judged
 all_judged system sites =
     map (λ site. (AtSite site, 1)) sites ++ (judged_by invariant_judged system ++ judged_by hyperinvariant_judged system)
 
+-- a line for each of what is judged, all at one moment
 abbrev pub lines_at : ℕ → At → List Judged → List Line
 lines_at command moment judged =
     map (λ j. record { command = command; at = moment; what = j.0; arity = j.1 }) judged
 
+-- a run without steps lists the sites of init code, each longer one those of its last step
 abbrev pub sites_after : System → ℕ → List Site
 sites_after system zero = init_sites system
 sites_after system (suc j) = step_sites system
@@ -158,6 +163,7 @@ lines_from system command moment j zero = []
 lines_from system command moment j (suc n) =
     lines_at command (moment j) (all_judged system (sites_after system j)) ++ lines_from system command moment (j + 1) n
 
+-- the base, after 0 to k - 1 steps, and then the step from k linked states to a last one
 abbrev pub induction_lines : System → ℕ → ℕ → List Line
 induction_lines system command k =
     lines_from system command Base 0 k ++ lines_at command (Step k) (all_judged system (step_sites system))
@@ -175,6 +181,7 @@ abbrev pub first_of_list : {A : Type 0} → List A → Option A
 first_of_list [] = None
 first_of_list (x ∷ xs) = Some x
 
+-- the lines at the exit of a procedure of main: each `ensures` from 1, and then each site of its body; none where there is no such procedure
 abbrev pub verify_lines : System → ℕ → Option (ℕ × ProcedureParts) → List Line
 verify_lines system command None = []
 verify_lines system command (Some p) =
@@ -215,12 +222,13 @@ lines_checked system n (c ∷ cs) =
 abbrev pub all_lines : System → List Line
 all_lines system = lines_checked system 0 (commands_of system)
 
--- The formula of an invariant or hyperinvariant by the number of its declaration.
+-- the formula of an invariant or a hyperinvariant; the flag tells a hyperinvariant
 abbrev pub formula_in : Decl → Option (Bool × Expr)
 formula_in (Invariant place name e) = Some (false, e)
 formula_in (Hyperinvariant place n name e) = Some (true, e)
 formula_in other = None
 
+-- the formula of a declaration, by its number in the module at a path
 abbrev pub formula_of : System → List ℕ → ℕ → Option (Bool × Expr)
 formula_of system path n =
     option_and_then formula_in (option_and_then (λ m. slice_get m.decls n) (module_at system path))
@@ -248,10 +256,12 @@ abbrev pub AreLinked : System → Interp → List Position → List Site → Typ
 AreLinked system i [] listed = ⊥
 AreLinked system i (p ∷ ps) listed = IsState system p.0 × (p.1 ≡ []) × Continues system i p.0 [] ps listed
 
+-- every invariant of an instance's module is true in the state
 abbrev pub InvariantsIn : System → Interp → State → InstanceAt → Type 0
 InvariantsIn system i s here =
     All (λ e. is_true system (scope_of i here.path s) e ≡ true) (filter_map invariant_in here.code.decls)
 
+-- every hyperinvariant of arity n of an instance's module is true of the copies
 abbrev pub HyperinvariantsIn : System → Interp → ℕ → List State → InstanceAt → Type 0
 HyperinvariantsIn system i n states here =
     All (λ h. of_arity n h ≡ true → is_true system (copies_scope i here.path states) h.1 ≡ true) (filter_map hyperinvariant_in here.code.decls)
@@ -290,10 +300,12 @@ abbrev pub procedure_numbered : Option Decl → Option ProcedureParts
 procedure_numbered (Some (Procedure place p)) = Some p
 procedure_numbered other = None
 
+-- the trace of a body has one copy of two positions, the entry and the exit
 abbrev pub FailsBodyOf : System → Line → Interp → Option Module → Option ProcedureParts → List (List Position) → Type 0
 FailsBodyOf system line i (Some m) (Some p) ((entry ∷ (exit ∷ [])) ∷ []) = FailsBody system line i m p entry exit
 FailsBodyOf system line i m p copies = ⊥
 
+-- what a trace shows by the moment of the line: runs of so many steps, linked states, or an execution of a procedure of main
 abbrev pub FailsIn : System → Line → At → Interp → List (List Position) → Type 0
 FailsIn system line (Exactly j) i copies = FailsAfter system line j i copies
 FailsIn system line (Base j) i copies = FailsAfter system line j i copies

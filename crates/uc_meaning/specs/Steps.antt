@@ -45,6 +45,7 @@ pub data Check : Type 0 where
 abbrev pub Constraint : Type 0
 Constraint = Watched → Check
 
+-- what follows is asked only where the constraint before it is kept
 abbrev pub then_check : Check → Constraint → Check
 then_check (Kept w) next = next w
 then_check Broken next = Broken
@@ -98,6 +99,7 @@ abbrev pub is_assigned : System → Scope → Target → Value → Bool
 is_assigned system s t v =
     same (new_part system s t).type (new_part system s t).value (replaced system s (old_part system s t) (from_index t.parts) v)
 
+-- each target's new part is the value of its source, and counts as written
 unfoldable pub check_targets : System → List Target → List Value → Constraint
 check_targets system (t ∷ ts) (v ∷ vs) w =
     then_check (kept_if (is_assigned system w.scope t v) (writes (target_parts system w.scope t) w)) (check_targets system ts vs)
@@ -109,6 +111,7 @@ is_left system s after_call x fields =
     let new = part_reading (name system (reading system) s x true) fields in
     same new.type new.value (part_reading (name system (reading system) after_call x false) fields).value
 
+-- each target, up to its first index, and each name that the procedure may modify is what the call leaves
 unfoldable pub all_left : System → Scope → Scope → List Target → List ℕ → Bool
 all_left system s after_call (t ∷ ts) xs = is_left system s after_call t.name (fields_before t.parts) && all_left system s after_call ts xs
 all_left system s after_call [] (x ∷ xs) = is_left system s after_call x [] && all_left system s after_call [] xs
@@ -118,6 +121,7 @@ abbrev pub modified : Option Procedure → List ℕ
 modified None = []
 modified (Some p) = modifies_of p
 
+-- the names that a procedure may modify
 abbrev pub modified_by : System → Scope → ℕ → List ℕ
 modified_by system s f = modified (option_and_then (λ m. procedure_of m f) (module_at system s.path))
 
@@ -135,6 +139,7 @@ check_call system targets f w other = Broken
 abbrev pub running : Watched → Running
 running w = record { scope = w.scope; sites = w.sites; left = w.left }
 
+-- an assertion breaks no constraint: where it is false its site is listed
 abbrev pub watched_site : Bool → Place → Watched → Watched
 watched_site true place w = w
 watched_site false place w = record w { sites = list_site w.sites (record { path = w.scope.path; place = place; requires_ = 0 }) }
@@ -145,6 +150,7 @@ with_local x t v w = record w { scope = record w.scope { locals = record { name 
 abbrev pub back_in : Scope → Watched → Check
 back_in s w = Kept (record w { scope = s })
 
+-- the block once for each value of the variable, which is a local of its turn alone
 unfoldable pub check_turns : ℕ → Ty → List Constraint → List Value → Constraint
 check_turns x t block [] w = Kept w
 check_turns x t block (v ∷ vs) w =

@@ -28,6 +28,7 @@ pub enum What {
     Ensures(u32),
 }
 
+/// What a command asks: what is judged, and when. The command is told by its place among all commands.
 #[derive(Drop)]
 pub struct Line {
     pub command: u32,

@@ -34,7 +34,7 @@ pub fn typed_apart()
     ensures { TypedApart }
 {}
 
-/// So has one that runs.
+/// A design that runs has its instances apart.
 pub fn running_apart()
     ensures { RunningApart }
 {}
@@ -64,7 +64,7 @@ pub fn clean_run()
     ensures { CleanRun }
 {}
 
-/// Where it ends with status 1, its texts are accepted, and a trace refutes a line.
+/// Where a run ends with status 1, its texts are accepted, and a trace refutes a line.
 pub fn failed_run()
     ensures { FailedRun }
 {}
