@@ -22,7 +22,7 @@ pub(crate) struct Built {
     pub(crate) words: Vec<Items<Signal>>,
 }
 
-/// The circuit of the terms that are marked, over the inputs for the opaque ones. Each term is visited once.
+/// The circuit of the terms that are marked, over the inputs for the opaque ones. Takes a step for each number up to the term's.
 pub(crate) fn build(
     alloc: Global,
     terms: &Terms,

@@ -5,6 +5,7 @@ ghost use Rattle.uc_circuit.specs.ClauseStates.{ClauseIs};
 
 use crate::Lit;
 
+/// What a clause is under values that some variables have.
 #[derive(Clone, Copy, Debug, PartialEq, Eq)]
 pub enum ClauseState {
     /// Each literal is false.

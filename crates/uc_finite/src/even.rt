@@ -12,7 +12,7 @@ use std::collections::HashMap;
 use uc_terms::{TermId, Terms, subterms};
 
 /// Whether each symbol number among the subterms has one type, and each function number one type of its result and one list of
-/// types of its arguments. Each subterm is visited once for symbols and once for functions, an application with its arguments.
+/// types of its arguments. Takes a step for each number up to the term's for symbols, and one for functions, an application's with its arguments.
 pub fn is_evenly_typed(alloc: Global, terms: &Terms, t: TermId) -> Result<bool, AllocError>
     requires { t < length terms.now }
     ensures { IfOk result (λ b. Decides b (EvenlyTyped terms.now t)) }

@@ -10,7 +10,8 @@ use std::alloc::{AllocError, Global};
 use uc_terms::{Op, TermId, Terms, subterms};
 use uc_values::{Ty, bits};
 
-/// Whether each subterm has a type with a number of bits, and none applies a function. Each subterm is visited once.
+/// Whether each subterm has a type with a number of bits, and none applies a function. Takes a step for each number up to the
+/// term's.
 pub fn is_finite_term(alloc: Global, terms: &Terms, t: TermId) -> Result<bool, AllocError>
     requires { t < length terms.now }
     ensures { IfOk result (λ b. Decides b (IsFiniteTerm terms.now t)) }

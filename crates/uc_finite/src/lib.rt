@@ -1,5 +1,5 @@
 //! Tests of terms, for callers that lower and blast a term: whether it has finitely many values, and whether each number in it
-//! has one type. Each is exact and visits a subterm once. A law joins lowering with blasting: what is lowered can be blasted.
+//! has one type. Each is exact and walks over all numbers up to the term's. A law joins lowering with blasting: what is lowered can be blasted.
 #![tactic(auto)]
 
 mod even;

@@ -2,7 +2,7 @@
 
 use std::alloc::{AllocError, Global};
 
-/// Past this score all scores are made smaller.
+/// From this rise on all scores are made smaller. Below it neither a rise nor a score, which is a sum of rises, can overflow.
 const HIGH: u64 = 1 << 56;
 
 #[derive(Drop)]
@@ -13,7 +13,7 @@ pub struct Preferences {
     phases: Vec<bool>,
     /// How often and how lately each variable took part in a conflict.
     scores: Vec<u64>,
-    /// By how much a conflict raises a score.
+    /// By how much a conflict raises a score: about 17/16 of what the one before did. It begins with 16, the least number that grows so.
     rise: u64,
 }
 
@@ -77,7 +77,7 @@ impl Preferences {
         }
     }
 
-    /// Makes all scores smaller, in proportion.
+    /// Makes all scores smaller, in proportion: 40 bits are given up at a time, which leaves the rise 16 and comes some 450 conflicts later again.
     fn lower(&mut self) {
         for score in self.scores.iter_mut() {
             *score >>= 40;

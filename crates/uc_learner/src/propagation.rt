@@ -138,7 +138,8 @@ impl State {
         None
     }
 
-    /// The input without a value that took part in conflicts most and latest.
+    /// The input without a value that took part in conflicts most and latest. No clause speaks of the preferences, so only the walk over all
+    /// variables shows that no input is left.
     fn chosen_input(&self) -> Option<u32>
         requires { Sound self.now }
         ensures { Chosen self.now result }

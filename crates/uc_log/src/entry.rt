@@ -9,6 +9,7 @@ use std::alloc::{AllocError, Global};
 use uc_circuit::{Clause, Gate, Lit, clauses_of_gate};
 use uc_items::Items;
 
+/// An entry of a log: what it adds to a problem.
 #[derive(Drop)]
 pub enum Entry {
     /// A new gate.

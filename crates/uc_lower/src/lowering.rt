@@ -30,8 +30,8 @@ pub struct Lowered {
     pub map: SymbolMap,
 }
 
-/// Lowers a boolean term: records become their fields, and enums bits, whose ranges are conditions of the goal. Each subterm
-/// is visited once.
+/// Lowers a boolean term: records become their fields, and enums bits, whose ranges are conditions of the goal. Takes a step
+/// for each number up to the term's.
 pub fn lower(alloc: Global, terms: &mut Terms, t: TermId) -> Result<Lowered, AllocError>
     requires there { t < length terms.old }
     requires boolean { type_at terms.old t ≡ Bool }

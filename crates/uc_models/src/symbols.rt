@@ -10,7 +10,7 @@ use uc_items::Items;
 use uc_terms::{Model, Op, TermId, Terms, subterms};
 use uc_values::{Value, copy};
 
-/// The model that gives each symbol of a term the value at its number. Each subterm is visited once.
+/// The model that gives each symbol of a term the value at its number. Takes a step for each number up to the term's.
 pub fn model_of(
     alloc: Global,
     terms: &Terms,

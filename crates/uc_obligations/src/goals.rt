@@ -44,9 +44,10 @@ pub fn goal(
     Ok(t)
 }
 
-/// The trace that a model of a goal after so many steps tells. There is none where no value fits the type of a constant, and where the goal
-/// is not true once each constant has a value that fits its type: neither is so for a model of the goal of a design with types for its
-/// constants that reads each at its own. An operation on whole numbers that leaves 128 bits is answered as it is.
+/// The trace that a model of a goal after so many steps tells. There is none where the goal is false once each constant that does not fit its
+/// type has the value that counts as 0, or where that value does not fit, as can be of a type that is not valid. For a model of the goal of a
+/// design with valid types that reads each constant at its own type there always is one. An operation on whole numbers that leaves 128 bits
+/// is answered as it is.
 pub fn build(
     alloc: Global,
     terms: &Terms,

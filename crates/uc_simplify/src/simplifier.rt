@@ -14,7 +14,7 @@ use std::alloc::{AllocError, Global};
 use uc_ops::copy_op;
 use uc_terms::{TermId, Terms, subterms};
 
-/// A term that is equal under every model. Each term below `t` is met once, in the order of their numbers.
+/// A term that is equal under every model. Takes a step for each number up to the term's, in their order.
 pub fn simplify(alloc: Global, terms: &mut Terms, t: TermId) -> Result<TermId, AllocError>
     requires { t < length terms.old }
     ensures there { IfOk result (λ r. r < length terms.new) }
@@ -48,8 +48,8 @@ fn standing(alloc: Global, terms: &mut Terms, t: TermId) -> Result<TermId, Alloc
     Ok(answers[t.index()])
 }
 
-/// For each term of the table, by its number, one that is equal under every model. Those numbered below `first` stand for themselves, so where
-/// they were simplified before, this takes the time of the others.
+/// For each term of the table, by its number, one that is equal under every model. Those numbered below `first` stand for themselves. Takes a
+/// step for each term of the table; those below `first` are only copied.
 pub fn simplify_from(
     alloc: Global,
     terms: &mut Terms,

@@ -25,7 +25,8 @@ abbrev pub starts_free : List Atom → Truth
 starts_free [] = false
 starts_free (atom ∷ atoms) = is_free atom
 
--- the problem is that of a goal that comes out as true
+-- The problem is that of a goal that comes out as true. The problem of a constant goal alone has a free input, with a gate that is never true: the
+-- goal is that gate, or its negation where the constant is true.
 abbrev pub is_true_question : Question → Truth
 is_true_question q = starts_free q.atoms && q.goal.neg
 

@@ -6,6 +6,7 @@ use uc_learner::LearnError;
 use uc_log::Log;
 use uc_terms::Model;
 
+/// What a solver answers to a goal.
 #[derive(Drop)]
 pub enum Answer {
     /// A model under which the goal is true.
@@ -32,7 +33,7 @@ impl From<AllocError> for SolveError {
     }
 }
 
-/// The problems of goals without integers are made but for memory.
+/// `blast` fails for want of memory alone: no goal with integers reaches it.
 impl From<BlastError> for SolveError {
     ghost use Rattle.std.specs.Prelude.{◌≡◌};
     ghost use Rattle.uc_solver.specs.declared.answer.SolveError.TheVariants.{NoMemory};

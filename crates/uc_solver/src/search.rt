@@ -54,7 +54,8 @@ pub(crate) fn decided<M: Meter>(
     searched(alloc, terms, u, problem, budget, meter)
 }
 
-/// Whether the problem is that of a goal that comes out as true.
+/// Whether the problem is that of a goal that comes out as true. The problem of a constant goal alone has a free input, with a gate that is
+/// never true: the goal is that gate, or its negation where the constant is true.
 fn is_true(problem: &Problem) -> bool
     ensures { result ≡ is_true_question problem.now }
 {

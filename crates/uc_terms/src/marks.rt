@@ -8,7 +8,7 @@ use crate::terms::Terms;
 use std::alloc::{AllocError, Global};
 use uc_ops::TermId;
 
-/// For each number up to the greatest of the terms, whether it is that of a subterm of one of them. Each node is visited once.
+/// For each number up to the greatest of the terms, whether it is that of a subterm of one of them. Takes a step for each such number.
 pub fn subterms(alloc: Global, terms: &Terms, roots: &[TermId]) -> Result<Vec<bool>, AllocError>
     requires { All (λ t. t < length terms.now) roots.now }
     ensures { IfOk result (λ marks. AreSubterms terms.now roots.now marks.items) }
