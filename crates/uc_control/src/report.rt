@@ -17,12 +17,14 @@ pub enum Why {
     Memory,
 }
 
+/// What was found of a line.
 #[derive(Drop)]
 pub enum Verdict {
     /// No trace refutes the line.
     Passed,
     /// This one does.
     Failed(Trace),
+    /// It is not known whether one does.
     Undef(Why),
 }
 

@@ -35,15 +35,19 @@ unfoldable pub in_order : List (Drawn → Drawn) → Drawn → Drawn
 in_order [] r = r
 in_order (x ∷ xs) r = in_order xs (x r)
 
+-- A cell takes the value of an expression. Code that is not taken does so too: what it leaves in the cells is dropped behind the conditional.
 abbrev pub assigns : Model → List Ty → ℕ → Expression → Drawn → Drawn
 assigns m types k e r = record { cells = slice_set r.cells k (value_of m types r.cells e); goes = r.goes; taken = r.taken; chosen = r.chosen; sites = r.sites; next = r.next }
 
+-- A cell takes the next free value, which code that is not taken uses up too. It is a choice only where the code is taken and the havoc lists it.
 abbrev pub takes : Bool → Value → ℕ → Drawn → Drawn
 takes listed v k r = record { cells = slice_set r.cells k v; goes = r.goes; taken = r.taken; chosen = r.chosen ++ listed_if (r.taken && listed) v; sites = r.sites; next = r.next + 1 }
 
+-- the run goes on only where what is assumed is true
 abbrev pub assumes : Model → List Ty → Expression → Drawn → Drawn
 assumes m types e r = record { cells = r.cells; goes = r.goes && is_true m types r.cells e; taken = r.taken; chosen = r.chosen; sites = r.sites; next = r.next }
 
+-- the site is listed where the code is taken and what is asserted is false; the run goes on all the same
 abbrev pub asserts : Model → List Ty → ℕ → Expression → Drawn → Drawn
 asserts m types site e r = record { cells = r.cells; goes = r.goes; taken = r.taken; chosen = r.chosen; sites = r.sites ++ listed_if (r.taken && not (is_true m types r.cells e)) site; next = r.next }
 

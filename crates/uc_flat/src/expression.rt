@@ -3,6 +3,7 @@
 use uc_items::Items;
 use uc_ops::Op;
 
+/// An expression over numbered cells.
 #[derive(Drop)]
 pub enum Expression {
     /// The value of a cell.

@@ -17,12 +17,14 @@ pub struct Cell {
     pub ty: Ty,
 }
 
+/// A constant: the number of its name, and its type. It is read by its place among the constants.
 #[derive(Drop)]
 pub struct Constant {
     pub name: u32,
     pub ty: Ty,
 }
 
+/// A function: the number of its name, the types of its arguments and that of its result. It is applied by its place among the functions.
 #[derive(Drop)]
 pub struct Function {
     pub name: u32,
@@ -48,6 +50,7 @@ pub struct Formula {
     pub condition: Expression,
 }
 
+/// A design over numbered cells: what it has, what its init code and its steps do, and its formulas. The number of each is its place.
 #[derive(Drop)]
 pub struct Flat {
     pub cells: Items<Cell>,
@@ -62,6 +65,7 @@ pub struct Flat {
     pub sites: Items<Site>,
     /// The axioms, and then the formulas.
     pub formulas: Items<Formula>,
+    /// How many of the formulas are axioms.
     pub axioms: u32,
 }
 

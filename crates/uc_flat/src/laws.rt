@@ -3,62 +3,62 @@
 ghost use Rattle.uc_flat.specs.Laws.{ExtendsLaw, KeepsLaw, CountsLaw, ConstantsLaw, RunsLaw, FindsLaw, OrderAllowsLaw, AllowsOrderLaw};
 ghost use Rattle.uc_flat.specs.Executions.{InitialLaw, InitialFoundLaw, StepLaw, StepFoundLaw};
 
-/// Code behind the free values that were read before.
+/// What code does on free values of its own, it does on them behind those that were read before.
 pub fn extends()
     ensures { ExtendsLaw }
 {}
 
-/// Code where free values are added.
+/// What code did on the free values that it reads stays when more are added behind them.
 pub fn keeps()
     ensures { KeepsLaw }
 {}
 
-/// How many free values code reads.
+/// How many free values code reads is a number of the code alone.
 pub fn counts_values()
     ensures { CountsLaw }
 {}
 
-/// Code under models that agree on its constants and functions.
+/// Code does the same under models that agree on its constants and on the functions.
 pub fn reads_constants()
     ensures { ConstantsLaw }
 {}
 
-/// Code that goes on free values runs on choices.
+/// Where all assumptions hold on free values, code runs on the choices that it lists, to the same cells, and lists the same sites.
 pub fn code_runs()
     ensures { RunsLaw }
 {}
 
-/// Code that runs on choices goes on free values.
+/// Where code runs on choices, there are as many free values as it reads on which it goes the same way.
 pub fn code_runs_on()
     ensures { FindsLaw }
 {}
 
-/// Statements in order as a constraint.
+/// What ordered statements give in order, they allow as a constraint.
 pub fn order_allows()
     ensures { OrderAllowsLaw }
 {}
 
-/// A constraint as statements in order.
+/// What ordered statements allow as a constraint, they give in order where the free values are those of the new cells.
 pub fn allows_order()
     ensures { AllowsOrderLaw }
 {}
 
-/// Init code that goes on free values gives an initial state.
+/// Where all assumptions hold, what init code leaves on free values is an initial state, with the choices and the sites that it lists.
 pub fn initial_states()
     ensures { InitialLaw }
 {}
 
-/// Each initial state is found on free values.
+/// Each initial state is what init code leaves on some free values, behind the symbols before them.
 pub fn initial_states_found()
     ensures { InitialFoundLaw }
 {}
 
-/// A step's code that goes on free values gives a step.
+/// Where all assumptions hold, what a step's code leaves on free values is a step, with the choices and the sites that it lists.
 pub fn steps()
     ensures { StepLaw }
 {}
 
-/// Each step is found on free values.
+/// Each step is what a step's code leaves on some free values, behind the symbols that were read before.
 pub fn steps_found()
     ensures { StepFoundLaw }
 {}

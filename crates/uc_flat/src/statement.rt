@@ -3,12 +3,14 @@
 use crate::expression::Expression;
 use uc_items::Items;
 
+/// A statement over numbered cells. Code is a list of statements, one after another.
 #[derive(Drop)]
 pub enum Statement {
     /// A cell takes a value.
     Assign(u32, Expression),
     /// A cell takes any value of its type. The flag tells whether that value is listed as a choice.
     Havoc(u32, bool),
+    /// What goes on only where this is true.
     Assume(Expression),
     /// The number of the site, and what is to be true there.
     Assert(u32, Expression),

@@ -41,7 +41,8 @@ pub fn init_code(
     walk(alloc, tables, code, &mut names, &mut shadowed, first, block)
 }
 
-/// The same of one statement, which may change what names stand for.
+/// The code over cells that does what one statement of init code does, with what its further cells begin with, whose numbers are from `first`
+/// on. It may change what names stand for.
 pub fn statement_code(
     alloc: Global,
     tables: &Tables,

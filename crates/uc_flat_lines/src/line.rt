@@ -7,7 +7,9 @@ use uc_linear::LinearError;
 /// Why a line is not decided.
 #[derive(Clone, Copy, Drop)]
 pub enum FlatWhy {
+    /// Memory was wanted, the goal is not finite, or a number left 128 bits.
     Memory,
+    /// The search spent all entries of the budget.
     Budget,
 }
 
@@ -34,12 +36,14 @@ impl From<LinearError> for FlatWhy {
     }
 }
 
+/// What was found of a formula after so many steps.
 #[derive(Drop)]
 pub enum FlatVerdict {
     /// No trace refutes the formula.
     Passed,
     /// A trace that refutes it.
     Failed(FlatTrace),
+    /// It is not known whether there is one.
     Undef(FlatWhy),
 }
 

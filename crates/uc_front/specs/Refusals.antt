@@ -9,6 +9,7 @@ use Rattle.uc_front.specs.declared.refusal.Refusal.TheVariants.{NoFile, TooLong,
 abbrev pub front : ℕ → Place
 front file = record { file = file; line = 1; col = 1 }
 
+-- the number that the error line gives: that of the rule where one is broken
 abbrev pub number_of : Refusal → ℕ
 number_of (TooLong file) = 2
 number_of (BadByte p) = 3

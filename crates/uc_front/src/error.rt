@@ -6,6 +6,7 @@ ghost use Rattle.uc_front.specs.declared.error.FrontError.TheVariants.{NoMemory}
 use crate::refusal::Refusal;
 use std::alloc::AllocError;
 
+/// Why no design is read.
 #[derive(Clone, Copy, Debug, PartialEq, Eq)]
 pub enum FrontError {
     NoMemory,

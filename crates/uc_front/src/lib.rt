@@ -1,7 +1,8 @@
-//! Reads a design: from the bytes of files to their modules, or to the first fault with its number and place.
+//! Reads a design: from the bytes of files to one that keeps the rules and runs, or to the first fault with its number and place.
 //!
-//! One pass after the other goes over all files: their texts are read, then lexed, then parsed. The first pass that refuses a
-//! file ends it, at the first such file.
+//! There are six passes, and the first that refuses answers. Three go over all files, to the first one that is refused: their texts are
+//! read, then lexed, then parsed. Three judge the design, which needs a module that is called `main`: by the static rules, by those on order
+//! and sizes, and by what runs today, which also makes the design over cells.
 #![tactic(auto)]
 
 mod design;

@@ -51,6 +51,7 @@ IsAnswerFor false tells words held a = a ≡ Usage
 abbrev pub IsAnswer : Bool → List (List ℕ) → (List ℕ → Option (List ℕ)) → Answer → Type 0
 IsAnswer tells words held a = IsAnswerFor (is_form words) tells words held a
 
+-- 4 for words that are not of the form, 3 for texts that are refused, else the status of the report
 abbrev pub status_of : Answer → ℕ
 status_of Usage = 4
 status_of (Refused r) = 3

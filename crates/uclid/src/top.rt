@@ -32,8 +32,8 @@ impl Outcome {
 /// Reads the files that the words name, in order, judges their design, and writes the report.
 ///
 /// Each line may spend 2^20 entries of a log, which the meter counts. Statuses: 0 where all lines passed, 1 where one failed, else 2
-/// where one is undecided, 3 where the texts are refused (an error line is written), 4 where the words are none (the usage line is
-/// written), 5 after a fault of the texts, 6 after a fault of the sink, 7 for want of memory.
+/// where one is undecided, 3 where the texts are refused (an error line is written), 4 where the words are not 1 to 256 names, of which
+/// none begins with `-` (the usage line is written), 5 after a fault of the texts, 6 after a fault of the sink, 7 for want of memory.
 pub fn run<X: Texts, K: Sink, M: Meter>(
     alloc: Global,
     words: &[&str],

@@ -1,4 +1,4 @@
-//! The verifier as a program: it reads the file that its word names, judges the design, and writes the report.
+//! The verifier as a program: it reads the 1 to 256 files that its words name, judges their design, and writes the report.
 #![tactic(auto)]
 
 use std::alloc::{AllocError, Global};
