@@ -23,12 +23,11 @@ use Rattle.uc_syntax.specs.Contents.{Contents}
 use Rattle.uc_values.specs.declared.ty.Ty.{Ty}
 use Rattle.uc_meaning.specs.Lookup.{System, InstanceParts, system_of, module_named}
 use Rattle.uc_rules.specs.declared.fault.Fault.{Fault}
-use Rattle.uc_rules.specs.declared.rule.Rule.{Rule}
 use Rattle.uc_rules.specs.declared.rule.Rule.TheVariants.{UnknownName, DuplicateName, Unbound, NotAssignable, BadCopy}
 use Rattle.uc_rules.specs.declared.known.Known.{Known}
 use Rattle.uc_rules.specs.declared.known.Role.{Role}
 use Rattle.uc_rules.specs.declared.known.Role.TheVariants.{Parameter as ParameterRole, Result as ResultRole}
-use Rattle.uc_rules.specs.Faults.{breaks, breaks_where, broken, IsIn, IsFirst}
+use Rattle.uc_rules.specs.Faults.{breaks, breaks_where, broken, IsFirst}
 use Rattle.uc_rules.specs.Outcomes.{faults_in}
 use Rattle.uc_rules.specs.Rows.{same_outcome}
 use Rattle.uc_rules.specs.Names.{Valued, ValuedVariable, value_named, instance_named, is_name_of, names_in, repeated_names, repeated_in_list, repeated_in_scope}
@@ -276,10 +275,6 @@ system_with d main = system_of d (unwrap_or (main_number d main) 0)
 unfoldable pub design_faults : Contents → List ℕ → List Fault
 design_faults d main =
     main_faults (main_number d main) ++ (repeated_modules d.modules ++ flat_map (module_faults (system_with d main)) d.modules)
-
--- A design breaks a rule at a place.
-abbrev pub DesignBreaks : Contents → List ℕ → Rule → Place → Type 0
-DesignBreaks d main rule place = IsIn (broken rule place) (design_faults d main)
 
 -- No rule is broken.
 abbrev pub KeepsRules : Contents → List ℕ → Type 0

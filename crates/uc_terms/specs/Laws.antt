@@ -18,8 +18,3 @@ SameUnderEveryModel new t old u = (m : Model) → value m new t ≡ value m old 
 pub record IsModelOf (m : Model) (nodes : List Node) (t : ℕ) : Type 0 where
   pub fits : FitsTerm m nodes t
   pub holds : truth_of (value m nodes t) ≡ true
-
--- every model of either goes over into one of the other
-pub record Corresponds (old : List Node) (t : ℕ) (new : List Node) (u : ℕ) : Type 0 where
-  pub there : (m : Model) → IsModelOf m old t → (n : Model) × IsModelOf n new u
-  pub back : (n : Model) → IsModelOf n new u → (m : Model) × IsModelOf m old t

@@ -20,9 +20,6 @@ use Rattle.uc_path_laws.specs.Walks.{Parted, Passed, Walk, passed, walk_choice, 
 abbrev pub one_part : Place → Part → Walk Part
 one_part place p again seen = passed (seen ++ p ∷ []) (breaks_where (again || met overlap seen p) TwiceAssigned place)
 
-abbrev pub walk_parts : Place → List Part → Walk Part
-walk_parts place parts = walk_each (map (one_part place) parts)
-
 abbrev pub one_target : Place → Target → Walk Part
 one_target place t = one_part place (part_of_target t)
 
