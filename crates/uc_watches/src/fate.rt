@@ -4,7 +4,7 @@ ghost use Rattle.std.specs.Prelude.{◌≡◌, ◌↔◌, ◌<◌, length, All, 
 ghost use Rattle.uc_circuit.specs.Values.{IsFalse};
 ghost use Rattle.uc_watches.specs.Pairs.{IsTrueIn, FateIs, Replaces, partner};
 
-use uc_circuit::{ClauseState, Lit, state_of};
+use uc_circuit::Lit;
 
 #[derive(Clone, Copy)]
 pub enum Fate {
@@ -27,6 +27,7 @@ pub fn partner(slot: u32) -> usize
 }
 
 /// What the clause does, whose other watched literal is `other`.
+#[tactic(auto, using(crate::proofs::Fates::all_false, crate::proofs::Fates::forced))]
 pub fn fate_of(clause: &[Lit], other: Lit, values: &[Option<bool>]) -> Fate
     requires within { All (λ l. l.var < length values.now) clause.now }
     requires other { Contains clause.now other }
@@ -38,11 +39,10 @@ pub fn fate_of(clause: &[Lit], other: Lit, values: &[Option<bool>]) -> Fate
     if let Some(literal) = replacement(clause, other, values) {
         return Fate::Moves(literal);
     }
-    match state_of(clause, values) {
-        ClauseState::Falsified => Fate::Conflict,
-        ClauseState::Unit(literal) => Fate::Implies(literal),
-        ClauseState::Settled => Fate::Stays,
+    if is_false(other, values) {
+        return Fate::Conflict;
     }
+    Fate::Implies(other)
 }
 
 /// A literal that is not false, other than the one.
