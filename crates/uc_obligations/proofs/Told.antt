@@ -1,30 +1,25 @@
 -- A model whose constants fit their types gives each known term the value that it had.
 use Rattle.std.proofs.Common.{◌≡◌, ℕ, ◌<◌, ◌≤◌, List, [], ◌∷◌, ◌++◌, length, drop, Option, Some, None, refl, sym, ap, ◌∙◌, subst, arith, slice_get, zero, suc, inl, inr}
-use Rattle.std.specs.Prelude.{Bool as Truth, true, false, cond, Contains}
+use Rattle.std.specs.Prelude.{Bool as Truth, true, false, cond}
 use Rattle.std.specs.Option.{option_map}
 use Rattle.std.proofs.Math.ListN.{drop_of_length-le}
 use Rattle.std.proofs.lemmas.Option.{slice_get-map, slice_get_within, same_Some}
 use Rattle.std.proofs.lemmas.Bool.Decides.{leb_tells}
-use Rattle.std.proofs.lemmas.List.Elements.{All-contains_itself}
 use Rattle.uc_values.specs.declared.ty.Ty.{Ty}
 use Rattle.uc_values.specs.declared.value.Value.{Value}
 use Rattle.uc_values.specs.Values.{fits, zero_of, truth_of}
-use Rattle.uc_values.specs.Tables.{result_of}
 use Rattle.uc_ops.specs.declared.model.Model.{Model}
-use Rattle.uc_ops.specs.declared.op.Op.{Op}
-use Rattle.uc_ops.specs.declared.op.Op.TheVariants.{Symbol, App}
 use Rattle.uc_ops.specs.declared.node.Node.{Node}
-use Rattle.uc_ops.specs.Typing.{types_at}
-use Rattle.uc_ops.specs.Meaning.{part, fitting, apply}
-use Rattle.uc_ops.proofs.Lists.{at_place, same_map}
+use Rattle.uc_ops.specs.Meaning.{part, fitting}
+use Rattle.uc_ops.proofs.Lists.{at_place}
 use Rattle.uc_terms.specs.Tables.{WellTyped}
 use Rattle.uc_terms.specs.Values.{value, values_at}
-use Rattle.uc_terms.proofs.Values.{value-node}
 use Rattle.uc_flat.specs.declared.flat.Flat.{Flat}
 use Rattle.uc_flat.specs.declared.flat.Constant.{Constant}
 use Rattle.uc_flat.specs.Flats.{IsSound}
 use Rattle.uc_symstep.specs.declared.state.SymState.{SymState}
-use Rattle.uc_symstep.specs.Known.{IsKnown, known}
+use Rattle.uc_symstep.specs.Known.{IsKnown}
+use Rattle.uc_symstep.proofs.Models.{Agree, same_value}
 use Rattle.uc_flat_traces.specs.declared.trace.FlatTrace.{FlatTrace}
 use Rattle.uc_flat_traces.specs.Traces.{constant_types}
 use Rattle.uc_obligations.specs.declared.unrolling.Unrolling.{Unrolling}
@@ -34,25 +29,6 @@ use Rattle.uc_obligations.specs.Goals.{IsTold}
 use Rattle.uc_obligations.proofs.Knowing.{supply_begins}
 use Rattle.uc_obligations.proofs.Goaled.{trace_refutes}
 use Rattle.uc_obligations.proofs.Read.{get_front, values_are}
-
--- ---- models that agree on the symbols of a supply
-
-abbrev Agree : List Ty → Model → Model → Type 0
-Agree supply m n = (number : ℕ) (ty : Ty) → slice_get supply number ≡ Some ty → fitting ty (slice_get n.symbols number) ≡ fitting ty (slice_get m.symbols number)
-
-same_apply : (m n : Model) (op : Op) (types : List Ty) (values : List Value) → n.tables ≡ m.tables
-    → ((number : ℕ) (ty : Ty) → op ≡ Symbol number ty → fitting ty (slice_get n.symbols number) ≡ fitting ty (slice_get m.symbols number)) → apply n op types values ≡ apply m op types values
-same_apply m n (Symbol k ty) types values e h = h k ty refl
-same_apply m n (App k ty) types values e h = ap (λ ts. fitting ty (option_map (λ table. result_of table values) (slice_get ts k))) e
-same_apply m n other types values e h = refl
-
-same_value : (supply : List Ty) (nodes : List Node) (m n : Model) → WellTyped nodes → n.tables ≡ m.tables → Agree supply m n → (t : ℕ) → IsKnown supply nodes t → value n nodes t ≡ value m nodes t
-same_value supply nodes m n w e h t (known u node there symbol parts) =
-    value-node n nodes t node w there
-    ∙ same_apply m n node.op (types_at nodes node.parts) (values_at n nodes node.parts) e (λ number ty is. h number ty (symbol number ty is))
-    ∙ ap (apply m node.op (types_at nodes node.parts))
-    (same_map (value n nodes) (value m nodes) (Contains node.parts) node.parts (λ p c. same_value supply nodes m n w e h p (parts p c)) (All-contains_itself node.parts))
-    ∙ sym (value-node m nodes t node w there)
 
 -- ---- a model with fitting constants
 

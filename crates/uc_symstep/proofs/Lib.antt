@@ -4,5 +4,6 @@ pub mod States
 pub mod Branches
 pub mod Doing
 pub mod Steps
+pub mod Models
 pub mod Runs
 pub mod Known

@@ -14,6 +14,7 @@ use Rattle.uc_ops.specs.declared.model.Model.{Model}
 use Rattle.uc_ops.specs.declared.node.Node.{Node}
 use Rattle.uc_ops.specs.Typing.{AllValid, type_at}
 use Rattle.uc_terms.specs.Values.{value}
+use Rattle.uc_terms.specs.Tables.{WellTyped}
 use Rattle.uc_terms.proofs.Grown.{slice_get-push}
 use Rattle.uc_flat.specs.declared.flat.Flat.{Flat}
 use Rattle.uc_flat.specs.declared.flat.Formula.{Formula}
@@ -21,17 +22,20 @@ use Rattle.uc_flat.specs.declared.expression.Expression.{Expression}
 use Rattle.uc_flat.specs.Flats.{cell_types, wider_types, init_types, repeated, IsSound, IsFormula}
 use Rattle.uc_flat.specs.Fine.{IsTyped, AreFine}
 use Rattle.uc_flat.specs.Reading.{type_of, value_of}
-use Rattle.uc_flat.specs.Drawn.{Drawn}
+use Rattle.uc_flat.specs.Drawn.{Drawn, drawn}
 use Rattle.uc_symstep.specs.declared.state.SymState.{SymState}
 use Rattle.uc_symstep.specs.Growing.{Grows, IsTerm, AreCells}
 use Rattle.uc_symstep.specs.Stands.{holds, IsTruth}
 use Rattle.uc_flat.specs.declared.statement.Statement.{Statement}
-use Rattle.uc_flat.specs.Unrolled.{started, stepped, seen, initial, after_step, reached, formula_in, holds_in}
+use Rattle.uc_flat.specs.Unrolled.{started, doubled, later, stepped, seen, initial, after_step, reached, formula_in, holds_in}
 use Rattle.uc_symstep.specs.Unrolled.{shows, IsSeen, StartsAs, StepsAs}
-use Rattle.uc_symstep.specs.Designs.{ShowsAt, AreStates, Unrolls, IsInitialWhereTaken, HasEachInitial, IsStepWhereTaken}
+use Rattle.uc_symstep.specs.Designs.{ShowsAt, AreStates, Unrolls, IsInitialWhereTaken, HasEachInitial, IsStepWhereTaken, HasEachStep}
+use Rattle.uc_flat.specs.Laws.{AgreeBelow}
 use Rattle.uc_flat.specs.Executions.{IsInitial, IsStep, IsAt}
-use Rattle.uc_flat.proofs.Executing.{initial_is, initial_found, step_is}
+use Rattle.uc_flat.proofs.Executing.{initial_is, initial_found, step_is, step_found}
 use Rattle.uc_symstep.proofs.Grown.{grows_on, grows_value, grows_type, grows_values, grows_length, cells_grow}
+use Rattle.uc_symstep.specs.Known.{KnowsState}
+use Rattle.uc_symstep.proofs.Models.{agree_below, same_value, same_values}
 use Rattle.uc_symstep.proofs.Formulas.{Meaning}
 use Rattle.uc_symstep.proofs.States.{same_drawn, truth_grows, choices_grow, sites_grow, choices_keep, sites_keep}
 
@@ -327,3 +331,23 @@ init_each old new f k n s h a m cells choices sites c l i =
 pub step_taken : (old new : List Node) (f : Flat) (k n : ℕ) (pre s : SymState) → IsSound f → StepsAs old new (cell_types f) (after_step f) pre k s n → IsStepWhereTaken f old pre new s
 step_taken old new f k n pre s h a m p =
     subst (λ (d : Drawn). IsStep f m (map (value m old) pre.cells) d.cells d.chosen d.sites) (sym (a.same m)) (step_is f m (shows m old pre k) h (ap (λ (d : Drawn). d.goes) (sym (a.same m)) ∙ p))
+
+-- what a known state stands for is the same under models that agree below the number of the next symbol
+shown_same : (supply : List Ty) (old : List Node) (m n : Model) (pre : SymState) (k : ℕ) → WellTyped old → KnowsState supply old pre k → AgreeBelow k m n
+    → doubled (shows n old pre k) ≡ doubled (shows m old pre k)
+shown_same supply old m n pre k w p a =
+    let agree = agree_below supply m n (subst (λ x. AgreeBelow x m n) p.next a) in
+    let goes = same_value supply old m n w (sym a.tables) agree pre.path p.path in
+    let cells = same_values supply old m n w (sym a.tables) agree pre.cells p.cells in
+    ap (λ v. record { cells = map (value n old) pre.cells ++ map (value n old) pre.cells; goes = truth_of v; taken = true; chosen = []; sites = []; next = k }) goes
+    ∙ ap (λ vs. record { cells = vs ++ vs; goes = holds m old pre.path; taken = true; chosen = []; sites = []; next = k }) cells
+
+after_same : (f : Flat) (n : Model) (r s : Drawn) → doubled r ≡ doubled s → after_step f n r ≡ after_step f n s
+unfolding stepped
+after_same f n r s e = ap (λ d. later (length (cell_types f)) (drawn n (cell_types f ++ cell_types f) n.symbols f.step d)) e
+
+pub step_each : (old new : List Node) (f : Flat) (k n : ℕ) (pre s : SymState) → IsSound f → WellTyped old → StepsAs old new (cell_types f) (after_step f) pre k s n → HasEachStep f k old pre new s
+step_each old new f k n pre s h w a supply m cells choices sites p c l g i =
+    let found = step_found f m (shows m old pre k) cells choices sites h c l g i in
+    let same = after_same f found.model _ _ (shown_same supply old m found.model pre k w p found.agrees) in
+    record { model = found.model; agrees = found.agrees; at = other_number found.model new s n cells choices sites (at_place_as _ _ cells choices sites (a.same found.model ∙ same) found.at) }

@@ -1,5 +1,6 @@
 -- Initial states, steps and runs of a design on terms.
 use Rattle.std.specs.Prelude.{◌≡◌, ℕ, ◌+◌, ◌≤◌, true, List, length, slice_get, Some}
+use Rattle.uc_values.specs.declared.ty.Ty.{Ty}
 use Rattle.uc_values.specs.declared.value.Value.{Value}
 use Rattle.uc_ops.specs.declared.model.Model.{Model}
 use Rattle.uc_ops.specs.declared.node.Node.{Node}
@@ -13,6 +14,7 @@ use Rattle.uc_symstep.specs.declared.state.SymState.{SymState}
 use Rattle.uc_symstep.specs.Growing.{Grows}
 use Rattle.uc_symstep.specs.Stands.{holds}
 use Rattle.uc_symstep.specs.Unrolled.{shows, IsSeen}
+use Rattle.uc_symstep.specs.Known.{KnowsState}
 
 -- the state is this place under every model, but for the number of the next free value
 pub record ShowsAt (f : Flat) (nodes : List Node) (place : Model → Drawn) (s : SymState) : Type 0 where
@@ -44,3 +46,9 @@ HasEachInitial f k nodes s =
 abbrev pub IsStepWhereTaken : Flat → List Node → SymState → List Node → SymState → Type 0
 IsStepWhereTaken f old pre new s =
     (m : Model) → holds m new s.path ≡ true → IsStep f m (shows m old pre 0).cells (shows m new s 0).cells (shows m new s 0).chosen (shows m new s 0).sites
+
+-- Each step from what the old state stands for, under a model in which its path condition is true, is the new state under a model that has the same functions and the same symbols below k, where the old state reads no others.
+abbrev pub HasEachStep : Flat → ℕ → List Node → SymState → List Node → SymState → Type 0
+HasEachStep f k old pre new s =
+    (supply : List Ty) (m : Model) (cells choices : List Value) (sites : List ℕ) → KnowsState supply old pre k → length f.constants ≤ k → k ≤ length m.symbols
+    → holds m old pre.path ≡ true → IsStep f m (shows m old pre 0).cells cells choices sites → IsFound k m (λ n. shows n new s 0) cells choices sites

@@ -11,7 +11,7 @@ ghost use Rattle.uc_flat.specs.Unrolled.{initial, after_step, formula_in};
 ghost use Rattle.uc_flat.specs.Fine.{ReadsTyped};
 ghost use Rattle.uc_symstep.specs.Growing.{Grows, IsTerm, AreCells};
 ghost use Rattle.uc_symstep.specs.Unrolled.{IsSeen, StartsAs, StepsAs};
-ghost use Rattle.uc_symstep.specs.Designs.{IsInitialWhereTaken, HasEachInitial, IsStepWhereTaken};
+ghost use Rattle.uc_symstep.specs.Designs.{IsInitialWhereTaken, HasEachInitial, IsStepWhereTaken, HasEachStep};
 ghost use Rattle.uc_symstep.specs.Known.{IsKnown, CodeReadsTyped, draw_types, constants_typed, step_types, supply_after, KnowsState};
 
 use crate::formula::sym_expression;
@@ -105,10 +105,12 @@ pub fn sym_step(
     requires state { IsSeen terms.old (cell_types f.now) pre.now }
     ensures ok { IfOk result (λ s. StepsAs terms.old terms.new (cell_types f.now) (after_step f.now) pre.now fresh.old.next s fresh.new.next) }
     ensures step { IfOk result (λ s. IsStepWhereTaken f.now terms.old pre.now terms.new s) }
+    ensures each { IfOk result (λ s. HasEachStep f.now fresh.old.next terms.old pre.now terms.new s) }
     ensures known { IfOk result (λ s. (supply : List AType) → CodeReadsTyped supply f.now.step → KnowsState supply terms.old pre.now fresh.old.next → KnowsState (supply ++ step_types f.now) terms.new s fresh.new.next) }
     ensures grown { Grows terms.old terms.new }
     ensures err { OnErr result (fresh.new ≡ fresh.old) }
 {
+    let _terms = terms.len();
     let types = types_of_cells(alloc, f)?;
     let both_types = twice_types(alloc, types.as_slice())?;
     let (state, next) = step_of(
