@@ -1,3 +1,4 @@
 pub mod Declared
 pub mod DeclaredConstants
+pub mod Entered
 pub mod Entries

@@ -1,13 +1,15 @@
 //! The cells of a module that stands alone.
 
-ghost use Rattle.std.specs.Prelude.{◌≡◌, ◌++◌, nat_eq, map, OnOk, IfOk};
+ghost use Rattle.std.specs.Prelude.{◌≡◌, ℕ, ◌++◌, nat_eq, map, OnOk, IfOk};
 ghost use Rattle.std.specs.List.{flat_map, position_from};
+ghost use Rattle.indexmap.specs.IndexMap.{get};
 ghost use Rattle.uc_meaning.specs.Types.{type_of_written};
 ghost use Rattle.uc_flat_names.specs.Names.{StandsAlone, types_of};
 ghost use Rattle.uc_flat_table.specs.Cells.{has_cells, cell_of_name, declared_cells, own_cells};
 
 use std::alloc::{AllocError, Global};
 use uc_items::Items;
+use uc_name_table::Firsts;
 use uc_syntax::{Decl, Identifier, Module, VariableKind};
 use uc_type_reader::{Tables, type_of_written};
 use uc_values::{Ty, copy_ty};
@@ -120,14 +122,14 @@ fn add_cell(
     Ok(())
 }
 
-/// The number of the first cell of a name.
-pub(crate) fn place_of(cells: &[OwnCell], name: u32) -> Option<usize>
-    ensures { result ≡ position_from (λ c. nat_eq c.name name) 0 cells.now }
+/// The number of the first cell of each name.
+#[tactic(auto, using(crate::proofs::Entered::placed_begin, crate::proofs::Entered::placed_more, crate::proofs::Entered::placed_end))]
+pub(crate) fn places_of(alloc: Global, cells: &[OwnCell]) -> Result<Firsts<usize>, AllocError>
+    ensures { IfOk result (λ t. (x : ℕ) → get nat_eq t.things x ≡ position_from (λ c. nat_eq c.name x) 0 cells.now) }
 {
+    let mut places = Firsts::new(alloc);
     for (place, cell) in cells.iter().enumerate() {
-        if cell.name == name {
-            return Some(place);
-        }
+        places.enter(cell.name, Some(place))?;
     }
-    None
+    Ok(places)
 }

@@ -1,7 +1,8 @@
 //! The constants of a module that stands alone.
 
-ghost use Rattle.std.specs.Prelude.{◌≡◌, ◌++◌, nat_eq, map, OnOk, IfOk};
+ghost use Rattle.std.specs.Prelude.{◌≡◌, ℕ, ◌++◌, nat_eq, map, OnOk, IfOk};
 ghost use Rattle.std.specs.List.{flat_map, position_from};
+ghost use Rattle.indexmap.specs.IndexMap.{get};
 ghost use Rattle.uc_flat_names.specs.Names.{StandsAlone, constant_types, flat_constants};
 ghost use Rattle.uc_flat_table.specs.Cells.{constant_of_name, declared_constants, own_constants};
 
@@ -9,6 +10,7 @@ use crate::cells::has_cells;
 use std::alloc::{AllocError, Global};
 use uc_flat::Constant;
 use uc_items::Items;
+use uc_name_table::Firsts;
 use uc_syntax::{Decl, Identifier, Module};
 use uc_type_reader::{Tables, type_of_written};
 use uc_values::{Ty, copy_ty};
@@ -120,14 +122,14 @@ fn add_constant(
     Ok(())
 }
 
-/// The number of the first constant of a name.
-pub(crate) fn place_of(constants: &[Constant], name: u32) -> Option<usize>
-    ensures { result ≡ position_from (λ c. nat_eq c.name name) 0 constants.now }
+/// The number of the first constant of each name.
+#[tactic(auto, using(crate::proofs::Entered::placed_begin, crate::proofs::Entered::placed_more, crate::proofs::Entered::placed_end))]
+pub(crate) fn places_of(alloc: Global, constants: &[Constant]) -> Result<Firsts<usize>, AllocError>
+    ensures { IfOk result (λ t. (x : ℕ) → get nat_eq t.things x ≡ position_from (λ c. nat_eq c.name x) 0 constants.now) }
 {
+    let mut places = Firsts::new(alloc);
     for (place, constant) in constants.iter().enumerate() {
-        if constant.name == name {
-            return Some(place);
-        }
+        places.enter(constant.name, Some(place))?;
     }
-    None
+    Ok(places)
 }

@@ -5,7 +5,9 @@
 
 mod cells;
 mod constants;
+mod labels;
 mod table;
+mod variables;
 
 pub use cells::{OwnCell, cell_types_of, own_cells};
 pub use constants::{constant_types_of, constants_of};

@@ -13,5 +13,6 @@ mod types;
 
 pub use homes::{TypeEntry, home_of_type, type_entry};
 pub use labels::{Label, label_of};
+pub use mentioned::{Mentioned, WrittenEnum, mentioned_in};
 pub use tables::Tables;
 pub use types::type_of_written;

@@ -13,21 +13,21 @@ use uc_syntax::{Arm, Decl, Identifier, Module, Parameter, Place, Stmt, TypeExpr}
 
 /// An enum as it is written: the place of its word `enum`, and its labels.
 #[derive(Drop)]
-pub(crate) struct WrittenEnum {
+pub struct WrittenEnum {
     pub place: Place,
     pub labels: Items<u32>,
 }
 
 /// Enums, and the names of modules.
 #[derive(Drop)]
-pub(crate) struct Mentioned {
+pub struct Mentioned {
     pub enums: Items<WrittenEnum>,
     pub modules: Items<u32>,
 }
 
 /// What a module mentions in its types.
 #[tactic(auto, using(crate::proofs::Gained::gains_begin, crate::proofs::Gained::gains_more, crate::proofs::Gained::gains_end))]
-pub(crate) fn mentioned_in(alloc: Global, code: &Module) -> Result<Mentioned, AllocError>
+pub fn mentioned_in(alloc: Global, code: &Module) -> Result<Mentioned, AllocError>
     ensures { IfOk result (λ m. IsMentioned code.now m) }
 {
     let mut found = Mentioned {
