@@ -17,6 +17,7 @@ pub struct Hit {
     pub failed: TermId,
 }
 
+/// A symbolic state inside code: that of a way through it which may not be taken.
 #[derive(Drop)]
 pub struct Symbolic {
     pub cells: Items<TermId>,

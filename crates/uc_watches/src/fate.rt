@@ -6,6 +6,7 @@ ghost use Rattle.uc_watches.specs.Pairs.{IsTrueIn, FateIs, Replaces, partner};
 
 use uc_circuit::Lit;
 
+/// What a clause does when a literal that it watches became false.
 #[derive(Clone, Copy)]
 pub enum Fate {
     /// The other watched literal is true.
