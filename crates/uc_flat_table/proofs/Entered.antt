@@ -200,7 +200,7 @@ pub labels_are : (s : System) (code : Module) (found : Mentioned) (enums : List 
     → Enters label_meant (λ x. first_some (label_in_named s x) modules) imported named → Gives label_meant (label_of s code) named
 labels_are s code found enums decls modules none own imported named empty mentioned is_enums is_decls is_modules a b c x =
     let own_labels = a x ∙ ap (λ o. or_else (option_map label_meant o) (first_some (label_at s x) enums)) (empty x)
-        ∙ ap (first_some (label_at s x)) is_enums ∙ written_label s x (enums_of_module code) found.enums (mentioned_enums code found mentioned) in
+    ∙ ap (first_some (label_at s x)) is_enums ∙ written_label s x (enums_of_module code) found.enums (mentioned_enums code found mentioned) in
     let imported_labels = b x ∙ ap (λ o. or_else o (first_some (label_imported s x) decls)) own_labels ∙ ap (λ ds. or_else (first_some (label_in s x) (enums_of_module code)) (first_some (label_imported s x) ds)) is_decls in
     c x
     ∙ ap (λ o. or_else o (first_some (label_in_named s x) modules)) imported_labels

@@ -6,11 +6,10 @@ use Rattle.uc_circuit.specs.Values.{value_of, IsFalse, IsFalsified, Forces}
 use Rattle.uc_watches.specs.Pairs.{IsTrueIn}
 
 pub all_false : (values : List (Option Bool)) (clause : List Lit) (other : Lit) → All (λ l. (l ≡ other) ⊎ IsFalse values l) clause → IsFalse values other → IsFalsified values clause
-all_false values clause other rest is k d within = elim (rest k d within)
-  [
+all_false values clause other rest is k d within = elim (rest k d within) [
   | inl e ↦ subst (IsFalse values) (sym e) is
   | inr f ↦ f
-  ]
+]
 
 no_value : (o : Option Bool) (neg : Bool) → (o ≡ Some (not neg) → ⊥) → (o ≡ Some neg → ⊥) → o ≡ None
 no_value None neg t f = refl
