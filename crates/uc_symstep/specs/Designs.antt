@@ -47,7 +47,7 @@ abbrev pub IsStepWhereTaken : Flat → List Node → SymState → List Node → 
 IsStepWhereTaken f old pre new s =
     (m : Model) → holds m new s.path ≡ true → IsStep f m (shows m old pre 0).cells (shows m new s 0).cells (shows m new s 0).chosen (shows m new s 0).sites
 
--- Each step from what the old state stands for, under a model in which its path condition is true, is the new state under a model that has the same functions and the same symbols below k, where the old state reads no others.
+-- Each step from what the old state stands for, under a model in which its path condition is true and which has the symbols below k, is the new state under a model that has the same functions and the same symbols below k. The constants are among these, and the old state reads no others.
 abbrev pub HasEachStep : Flat → ℕ → List Node → SymState → List Node → SymState → Type 0
 HasEachStep f k old pre new s =
     (supply : List Ty) (m : Model) (cells choices : List Value) (sites : List ℕ) → KnowsState supply old pre k → length f.constants ≤ k → k ≤ length m.symbols
