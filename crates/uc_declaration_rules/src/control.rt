@@ -6,7 +6,7 @@ ghost use Rattle.std.specs.Option.{option_map};
 ghost use Rattle.uc_declaration_rules.specs.Judging.{printed_faults};
 ghost use Rattle.uc_lookup.specs.Parts.{instance_parts};
 ghost use Rattle.uc_name_table.specs.Senses.{module_in, value_meant};
-ghost use Rattle.uc_rules.specs.Declarations.{command_faults, control_faults, module_of_instance, path_faults, path_is_there};
+ghost use Rattle.uc_rules.specs.Declarations.{command_faults, control_faults, home_of_instance, path_faults, path_is_there};
 ghost use Rattle.uc_rules.specs.Faults.{first_of};
 ghost use Rattle.uc_rules.specs.Reads.{is_state, is_state_kind};
 
@@ -88,41 +88,45 @@ fn note_path(scope: &Scope<'_, '_>, path: &[Identifier], first: &mut Option<Faul
     }
 }
 
-/// Whether a path leads by instances to a variable, input or output.
+/// Whether a path leads by instances to a variable, input or output. One through an instance whose module isn't there is left open.
 fn path_is_there(scope: &Scope<'_, '_>, path: &[Identifier]) -> bool
-    ensures { result ≡ path_is_there scope.now.system (Some scope.now.home) path.now }
+    ensures { result ≡ path_is_there scope.now.system (Some (Some scope.now.home)) path.now }
 {
     match path {
         [] => false,
         [last] => is_state(scope.value(last.name)),
-        [start, rest @ ..] => leads(scope, module_of(scope, scope.instance(start.name)), rest),
+        [start, rest @ ..] => leads(scope, home_of(scope, scope.instance(start.name)), rest),
     }
 }
 
-/// Whether a path leads from the module at a place, where there is one, to a variable, input or output.
-fn leads(scope: &Scope<'_, '_>, start: Option<usize>, path: &[Identifier]) -> bool
-    ensures { result ≡ path_is_there scope.now.system (option_map (module_in scope.now.system.modules) start) path.now }
+/// Whether a path leads to a variable, input or output from where an instance leads, if there was one: the place of its module, if that is there.
+fn leads(scope: &Scope<'_, '_>, start: Option<Option<usize>>, path: &[Identifier]) -> bool
+    ensures { result ≡ path_is_there scope.now.system (option_map (option_map (module_in scope.now.system.modules)) start) path.now }
 {
     let count = path.len();
     let mut here = start;
     for (k, identifier) in path.iter().enumerate() {
-        let Some(number) = here else {
+        let Some(home) = here else {
             return false;
+        };
+        let Some(number) = home else {
+            return true;
         };
         if k + 1 == count {
             return is_state(scope.value_in(number, identifier.name));
         }
-        here = module_of(scope, scope.instance_in(number, identifier.name));
+        here = home_of(scope, scope.instance_in(number, identifier.name));
     }
     false
 }
 
-fn module_of(scope: &Scope<'_, '_>, instance: Option<InstanceParts<'_>>) -> Option<usize>
-    ensures { option_map (module_in scope.now.system.modules) result ≡ module_of_instance scope.now.system (option_map instance_parts instance.entry) }
+/// Where an instance leads, if there is one: to the place of its module, if that is there.
+fn home_of(scope: &Scope<'_, '_>, instance: Option<InstanceParts<'_>>) -> Option<Option<usize>>
+    ensures { option_map (option_map (module_in scope.now.system.modules)) result ≡ home_of_instance scope.now.system (option_map instance_parts instance.entry) }
 {
     match instance {
         None => None,
-        Some(instance) => scope.module_named(instance.module_name),
+        Some(instance) => Some(scope.module_named(instance.module_name)),
     }
 }
 

@@ -84,7 +84,7 @@ module _ (c : Context) (place : Place) where
   judged_product es ms =
       ap (λ (p : Part). p c) (fold-roll-Expr Part judged_form (ProductForm place es ms))
       ∙ ap (λ js. product_judged place js ms) (all_parts c es)
-      ∙ ap (λ ps. judges place (faults_of (parts_judged c es)) (product_own (chained Number ms (types_of (parts_judged c es))) ms ps)) (plains_are c es)
+      ∙ ap (λ ps. judges place (faults_of (parts_judged c es)) (product_own ms (types_of (parts_judged c es)) ps)) (plains_are c es)
 
   pub judged_compare : (how : Comparison) (mark : Place) (a b : Expr) →
       judged (Compare place how mark a b) c ≡ judges place ((judged a c).faults ++ (judged b c).faults) (own mark (comparison how (judged a c).type (judged b c).type))

@@ -17,7 +17,7 @@ use Rattle.uc_rules.specs.declared.outcome.Outcome.{Outcome}
 use Rattle.uc_rules.specs.declared.outcome.Outcome.TheVariants.{Breaks}
 use Rattle.uc_rules.specs.declared.rule.Rule.TheVariants.{WrongType}
 use Rattle.uc_rules.specs.declared.rows.Chain.{Chain}
-use Rattle.uc_rules.specs.declared.rows.Chain.TheVariants.{Boolean, Number}
+use Rattle.uc_rules.specs.declared.rows.Chain.TheVariants.{Boolean}
 use Rattle.uc_rules.specs.Faults.{first_of}
 use Rattle.uc_rules.specs.Outcomes.{faults_in, type_in}
 use Rattle.uc_rules.specs.Rows.{comparison, condition, same_outcome, unary}
@@ -64,12 +64,12 @@ right_of_parts c es es' ms ms' old mid new ts us t parts es-is us-is o ms-is =
     (subst (λ xs. FindsOwn mid new t (chained Boolean ms' xs)) (us-is ∙ ap reverse parts.types) o)))
 
 pub product_of_parts : (c : Context) (es es' es'' : List Expr) (ms ms' : List Place) (ps : List Bool) (old mid new : Option Fault) (ts : List (Option Ty)) (t : Option Ty) →
-    JudgesAll c es' old mid ts → es' ≡ es → ps ≡ map (λ e. (judged e c).plain) es'' → es'' ≡ es → FindsOwn mid new t (product_own (chained Number ms' ts) ms' ps) → ms' ≡ ms → JudgesProduct c es ms old new t
+    JudgesAll c es' old mid ts → es' ≡ es → ps ≡ map (λ e. (judged e c).plain) es'' → es'' ≡ es → FindsOwn mid new t (product_own ms' ts ps) → ms' ≡ ms → JudgesProduct c es ms old new t
 product_of_parts c es es' es'' ms ms' ps old mid new ts t parts es-is plain-is es2-is o ms-is =
     subst (λ ys. JudgesProduct c es ys old new t) ms-is
     (finds_inner old mid new t _ (faults_of (parts_judged c es)) _ (parts.found ∙ ap (λ xs. first_of old (faults_of (parts_judged c xs))) es-is)
-    (subst (λ us. FindsOwn mid new t (product_own (chained Number ms' us) ms' (map (λ e. (judged e c).plain) es))) (parts.types ∙ ap (λ xs. types_of (parts_judged c xs)) es-is)
-    (subst (λ qs. FindsOwn mid new t (product_own (chained Number ms' ts) ms' qs)) (plain-is ∙ ap (map (λ e. (judged e c).plain)) es2-is) o)))
+    (subst (λ us. FindsOwn mid new t (product_own ms' us (map (λ e. (judged e c).plain) es))) (parts.types ∙ ap (λ xs. types_of (parts_judged c xs)) es-is)
+    (subst (λ qs. FindsOwn mid new t (product_own ms' ts qs)) (plain-is ∙ ap (map (λ e. (judged e c).plain)) es2-is) o)))
 
 pub unary_of_part : (c : Context) (place : Place) (operator : UnaryOperator) (e x : Expr) (old mid new : Option Fault) (t u : Option Ty) → x ≡ e →
     Judges c x old mid t → FindsOutcome mid new u place (unary operator t) → Judges c (Unary place operator e) old new u

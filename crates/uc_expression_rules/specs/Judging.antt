@@ -12,7 +12,7 @@ use Rattle.uc_rules.specs.declared.rule.Rule.TheVariants.{WrongType}
 use Rattle.uc_rules.specs.declared.outcome.Outcome.{Outcome}
 use Rattle.uc_rules.specs.declared.outcome.Outcome.TheVariants.{Breaks}
 use Rattle.uc_rules.specs.declared.rows.Chain.{Chain}
-use Rattle.uc_rules.specs.declared.rows.Chain.TheVariants.{Boolean, Number, Bits}
+use Rattle.uc_rules.specs.declared.rows.Chain.TheVariants.{Boolean, Bits}
 use Rattle.uc_rules.specs.Faults.{first_of}
 use Rattle.uc_rules.specs.Outcomes.{type_in, faults_in}
 use Rattle.uc_rules.specs.Rows.{condition, pair, same_outcome}
@@ -53,9 +53,9 @@ JudgesFromRight c es marks old new t =
     Finds old new t (faults_of (parts_judged c es) ++ (chained Boolean (reverse marks) (reverse (types_of (parts_judged c es)))).faults)
     (chained Boolean (reverse marks) (reverse (types_of (parts_judged c es)))).type
 
--- the operators of a product, and how many of its factors are plain
+-- the operators of a product, by the types of its factors and by which of them are plain
 abbrev pub product_found : Context → List Expr → List Place → Own
-product_found c es marks = product_own (chained Number marks (types_of (parts_judged c es))) marks (map (λ e. (judged e c).plain) es)
+product_found c es marks = product_own marks (types_of (parts_judged c es)) (map (λ e. (judged e c).plain) es)
 
 abbrev pub JudgesProduct : Context → List Expr → List Place → Option Fault → Option Fault → Option Ty → Type 0
 JudgesProduct c es marks old new t = Finds old new t (faults_of (parts_judged c es) ++ (product_found c es marks).faults) (product_found c es marks).type

@@ -3,15 +3,13 @@
 ghost use Rattle.std.specs.Prelude.{◌≡◌, map, reverse, IfOk};
 ghost use Rattle.uc_rules.specs.Expressions.{chained, product_own};
 ghost use Rattle.uc_rules.specs.Rows.{comparison, unary};
-ghost use Rattle.uc_rules.specs.declared.rows.Chain.TheVariants.{Number};
 ghost use Rattle.uc_expression_rules.specs.Judging.{FindsOutcome, FindsOwn};
 
-use crate::about::is_integer;
 use std::alloc::{AllocError, Global};
 use uc_items::Items;
-use uc_rules::{Chain, Fault, Rule, comparison, judge_chain, note, settle, unary};
+use uc_rules::{Chain, Fault, comparison, judge_chain, settle, unary};
 use uc_syntax::{Comparison, Place, SumSign, UnaryOperator};
-use uc_type_forms::second_of;
+use uc_type_forms::judge_product;
 use uc_values::Ty;
 
 /// The type of a chain of operators from the left.
@@ -31,24 +29,25 @@ pub(crate) fn chained(
     judge_chain(chain, first, start, marks, types.as_slice())
 }
 
-/// The type of a product, whose operands are plain or not.
+/// The type of a product, whose factors are plain or not.
+#[tactic(auto, using(crate::proofs::Products::product_none, crate::proofs::Products::product_without))]
 pub(crate) fn product(
     marks: &[Place],
     types: Items<Option<Ty>>,
     plains: &[bool],
     first: &mut Option<Fault>,
 ) -> Option<Ty>
-    ensures { FindsOwn first.old first.new result (product_own (chained Number marks.now types) marks.now plains.now) }
+    ensures { FindsOwn first.old first.new result (product_own marks.now types plains.now) }
 {
-    let ty = chained(Chain::Number, marks, types, first);
-    if !is_integer(&ty) {
-        return ty;
+    let mut types = types;
+    if types.is_empty() {
+        return None;
     }
-    match second_of(marks, plains) {
-        None => ty,
-        Some(mark) => {
-            note(first, Rule::Nonlinear, mark);
-            None
+    match plains.split_first() {
+        None => None,
+        Some((is_plain, others)) => {
+            let start = types.remove(0);
+            judge_product(first, start, !*is_plain, marks, types.as_slice(), others)
         }
     }
 }

@@ -5,7 +5,7 @@ ghost use Rattle.std.specs.Option.{option_map};
 ghost use Rattle.uc_lookup.specs.Parts.{instance_parts};
 ghost use Rattle.uc_meaning.specs.Lookup.{module_named};
 ghost use Rattle.uc_name_table.specs.Senses.{value_meant};
-ghost use Rattle.uc_rules.specs.Expressions.{ValueOf, enum_of, inside, instance_or_nothing, instance_standing, module_standing, name_standing, old_standing, old_valued, old_variable, unprimed, valued_standing, variable_standing};
+ghost use Rattle.uc_rules.specs.Expressions.{ValueOf, enum_of, inside, instance_or_nothing, instance_standing, module_standing, name_standing, old_instance, old_standing, old_valued, old_variable, unprimed, valued_standing, variable_standing};
 ghost use Rattle.uc_rules.specs.Names.{instance_named, value_named};
 ghost use Rattle.uc_rules.specs.Types.{type_of};
 ghost use Rattle.uc_read_names.specs.Reading.{standing_meant};
@@ -188,9 +188,19 @@ impl<'a, 'd> Scope<'a, 'd> {
         ensures { IfOk result (λ s. standing_meant self.now.system.modules s ≡ old_valued self.now begin name (value_named self.now.system self.now.home name.name)) }
     {
         match self.value(name.name) {
-            None => Ok(wrong(Rule::UnknownName, name.place)),
+            None => Ok(self.old_instance(begin, name)),
             Some(Value::Label(_)) => Ok(wrong(Rule::BadPrime, begin)),
             Some(Value::Variable(variable)) => self.old_variable(alloc, begin, variable),
+        }
+    }
+
+    /// An instance is there and has no old value.
+    fn old_instance(&self, begin: Place, name: Identifier) -> Standing
+        ensures { standing_meant self.now.system.modules result ≡ old_instance begin name (instance_named self.now.system self.now.home name.name) }
+    {
+        match self.instance(name.name) {
+            None => wrong(Rule::UnknownName, name.place),
+            Some(_) => wrong(Rule::BadPrime, begin),
         }
     }
 

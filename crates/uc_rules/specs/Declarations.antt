@@ -177,21 +177,24 @@ abbrev pub command_name : Command → Option Identifier
 command_name (Run place name run) = name
 command_name other = None
 
-abbrev pub module_of_instance : System → Option InstanceParts → Option Module
-module_of_instance system None = None
-module_of_instance system (Some p) = module_named system p.module_name
+-- where an instance leads, if there is such an instance: to its module, if that is there
+abbrev pub home_of_instance : System → Option InstanceParts → Option (Option Module)
+home_of_instance system None = None
+home_of_instance system (Some p) = Some (module_named system p.module_name)
 
--- whether a path leads by instances to a variable, input or output
-unfoldable pub path_is_there : System → Option Module → List Identifier → Bool
-path_is_there system None path = false
-path_is_there system (Some m) [] = false
-path_is_there system (Some m) (i ∷ []) = is_state (value_named system m i.name)
-path_is_there system (Some m) (i ∷ (j ∷ path)) = path_is_there system (module_of_instance system (instance_named system m i.name)) (j ∷ path)
+-- Whether a path leads by instances to a variable, input or output. One through an instance whose module isn't there is left open, since that
+-- is a fault where the instance is declared.
+unfoldable pub path_is_there : System → Option (Option Module) → List Identifier → Bool
+path_is_there system home [] = false
+path_is_there system None (i ∷ path) = false
+path_is_there system (Some None) (i ∷ path) = true
+path_is_there system (Some (Some m)) (i ∷ []) = is_state (value_named system m i.name)
+path_is_there system (Some (Some m)) (i ∷ (j ∷ path)) = path_is_there system (home_of_instance system (instance_named system m i.name)) (j ∷ path)
 
 -- a path that isn't there is a fault at its first token
 abbrev pub path_faults : System → Module → List Identifier → List Fault
 path_faults system m [] = []
-path_faults system m (i ∷ path) = breaks_where (not (path_is_there system (Some m) (i ∷ path))) UnknownName i.place
+path_faults system m (i ∷ path) = breaks_where (not (path_is_there system (Some (Some m)) (i ∷ path))) UnknownName i.place
 
 abbrev pub command_faults : System → Module → Command → List Fault
 command_faults system m (PrintCounterexamples place name (Some paths)) = flat_map (path_faults system m) paths

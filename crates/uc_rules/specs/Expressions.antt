@@ -1,5 +1,5 @@
 -- The faults of an expression and its type, by what its parts are judged to be.
-use Rattle.std.specs.Prelude.{ℕ, Bool, true, false, not, ◌&&◌, nat_eq, nat_le, if◌then◌else◌, List, [], ◌∷◌, ◌++◌, map, length, reverse, slice_index_or, Option, Some, None}
+use Rattle.std.specs.Prelude.{ℕ, Bool, true, false, not, ◌&&◌, ◌||◌, nat_eq, nat_le, if◌then◌else◌, List, [], ◌∷◌, ◌++◌, map, length, reverse, slice_index_or, Option, Some, None}
 use Rattle.std.specs.List.{flat_map, find}
 use Rattle.std.specs.Option.{is_some}
 use Rattle.uc_lexer.specs.declared.place.Place.{Place}
@@ -101,31 +101,34 @@ chain_judged chain place parts marks = judges place (faults_of parts) (chained c
 abbrev pub chain_from_right : Chain → Place → List Judged → List Place → Judged
 chain_from_right chain place parts marks = judges place (faults_of parts) (chained chain (reverse marks) (reverse (types_of parts)))
 
--- An integer product may have one factor that is no literal, negated literal or loop variable. The mark before the second such factor:
-unfoldable pub second_mark : Bool → List Place → List Bool → Option Place
-second_mark found (m ∷ ms) (true ∷ ps) = second_mark found ms ps
-second_mark true (m ∷ ms) (false ∷ ps) = Some m
-second_mark false (m ∷ ms) (false ∷ ps) = second_mark true ms ps
-second_mark found ms ps = None
+-- An integer product may have one factor that is no literal, negated literal or loop variable. The operator before the second such factor
+-- breaks the rule, where both its sides are integers; of the operators behind one that breaks a rule nothing is said.
+abbrev pub times : Bool → Outcome → Outcome
+times true (Has integer) = Breaks Nonlinear
+times is_second o = o
 
-abbrev pub second_of : List Place → List Bool → Option Place
-second_of marks [] = None
-second_of marks (p ∷ ps) = second_mark (not p) marks ps
+-- the type of a product, grouped from the left, where such a factor may stand before
+unfoldable pub product_type : Bool → Option Ty → List Place → List (Option Ty) → List Bool → Option Ty
+product_type found t (m ∷ ms) (u ∷ us) (p ∷ ps) = product_type (found || not p) (type_in (times (found && not p) (pair Number t u))) ms us ps
+product_type found t ms us ps = t
 
-abbrev pub product_at : Option Place → Own
-product_at (Some m) = record { faults = breaks Nonlinear m; type = None }
-product_at None = record { faults = []; type = Some integer }
+-- the faults of its operators, each at its token
+unfoldable pub product_faults : Bool → Option Ty → List Place → List (Option Ty) → List Bool → List Fault
+product_faults found t (m ∷ ms) (u ∷ us) (p ∷ ps) =
+    faults_in m (times (found && not p) (pair Number t u)) ++ product_faults (found || not p) (type_in (times (found && not p) (pair Number t u))) ms us ps
+product_faults found t ms us ps = []
+
+-- a product, by the types of its factors and by which of them are literals, negated literals or loop variables
+abbrev pub product_own : List Place → List (Option Ty) → List Bool → Own
+product_own marks (t ∷ ts) (p ∷ ps) = record { faults = product_faults (not p) t marks ts ps; type = product_type (not p) t marks ts ps }
+product_own marks ts ps = record { faults = []; type = None }
+
+abbrev pub product_judged : Place → List Judged → List Place → Judged
+product_judged place parts marks = judges place (faults_of parts) (product_own marks (types_of parts) (map (λ p. p.plain) parts))
 
 abbrev pub is_integer : Option Ty → Bool
 is_integer (Some integer) = true
 is_integer other = false
-
--- a product, by its types as a chain; only where that gives an integer are its factors counted
-abbrev pub product_own : Own → List Place → List Bool → Own
-product_own o marks plains = if is_integer o.type then product_at (second_of marks plains) else o
-
-abbrev pub product_judged : Place → List Judged → List Place → Judged
-product_judged place parts marks = judges place (faults_of parts) (product_own (chained Number marks (types_of parts)) marks (map (λ p. p.plain) parts))
 
 -- Conditionals.
 
@@ -217,10 +220,14 @@ abbrev pub old_variable : Place → VariableKind → Option Ty → Standing
 old_variable begin Constant t = Wrong (broken BadPrime begin)
 old_variable begin kind t = ValueOf t
 
+abbrev pub old_instance : Place → Identifier → Option InstanceParts → Standing
+old_instance begin x None = Wrong (broken UnknownName x.place)
+old_instance begin x (Some i) = Wrong (broken BadPrime begin)
+
 abbrev pub old_valued : Context → Place → Identifier → Option Valued → Standing
 old_valued c begin x (Some (ValuedVariable kind type)) = old_variable begin kind (type_of c.system c.home type)
 old_valued c begin x (Some (ValuedLabel e)) = Wrong (broken BadPrime begin)
-old_valued c begin x None = Wrong (broken UnknownName x.place)
+old_valued c begin x None = old_instance begin x (instance_named c.system c.home x.name)
 
 abbrev pub old_bound : Context → Place → Identifier → Option Known → Standing
 old_bound c begin x (Some k) = Wrong (broken BadPrime begin)

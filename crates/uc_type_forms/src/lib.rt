@@ -7,4 +7,4 @@ mod product;
 
 pub use fit::{applied, note_misfit};
 pub use on_bits::{extended, shifted};
-pub use product::second_of;
+pub use product::judge_product;

@@ -1,7 +1,7 @@
 use Rattle.std.proofs.Common.{ap, ◌∙◌}
 use Rattle.std.specs.Option.{option_map}
 use Rattle.uc_name_table.specs.Senses.{module_in}
-use Rattle.uc_rules.specs.Declarations.{module_of_instance}
+use Rattle.uc_rules.specs.Declarations.{home_of_instance}
 use Rattle.uc_rules.specs.Reads.{is_state}
 use Rattle.uc_declaration_rules.proofs.Paths.{path_longer, path_none, path_one}
 use Rattle.uc_declaration_rules.proofs.control.path_is_there.Goals as goal
@@ -14,5 +14,5 @@ returns-in-len1 c = path_one c.args.scope.now.system c.args.scope.now.home c.arg
 
 pub returns-in-len1-up : goal.returns-in-len1-up
 returns-in-len1-up c =
-    path_longer c.args.scope.now.system c.args.scope.now.home c.args.path.now (option_map (module_in c.args.scope.now.system.modules) c.module_of.result) c.leads.result c.in-len1-up.len_at_least
-    (c.module_of.ensures ∙ ap (module_of_instance c.args.scope.now.system) c.instance.ensures) c.leads.ensures
+    path_longer c.args.scope.now.system c.args.scope.now.home c.args.path.now (option_map (option_map (module_in c.args.scope.now.system.modules)) c.home_of.result) c.leads.result c.in-len1-up.len_at_least
+    (c.home_of.ensures ∙ ap (home_of_instance c.args.scope.now.system) c.instance.ensures) c.leads.ensures
