@@ -8,35 +8,54 @@ use Rattle.uclid.specs.declared.answer.Answer.{Answer}
 use Rattle.uclid.specs.declared.top.Outcome.{Outcome}
 use Rattle.uclid.specs.Answers.{IsAnswer, status_of, session_of, text_of, line_budget}
 
+-- What a run saw of its texts: whether they tell their bytes, what they hold under each name, and how many faults they counted before it and after it.
+pub record TextsSeen : Type 0 where
+  pub tells : Bool
+  pub held : List ℕ → Option (List ℕ)
+  pub faults : ℕ
+  pub faults_after : ℕ
+
+-- What a run saw of its sink: whether it tells its bytes, those that it took before the run and after it, and how many faults it counted.
+pub record SinkSeen : Type 0 where
+  pub tells : Bool
+  pub taken : List ℕ
+  pub taken_after : List ℕ
+  pub faults : ℕ
+  pub faults_after : ℕ
+
 -- the whole text was written
-abbrev pub Wrote : Bool → List ℕ → List ℕ → List ℕ → Type 0
-Wrote tells before now text = IsTrue tells → now ≡ before ++ text
+abbrev pub Wrote : SinkSeen → List ℕ → Type 0
+Wrote sink text = IsTrue sink.tells → sink.taken_after ≡ sink.taken ++ text
 
 -- a front of the text was written, and the sink counted a fault
-abbrev pub WroteFront : Bool → List ℕ → List ℕ → ℕ → ℕ → List ℕ → Type 0
-WroteFront tells before now faults faults_now text = (IsTrue tells → GrewByFront before now text) × Rose faults faults_now
+abbrev pub WroteFront : SinkSeen → List ℕ → Type 0
+WroteFront sink text = (IsTrue sink.tells → GrewByFront sink.taken sink.taken_after text) × Rose sink.faults sink.faults_after
 
 -- nothing was written
-abbrev pub WroteNothing : Bool → List ℕ → List ℕ → Type 0
-WroteNothing tells before now = IsTrue tells → now ≡ before
+abbrev pub WroteNothing : SinkSeen → Type 0
+WroteNothing sink = IsTrue sink.tells → sink.taken_after ≡ sink.taken
 
--- The right answer is there with its session, and either all of its text was written and the status is its own, or a front of it was written before a fault of the sink, and the status is 6.
-pub record EndsBy (tells : Bool) (words : List (List ℕ)) (held : List ℕ → Option (List ℕ)) (sink_tells : Bool) (before now : List ℕ) (faults faults_now : ℕ) (o : Outcome) (a : Answer) : Type 0 where
-  pub right : IsAnswer tells words held a
+-- All of the answer's text was written and the status is its own, or a front of it was written before a fault of the sink, and the status is 6.
+abbrev pub IsWritten : List (List ℕ) → Answer → SinkSeen → ℕ → Type 0
+IsWritten words a sink status = ((status ≡ status_of a) × Wrote sink (text_of words a)) ⊎ ((status ≡ 6) × WroteFront sink (text_of words a))
+
+-- the right answer is there with its session, and it was written
+pub record EndsBy (texts : TextsSeen) (words : List (List ℕ)) (sink : SinkSeen) (o : Outcome) (a : Answer) : Type 0 where
+  pub right : IsAnswer texts.tells words texts.held a
   pub session : o.session ≡ session_of a
-  pub written : ((o.status ≡ status_of a) × Wrote sink_tells before now (text_of words a)) ⊎ ((o.status ≡ 6) × WroteFront sink_tells before now faults faults_now (text_of words a))
+  pub written : IsWritten words a sink o.status
 
 -- Nothing was written: the status is 5 after a fault of the texts, and 7 for want of memory.
-pub record EndsEarly (texts_faults texts_faults_now : ℕ) (sink_tells : Bool) (before now : List ℕ) (o : Outcome) : Type 0 where
+pub record EndsEarly (texts : TextsSeen) (sink : SinkSeen) (o : Outcome) : Type 0 where
   pub session : o.session ≡ None
-  pub status : ((o.status ≡ 5) × Rose texts_faults texts_faults_now) ⊎ (o.status ≡ 7)
-  pub written : WroteNothing sink_tells before now
+  pub status : ((o.status ≡ 5) × Rose texts.faults texts.faults_after) ⊎ (o.status ≡ 7)
+  pub written : WroteNothing sink
 
 -- what writing an answer leads to
-abbrev pub HasWritten : List (List ℕ) → Answer → Bool → List ℕ → List ℕ → ℕ → ℕ → Outcome → Type 0
-HasWritten words a sink_tells before now faults faults_now o =
-    ((o.session ≡ session_of a) × (((o.status ≡ status_of a) × Wrote sink_tells before now (text_of words a)) ⊎ ((o.status ≡ 6) × WroteFront sink_tells before now faults faults_now (text_of words a))))
-    ⊎ ((o.session ≡ None) × (o.status ≡ 7) × WroteNothing sink_tells before now)
+abbrev pub HasWritten : List (List ℕ) → Answer → SinkSeen → Outcome → Type 0
+HasWritten words a sink o =
+    ((o.session ≡ session_of a) × IsWritten words a sink o.status)
+    ⊎ ((o.session ≡ None) × (o.status ≡ 7) × WroteNothing sink)
 
 -- For a session the meter rose by at least the budget for each line that is undecided by it, and by at most the budget for each line. Without one it did not fall.
 abbrev pub HasPaidFor : ℕ → ℕ → Option Session → Type 0
@@ -46,8 +65,6 @@ HasPaidFor before after None = before ≤ after
 abbrev pub HasPaid : ℕ → ℕ → Outcome → Type 0
 HasPaid before after o = HasPaidFor before after o.session
 
--- How a run ends, by what its texts held and counted, and by what its sink took and counted.
-abbrev pub Ends : Bool → List (List ℕ) → (List ℕ → Option (List ℕ)) → ℕ → ℕ → Bool → List ℕ → List ℕ → ℕ → ℕ → Outcome → Type 0
-Ends tells words held texts_faults texts_faults_now sink_tells before now faults faults_now o =
-    ((a : Answer) × EndsBy tells words held sink_tells before now faults faults_now o a)
-    ⊎ EndsEarly texts_faults texts_faults_now sink_tells before now o
+-- How a run ends: by the right answer, or early.
+abbrev pub Ends : TextsSeen → List (List ℕ) → SinkSeen → Outcome → Type 0
+Ends texts words sink o = ((a : Answer) × EndsBy texts words sink o a) ⊎ EndsEarly texts sink o

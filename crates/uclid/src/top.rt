@@ -42,8 +42,11 @@ pub fn run<X: Texts, K: Sink, M: Meter>(
     meter: &mut M,
 ) -> Outcome
     requires total { M.total meter.old < 2 ^ 126 }
-    ensures ends { Ends (X.tells texts.old) (words_of words.now) (X.held texts.old) (X.faults texts.old) (X.faults texts.new)
-        (K.tells out.old) (K.taken out.old) (K.taken out.new) (K.faults out.old) (K.faults out.new) result }
+    ensures ends { Ends
+        (record { tells = X.tells texts.old; held = X.held texts.old; faults = X.faults texts.old; faults_after = X.faults texts.new })
+        (words_of words.now)
+        (record { tells = K.tells out.old; taken = K.taken out.old; taken_after = K.taken out.new; faults = K.faults out.old; faults_after = K.faults out.new })
+        result }
     ensures spent { HasPaid (M.total meter.old) (M.total meter.new) result }
     ensures unspent { result.session ≡ None → (¬ (result.status ≡ 7)) → M.total meter.new ≡ M.total meter.old }
     ensures texts_still { (¬ (result.status ≡ 5)) → X.faults texts.new ≡ X.faults texts.old }
@@ -63,7 +66,9 @@ pub fn run<X: Texts, K: Sink, M: Meter>(
 
 /// Writes the text of an answer.
 fn written<K: Sink>(alloc: Global, words: &[&str], answer: Answer, out: &mut K) -> Outcome
-    ensures ends { HasWritten (words_of words.now) answer (K.tells out.old) (K.taken out.old) (K.taken out.new) (K.faults out.old) (K.faults out.new) result }
+    ensures ends { HasWritten (words_of words.now) answer
+        (record { tells = K.tells out.old; taken = K.taken out.old; taken_after = K.taken out.new; faults = K.faults out.old; faults_after = K.faults out.new })
+        result }
     ensures still { (¬ (result.status ≡ 6)) → K.faults out.new ≡ K.faults out.old }
     ensures later { K.faults out.old ≤ K.faults out.new }
     ensures telling { K.tells out.new ≡ K.tells out.old }

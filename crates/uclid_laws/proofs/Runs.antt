@@ -21,8 +21,8 @@ use Rattle.uclid.specs.declared.answer.Session.{Session}
 use Rattle.uclid.specs.declared.answer.Answer.{Answer}
 use Rattle.uclid.specs.declared.answer.Answer.TheVariants.{Usage, Refused, Reported}
 use Rattle.uclid.specs.declared.top.Outcome.{Outcome}
-use Rattle.uclid.specs.Answers.{is_form, line_budget, IsFilesAnswer, IsAnswerFor, status_of, text_of}
-use Rattle.uclid.specs.Runs.{Wrote, WroteFront, EndsBy, EndsEarly, Ends}
+use Rattle.uclid.specs.Answers.{is_form, line_budget, IsFilesAnswer, IsAnswerFor, IsAnswer, status_of}
+use Rattle.uclid.specs.Runs.{TextsSeen, SinkSeen, IsWritten, EndsBy, EndsEarly, Ends}
 use Rattle.uclid_laws.specs.Laws.{AllPassed, AcceptedRuns, RefusedRuns, UnrollingsHold, CleanRun, FailedRun}
 use Rattle.uclid_laws.proofs.Designs.{one_design, never_both}
 use Rattle.uclid_laws.proofs.Refusals.{one_refusal}
@@ -31,8 +31,11 @@ use Rattle.uclid_laws.proofs.Passed.{passed_unroll}
 
 -- ---- answers to files
 
-files_answer : (files : List (List ℕ)) (held : List ℕ → Option (List ℕ)) (a : Answer) → is_form files ≡ true → IsAnswerFor (is_form files) true files held a → IsFilesAnswer true files held a
-files_answer files held a form right = subst (λ b. IsAnswerFor b true files held a) form right
+told_answer : (files : List (List ℕ)) (texts : TextsSeen) (a : Answer) → texts.tells ≡ true → IsAnswer texts.tells files texts.held a → IsAnswer true files texts.held a
+told_answer files texts a told right = subst (λ t. IsAnswer t files texts.held a) told right
+
+files_answer : (files : List (List ℕ)) (texts : TextsSeen) (a : Answer) → is_form files ≡ true → texts.tells ≡ true → IsAnswer texts.tells files texts.held a → IsFilesAnswer true files texts.held a
+files_answer files texts a form told right = subst (λ b. IsAnswerFor b true files texts.held a) form (told_answer files texts a told right)
 
 -- a report that is answered is right
 reported_right : (files : List (List ℕ)) (held : List ℕ → Option (List ℕ)) (s : Session) → IsFilesAnswer true files held (Reported s) → IsReport s.design line_budget s.report
@@ -45,32 +48,32 @@ reported_accepted files held s right = (right.3 refl, right.1, right.2)
 -- ---- how runs end
 
 pub accepted_runs : AcceptedRuns
-accepted_runs files held system tf tn st taken now f n o form accepted (inr early) = inr early
-accepted_runs files held system tf tn st taken now f n o form accepted (inl e) = by e.0 e.1 (files_answer files held e.0 form e.1.right)
+accepted_runs files texts system sink o form told accepted (inr early) = inr early
+accepted_runs files texts system sink o form told accepted (inl e) = by e.0 e.1 (files_answer files texts e.0 form told e.1.right)
   where
     Done : Type 0
-    Done = ((s : Session) × (s.design ≡ system) × IsReport system line_budget s.report × EndsBy true files held st taken now f n o (Reported s)) ⊎ EndsEarly tf tn st taken now o
+    Done = ((s : Session) × (s.design ≡ system) × IsReport system line_budget s.report × EndsBy texts files sink o (Reported s)) ⊎ EndsEarly texts sink o
 
-    by : (a : Answer) → EndsBy true files held st taken now f n o a → IsFilesAnswer true files held a → Done
+    by : (a : Answer) → EndsBy texts files sink o a → IsFilesAnswer true files texts.held a → Done
     by Usage ends right = absurd right
-    by (Refused r) ends right = absurd (never_both held files system r accepted (right refl))
+    by (Refused r) ends right = absurd (never_both texts.held files system r accepted (right refl))
     by (Reported s) ends right =
-        let same = one_design held files s.design system (reported_accepted files held s right).0 accepted.0 in
-        inl (s, same, subst (λ d. IsReport d line_budget s.report) same (reported_right files held s right), ends)
+        let same = one_design texts.held files s.design system (reported_accepted files texts.held s right).0 accepted.0 in
+        inl (s, same, subst (λ d. IsReport d line_budget s.report) same (reported_right files texts.held s right), ends)
 
 pub refused_runs : RefusedRuns
-refused_runs files held refusal tf tn st taken now f n o form refused (inr early) = inr early
-refused_runs files held refusal tf tn st taken now f n o form refused (inl e) = by e.0 e.1 (files_answer files held e.0 form e.1.right)
+refused_runs files texts refusal sink o form told refused (inr early) = inr early
+refused_runs files texts refusal sink o form told refused (inl e) = by e.0 e.1 (files_answer files texts e.0 form told e.1.right)
   where
     Done : Type 0
-    Done = EndsBy true files held st taken now f n o (Refused refusal) ⊎ EndsEarly tf tn st taken now o
+    Done = EndsBy texts files sink o (Refused refusal) ⊎ EndsEarly texts sink o
 
-    by : (a : Answer) → EndsBy true files held st taken now f n o a → IsFilesAnswer true files held a → Done
+    by : (a : Answer) → EndsBy texts files sink o a → IsFilesAnswer true files texts.held a → Done
     by Usage ends right = absurd right
     by (Refused r) ends right =
-        let same = one_refusal held files r refusal (right refl) refused in
-        inl (subst (λ x. EndsBy true files held st taken now f n o (Refused x)) same ends)
-    by (Reported s) ends right = absurd (never_both held files s.design refusal (reported_accepted files held s right) refused)
+        let same = one_refusal texts.held files r refusal (right refl) refused in
+        inl (subst (λ x. EndsBy texts files sink o (Refused x)) same ends)
+    by (Reported s) ends right = absurd (never_both texts.held files s.design refusal (reported_accepted files texts.held s right) refused)
 
 -- ---- statuses of reports
 
@@ -85,22 +88,22 @@ record Reports (files : List (List ℕ)) (held : List ℕ → Option (List ℕ))
   status : status session.report ≡ o.status
 
 -- so it is where the status is at most 2
-reports : (files : List (List ℕ)) (held : List ℕ → Option (List ℕ)) (tf tn : ℕ) (st : Bool) (taken now : List ℕ) (f n : ℕ) (o : Outcome) → Ends true files held tf tn st taken now f n o → o.status ≤ 2 → Reports files held o
-reports files held tf tn st taken now f n o (inr early) small = by early.status
+reports : (files : List (List ℕ)) (texts : TextsSeen) (sink : SinkSeen) (o : Outcome) → texts.tells ≡ true → Ends texts files sink o → o.status ≤ 2 → Reports files texts.held o
+reports files texts sink o told (inr early) small = by early.status
   where
-    by : ((o.status ≡ 5) × Rose tf tn) ⊎ (o.status ≡ 7) → Reports files held o
+    by : ((o.status ≡ 5) × Rose texts.faults texts.faults_after) ⊎ (o.status ≡ 7) → Reports files texts.held o
     by (inl fault) = let e = fault.0 in absurd (omega (arith, e, small))
     by (inr memory) = absurd (omega (arith, memory, small))
-reports files held tf tn st taken now f n o (inl ends) small = written ends.1.written
+reports files texts sink o told (inl ends) small = written ends.1.written
   where
-    by : (a : Answer) → o.status ≡ status_of a → (a ≡ Usage) ⊎ IsFilesAnswer true files held a → Reports files held o
+    by : (a : Answer) → o.status ≡ status_of a → (a ≡ Usage) ⊎ IsFilesAnswer true files texts.held a → Reports files texts.held o
     by Usage e right = absurd (omega (arith, e, small))
     by (Refused r) e right = absurd (omega (arith, e, small))
     by (Reported s) e (inl usage) = absurd (cc usage)
     by (Reported s) e (inr right) = record { session = s; right = right; status = sym e }
 
-    written : ((o.status ≡ status_of ends.0) × Wrote st taken now (text_of files ends.0)) ⊎ ((o.status ≡ 6) × WroteFront st taken now f n (text_of files ends.0)) → Reports files held o
-    written (inl w) = by ends.0 w.0 (usage_or_files (is_form files) files held ends.0 ends.1.right)
+    written : IsWritten files ends.0 sink o.status → Reports files texts.held o
+    written (inl w) = by ends.0 w.0 (usage_or_files (is_form files) files texts.held ends.0 (told_answer files texts ends.0 told ends.1.right))
     written (inr w) = let e = w.0 in absurd (omega (arith, e, small))
 
 -- ---- status 0
@@ -137,10 +140,10 @@ unrollings_hold system budget report runs is e place name depth before after com
     passed_unroll system budget report place name depth before after (running_apart system runs) commands checked is (all_passed report (length before) e)
 
 pub clean_run : CleanRun
-clean_run files held tf tn st taken now f n o ends clean =
-    let r = reports files held tf tn st taken now f n o ends (omega (arith, clean)) in
-    let accepted = reported_accepted files held r.session r.right in
-    (r.session.design, accepted, unrollings_hold r.session.design line_budget r.session.report accepted.2.runnable (reported_right files held r.session r.right) (r.status ∙ clean))
+clean_run files texts sink o told ends clean =
+    let r = reports files texts sink o told ends (omega (arith, clean)) in
+    let accepted = reported_accepted files texts.held r.session r.right in
+    (r.session.design, accepted, unrollings_hold r.session.design line_budget r.session.report accepted.2.runnable (reported_right files texts.held r.session r.right) (r.status ∙ clean))
 
 -- ---- status 1
 
@@ -179,6 +182,6 @@ refuted system budget report is e =
     (found.0, found.1.line, trace.0, stands, trace.1)
 
 pub failed_run : FailedRun
-failed_run files held tf tn st taken now f n o ends failed =
-    let r = reports files held tf tn st taken now f n o ends (omega (arith, failed)) in
-    (r.session.design, reported_accepted files held r.session r.right, refuted r.session.design line_budget r.session.report (reported_right files held r.session r.right) (r.status ∙ failed))
+failed_run files texts sink o told ends failed =
+    let r = reports files texts sink o told ends (omega (arith, failed)) in
+    (r.session.design, reported_accepted files texts.held r.session r.right, refuted r.session.design line_budget r.session.report (reported_right files texts.held r.session r.right) (r.status ∙ failed))

@@ -1,5 +1,5 @@
 -- What the answers of a run mean.
-use Rattle.std.specs.Prelude.{◌≡◌, ◌⊎◌, ℕ, ◌≤◌, ◌^◌, Bool, true, false, List, ◌∷◌, ◌++◌, length, slice_get, Option, Some}
+use Rattle.std.specs.Prelude.{◌≡◌, ◌⊎◌, ℕ, ◌≤◌, ◌^◌, true, false, List, ◌∷◌, ◌++◌, length, slice_get, Option, Some}
 use Rattle.std.specs.List.{list_any, All}
 use Rattle.uc_lexer.specs.declared.place.Place.{Place}
 use Rattle.uc_syntax.specs.declared.place.Identifier.{Identifier}
@@ -28,7 +28,7 @@ use Rattle.uclid.specs.declared.answer.Session.{Session}
 use Rattle.uclid.specs.declared.answer.Answer.TheVariants.{Refused, Reported}
 use Rattle.uclid.specs.declared.top.Outcome.{Outcome}
 use Rattle.uclid.specs.Answers.{is_form, line_budget}
-use Rattle.uclid.specs.Runs.{EndsBy, EndsEarly, Ends}
+use Rattle.uclid.specs.Runs.{TextsSeen, SinkSeen, EndsBy, EndsEarly, Ends}
 
 -- what is held under the files' names denotes at most one design
 abbrev pub OneDesign : Type 0
@@ -42,22 +42,19 @@ NeverBoth = (held : List ℕ → Option (List ℕ)) (files : List (List ℕ)) (s
 abbrev pub OneRefusal : Type 0
 OneRefusal = (held : List ℕ → Option (List ℕ)) (files : List (List ℕ)) (one other : Refusal) → IsRefused held files one → IsRefused held files other → one ≡ other
 
--- Where the bytes of the files are accepted as a design, a run on them ends by the report of just that design: its report is right, and the status and the text are those of this report. Or it ends early, by a fault, which was counted, or for want of memory.
+-- Where the texts tell their bytes, and those of the files are accepted as a design, a run on them ends by the report of just that design: its report is right, and the status and the text are those of this report. Or it ends early, by a fault, which was counted, or for want of memory.
 abbrev pub AcceptedRuns : Type 0
 AcceptedRuns =
-    (files : List (List ℕ)) (held : List ℕ → Option (List ℕ)) (system : System) (texts_faults texts_faults_now : ℕ) (sink_tells : Bool) (taken taken_now : List ℕ) (faults faults_now : ℕ) (o : Outcome) →
-    is_form files ≡ true → IsAccepted held files system →
-    Ends true files held texts_faults texts_faults_now sink_tells taken taken_now faults faults_now o →
-    ((s : Session) × (s.design ≡ system) × IsReport system line_budget s.report × EndsBy true files held sink_tells taken taken_now faults faults_now o (Reported s))
-    ⊎ EndsEarly texts_faults texts_faults_now sink_tells taken taken_now o
+    (files : List (List ℕ)) (texts : TextsSeen) (system : System) (sink : SinkSeen) (o : Outcome) →
+    is_form files ≡ true → texts.tells ≡ true → IsAccepted texts.held files system → Ends texts files sink o →
+    ((s : Session) × (s.design ≡ system) × IsReport system line_budget s.report × EndsBy texts files sink o (Reported s)) ⊎ EndsEarly texts sink o
 
 -- Where they are refused, a run on them ends by just that refusal: status 3 and its line, without a session; or early.
 abbrev pub RefusedRuns : Type 0
 RefusedRuns =
-    (files : List (List ℕ)) (held : List ℕ → Option (List ℕ)) (refusal : Refusal) (texts_faults texts_faults_now : ℕ) (sink_tells : Bool) (taken taken_now : List ℕ) (faults faults_now : ℕ) (o : Outcome) →
-    is_form files ≡ true → IsRefused held files refusal →
-    Ends true files held texts_faults texts_faults_now sink_tells taken taken_now faults faults_now o →
-    EndsBy true files held sink_tells taken taken_now faults faults_now o (Refused refusal) ⊎ EndsEarly texts_faults texts_faults_now sink_tells taken taken_now o
+    (files : List (List ℕ)) (texts : TextsSeen) (refusal : Refusal) (sink : SinkSeen) (o : Outcome) →
+    is_form files ≡ true → texts.tells ≡ true → IsRefused texts.held files refusal → Ends texts files sink o →
+    EndsBy texts files sink o (Refused refusal) ⊎ EndsEarly texts sink o
 
 -- no module in use of a design that keeps the static rules declares two instances of one name
 abbrev pub TypedApart : Type 0
@@ -105,16 +102,14 @@ UnrollingsHold system =
     (place : Place) (name : Option Identifier) (depth : ℕ) (before after : List Command) →
     commands_of system ≡ before ++ (Run place name (Unroll depth) ∷ after) → list_any is_check after ≡ true → HoldsUpTo system depth
 
--- Where a run on texts whose bytes are told ends with status 0, these are accepted as a design, and all its unrollings hold.
+-- Where a run on texts that tell their bytes ends with status 0, these are accepted as a design, and all its unrollings hold.
 abbrev pub CleanRun : Type 0
 CleanRun =
-    (files : List (List ℕ)) (held : List ℕ → Option (List ℕ)) (texts_faults texts_faults_now : ℕ) (sink_tells : Bool) (taken taken_now : List ℕ) (faults faults_now : ℕ) (o : Outcome) →
-    Ends true files held texts_faults texts_faults_now sink_tells taken taken_now faults faults_now o → o.status ≡ 0 →
-    (system : System) × IsAccepted held files system × UnrollingsHold system
+    (files : List (List ℕ)) (texts : TextsSeen) (sink : SinkSeen) (o : Outcome) → texts.tells ≡ true → Ends texts files sink o → o.status ≡ 0 →
+    (system : System) × IsAccepted texts.held files system × UnrollingsHold system
 
 -- Where such a run ends with status 1, the texts are accepted as a design, and a trace refutes one of its lines.
 abbrev pub FailedRun : Type 0
 FailedRun =
-    (files : List (List ℕ)) (held : List ℕ → Option (List ℕ)) (texts_faults texts_faults_now : ℕ) (sink_tells : Bool) (taken taken_now : List ℕ) (faults faults_now : ℕ) (o : Outcome) →
-    Ends true files held texts_faults texts_faults_now sink_tells taken taken_now faults faults_now o → o.status ≡ 1 →
-    (system : System) × IsAccepted held files system × ((n : ℕ) × (line : Line) × (trace : Trace) × (slice_get (all_lines system) n ≡ Some line) × Refutes system line trace)
+    (files : List (List ℕ)) (texts : TextsSeen) (sink : SinkSeen) (o : Outcome) → texts.tells ≡ true → Ends texts files sink o → o.status ≡ 1 →
+    (system : System) × IsAccepted texts.held files system × ((n : ℕ) × (line : Line) × (trace : Trace) × (slice_get (all_lines system) n ≡ Some line) × Refutes system line trace)
