@@ -10,7 +10,6 @@ use uc_items::Items;
 use uc_values::{Ty, copy_ty};
 
 /// A cell: the names of the instances from main down to its own, its name there, and its type.
-#[derive(Drop)]
 pub struct Cell {
     pub path: Items<u32>,
     pub name: u32,
@@ -25,7 +24,6 @@ pub struct Constant {
 }
 
 /// A function: the number of its name, the types of its arguments and that of its result. It is applied by its place among the functions.
-#[derive(Drop)]
 pub struct Function {
     pub name: u32,
     pub arguments: Items<Ty>,
@@ -33,7 +31,6 @@ pub struct Function {
 }
 
 /// An assertion, which has number 0, or a `requires` of a call, numbered from 1, at a line and a column of its module's text.
-#[derive(Drop)]
 pub struct Site {
     pub path: Items<u32>,
     pub line: u32,
@@ -42,7 +39,6 @@ pub struct Site {
 }
 
 /// An axiom or a formula of an instance: the place of its declaration, of how many copies it speaks, and its condition over the cells of all copies, one copy after another. An axiom speaks of none.
-#[derive(Drop)]
 pub struct Formula {
     pub path: Items<u32>,
     pub decl: u32,
@@ -51,7 +47,6 @@ pub struct Formula {
 }
 
 /// A design over numbered cells: what it has, what its init code and its steps do, and its formulas. The number of each is its place.
-#[derive(Drop)]
 pub struct Flat {
     pub cells: Items<Cell>,
     pub constants: Items<Constant>,
@@ -112,4 +107,73 @@ pub fn repeat_types(alloc: Global, types: &[Ty], n: u32) -> Result<Items<Ty>, Al
         all.append(more)?;
     }
     Ok(all)
+}
+
+impl Drop for Cell {
+    fn drop(self) {
+        let Cell { path, ty, name: _ } = self;
+        drop(path);
+        drop(ty);
+    }
+}
+
+impl Drop for Function {
+    fn drop(self) {
+        let Function {
+            arguments,
+            result,
+            name: _,
+        } = self;
+        drop(arguments);
+        drop(result);
+    }
+}
+
+impl Drop for Site {
+    fn drop(self) {
+        let Site {
+            path,
+            line: _,
+            column: _,
+            requires_: _,
+        } = self;
+        drop(path);
+    }
+}
+
+impl Drop for Formula {
+    fn drop(self) {
+        let Formula {
+            path,
+            condition,
+            decl: _,
+            copies: _,
+        } = self;
+        drop(path);
+        drop(condition);
+    }
+}
+
+impl Drop for Flat {
+    fn drop(self) {
+        let Flat {
+            cells,
+            constants,
+            functions,
+            further,
+            init,
+            step,
+            sites,
+            formulas,
+            axioms: _,
+        } = self;
+        drop(cells);
+        drop(constants);
+        drop(functions);
+        drop(further);
+        drop(init);
+        drop(step);
+        drop(sites);
+        drop(formulas);
+    }
 }

@@ -4,7 +4,6 @@ use crate::expression::Expression;
 use uc_items::Items;
 
 /// A statement over numbered cells. Code is a list of statements, one after another.
-#[derive(Drop)]
 pub enum Statement {
     /// A cell takes a value.
     Assign(u32, Expression),
@@ -16,4 +15,19 @@ pub enum Statement {
     Assert(u32, Expression),
     /// The condition, the statements where it is true, and those where it is false.
     If(Expression, Items<Statement>, Items<Statement>),
+}
+
+impl Drop for Statement {
+    fn drop(self) {
+        match self {
+            Statement::Assign(_, value) => drop(value),
+            Statement::Havoc(_, _) => {}
+            Statement::Assume(condition) | Statement::Assert(_, condition) => drop(condition),
+            Statement::If(condition, then, otherwise) => {
+                drop(condition);
+                drop(then);
+                drop(otherwise);
+            }
+        }
+    }
 }

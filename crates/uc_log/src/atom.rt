@@ -12,7 +12,6 @@ use uc_terms::{TermId, Terms};
 use uc_values::Ty;
 
 /// What an input stands for.
-#[derive(Drop)]
 pub enum Atom {
     /// Nothing: it may have any value.
     Free,
@@ -107,4 +106,13 @@ fn is_integer(terms: &Terms, number: u32) -> bool
     ensures { IsTrue result ↔ (number < length terms.now) × (type_at terms.now number ≡ Int) }
 {
     number < terms.len() && matches!(terms.ty(TermId::new(number)), Ty::Int)
+}
+
+impl Drop for Atom {
+    fn drop(self) {
+        match self {
+            Atom::Free | Atom::Bit(_, _) | Atom::Eq(_, _) => {}
+            Atom::Le(form) => drop(form),
+        }
+    }
 }

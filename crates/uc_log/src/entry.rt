@@ -10,7 +10,6 @@ use uc_circuit::{Clause, Gate, Lit, clauses_of_gate};
 use uc_items::Items;
 
 /// An entry of a log: what it adds to a problem.
-#[derive(Drop)]
 pub enum Entry {
     /// A new gate.
     Gate(Gate),
@@ -103,4 +102,17 @@ pub(crate) fn one_clause(alloc: Global, literals: &[Lit]) -> Result<Vec<Clause>,
     let mut clauses = Vec::new(alloc);
     clauses.push(Clause::from_slice(alloc, literals)?)?;
     Ok(clauses)
+}
+
+impl Drop for Entry {
+    fn drop(self) {
+        match self {
+            Entry::Gate(_) => {}
+            Entry::Atom(atom) => drop(atom),
+            Entry::Learnt(clause, hints) => {
+                drop(clause);
+                drop(hints);
+            }
+        }
+    }
 }

@@ -12,7 +12,13 @@ pub struct Model {
 }
 
 /// Terms, each with the term that stands for it.
-#[derive(Drop)]
 pub struct SymbolMap {
     pub pairs: Items<(TermId, TermId)>,
+}
+
+impl Drop for SymbolMap {
+    fn drop(self) {
+        let SymbolMap { pairs } = self;
+        drop(pairs);
+    }
 }

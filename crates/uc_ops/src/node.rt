@@ -9,7 +9,6 @@ use uc_values::Ty;
 
 /// An operation on parts, and the type of what it gives. Nodes are equal where they have one operation and the same parts,
 /// which determine the type.
-#[derive(Drop)]
 pub struct Node {
     pub op: Op,
     pub parts: Items<TermId>,
@@ -53,5 +52,14 @@ impl Hash for Node {
         code.second.hash(state);
         code.number.hash(state);
         self.parts.hash(state);
+    }
+}
+
+impl Drop for Node {
+    fn drop(self) {
+        let Node { op, parts, ty } = self;
+        drop(op);
+        drop(parts);
+        drop(ty);
     }
 }

@@ -3,7 +3,6 @@
 use uc_values::{Ty, Value};
 
 /// What a node does with its parts. The types and numbers of the parts that suit each operation stand in `Suits`.
-#[derive(Drop)]
 pub enum Op {
     /// The number of the symbol, and its type.
     Symbol(u32, Ty),
@@ -54,4 +53,47 @@ pub enum Op {
     MkRec(Ty),
     /// The place of the field, from 0.
     GetField(u32),
+}
+
+impl Drop for Op {
+    fn drop(self) {
+        match self {
+            Op::Symbol(_, ty) | Op::App(_, ty) | Op::MkRec(ty) => drop(ty),
+            Op::Const(ty, value) => {
+                drop(ty);
+                drop(value);
+            }
+            Op::Not
+            | Op::And
+            | Op::Or
+            | Op::Eq
+            | Op::Ite
+            | Op::Add
+            | Op::Scale(_)
+            | Op::Le
+            | Op::BvAdd
+            | Op::BvSub
+            | Op::BvMul
+            | Op::BvNeg
+            | Op::BvAnd
+            | Op::BvOr
+            | Op::BvXor
+            | Op::BvNot
+            | Op::Concat
+            | Op::Extract(_, _)
+            | Op::ZeroExt(_)
+            | Op::SignExt(_)
+            | Op::Shl
+            | Op::Lshr
+            | Op::Ashr
+            | Op::Slt
+            | Op::Sle
+            | Op::Ult
+            | Op::Ule
+            | Op::Select
+            | Op::Store
+            | Op::Diff
+            | Op::GetField(_) => {}
+        }
+    }
 }

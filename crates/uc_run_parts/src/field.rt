@@ -6,6 +6,7 @@ ghost use Rattle.uc_values.specs.Values.{parts_of, with_field};
 ghost use Rattle.uc_meaning.specs.Expressions.{fields_of, field_number};
 
 use std::alloc::Global;
+use std::mem::replace;
 use uc_items::Items;
 use uc_values::{Field, Ty, Value};
 
@@ -21,8 +22,9 @@ pub fn with_field(alloc: Global, ty: &Ty, whole: Value, name: u32, part: Value) 
 fn parts_of(alloc: Global, whole: Value) -> Items<Value>
     ensures { result ≡ parts_of whole }
 {
-    match whole {
-        Value::Rec(parts) => parts,
+    let mut whole = whole;
+    match &mut whole {
+        Value::Rec(parts) => replace(parts, Items::new(alloc)),
         _ => Items::new(alloc),
     }
 }

@@ -19,7 +19,6 @@ pub enum VariableKind {
 }
 
 /// A clause of a procedure, with the place of its first word.
-#[derive(Drop)]
 pub enum Clause {
     Requires(Place, Expr),
     Ensures(Place, Expr),
@@ -27,7 +26,6 @@ pub enum Clause {
 }
 
 /// A procedure, as it stands behind the word `procedure`.
-#[derive(Drop)]
 pub struct Procedure {
     pub identifier: Identifier,
     pub parameters: Items<Parameter<TypeExpr>>,
@@ -37,7 +35,6 @@ pub struct Procedure {
 }
 
 /// `name : (expression)`
-#[derive(Drop)]
 pub struct Binding {
     pub identifier: Identifier,
     pub expression: Expr,
@@ -63,7 +60,6 @@ pub enum Command {
 }
 
 /// A declaration, with the place of its first word.
-#[derive(Drop)]
 pub enum Decl {
     /// `type name;`
     OpaqueType(Place, Identifier),
@@ -87,7 +83,6 @@ pub enum Decl {
 }
 
 /// A module: the place of the word `module`, the number of its name, and its declarations in order.
-#[derive(Drop)]
 pub struct Module {
     pub place: Place,
     pub name: u32,
@@ -342,4 +337,80 @@ pub fn copy_modules(alloc: Global, modules: &[Module]) -> Result<Items<Module>, 
         copies.push(module)?;
     }
     Ok(copies)
+}
+
+impl Drop for Clause {
+    fn drop(self) {
+        match self {
+            Clause::Requires(_, condition) | Clause::Ensures(_, condition) => drop(condition),
+            Clause::Modifies(_, names) => drop(names),
+        }
+    }
+}
+
+impl Drop for Procedure {
+    fn drop(self) {
+        let Procedure {
+            identifier: _,
+            parameters,
+            results,
+            clauses,
+            body,
+        } = self;
+        drop(parameters);
+        drop(results);
+        drop(clauses);
+        drop(body);
+    }
+}
+
+impl Drop for Binding {
+    fn drop(self) {
+        let Binding {
+            identifier: _,
+            expression,
+        } = self;
+        drop(expression);
+    }
+}
+
+impl Drop for Decl {
+    fn drop(self) {
+        match self {
+            Decl::OpaqueType(_, _) | Decl::TypeImport(_, _) => {}
+            Decl::TypeAlias(_, _, ty) => drop(ty),
+            Decl::Variables(_, _, names, ty) => {
+                drop(names);
+                drop(ty);
+            }
+            Decl::Function(_, _, parameters, result) => {
+                drop(parameters);
+                drop(result);
+            }
+            Decl::Define(_, _, parameters, result, body) => {
+                drop(parameters);
+                drop(result);
+                drop(body);
+            }
+            Decl::Procedure(_, procedure) => drop(procedure),
+            Decl::Instance(_, _, _, bindings) => drop(bindings),
+            Decl::Init(_, body) | Decl::Next(_, body) => drop(body),
+            Decl::Invariant(_, _, formula)
+            | Decl::Axiom(_, _, formula)
+            | Decl::Hyperinvariant(_, _, _, formula)
+            | Decl::Hyperaxiom(_, _, _, formula) => drop(formula),
+            Decl::Control(_, commands) => drop(commands),
+        }
+    }
+}
+
+impl Drop for Module {
+    fn drop(self) {
+        let Module {
+            place: _,
+            name: _,
+            decls,
+        } = self;
+        drop(decls);
+    }
 }

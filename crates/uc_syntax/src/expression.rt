@@ -55,7 +55,6 @@ pub enum BitFunction {
 }
 
 /// What stands behind a primary. `E` is the type of an expression.
-#[derive(Drop)]
 pub enum Selection<E> {
     /// `.name`: a field, or a name of an instance.
     Field(Place, Identifier),
@@ -70,7 +69,6 @@ pub enum Selection<E> {
 }
 
 /// What selections may follow. `E` is the type of an expression.
-#[derive(Drop)]
 pub enum Primary<E> {
     Truth(bool),
     Number(u128),
@@ -89,7 +87,6 @@ pub enum Primary<E> {
 }
 
 /// An arm of a conditional: the place of its `if`, its condition and its value. `E` is the type of an expression.
-#[derive(Drop)]
 pub struct Branch<E> {
     pub place: Place,
     pub condition: E,
@@ -97,7 +94,6 @@ pub struct Branch<E> {
 }
 
 /// A chain of one level is one node. It has its operands, and the places of the operators between them.
-#[derive(Drop)]
 pub enum Expr {
     /// The arms of a chain of `else if`, and what stands behind the last `else`.
     If(Place, Items<Branch<Expr>>, Boxed<Expr>),
@@ -298,4 +294,80 @@ fn copy_selections(
         copies.push(copy)?;
     }
     Ok(copies)
+}
+
+impl<E: Drop> Drop for Selection<E> {
+    fn drop(self) {
+        match self {
+            Selection::Field(_, _) | Selection::Copy(_, _) | Selection::Extract(_, _, _) => {}
+            Selection::Element(_, index) => drop(index),
+            Selection::Update(_, index, value) => {
+                drop(index);
+                drop(value);
+            }
+        }
+    }
+}
+
+impl<E: Drop> Drop for Primary<E> {
+    fn drop(self) {
+        match self {
+            Primary::Truth(_)
+            | Primary::Number(_)
+            | Primary::BitsLiteral(_, _)
+            | Primary::Name(_, _)
+            | Primary::Old(_) => {}
+            Primary::Apply(_, arguments) => drop(arguments),
+            Primary::OnBits(_, arguments) => drop(arguments),
+            Primary::Grouped(inner) => drop(inner),
+        }
+    }
+}
+
+impl<E: Drop> Drop for Branch<E> {
+    fn drop(self) {
+        let Branch {
+            place: _,
+            condition,
+            value,
+        } = self;
+        drop(condition);
+        drop(value);
+    }
+}
+
+impl Drop for Expr {
+    fn drop(self) {
+        match self {
+            Expr::If(_, branches, otherwise) => {
+                drop(branches);
+                drop(otherwise);
+            }
+            Expr::Iff(_, operands, marks)
+            | Expr::Implies(_, operands, marks)
+            | Expr::Or(_, operands, marks)
+            | Expr::And(_, operands, marks)
+            | Expr::BitOr(_, operands, marks)
+            | Expr::BitXor(_, operands, marks)
+            | Expr::BitAnd(_, operands, marks)
+            | Expr::Concat(_, operands, marks)
+            | Expr::Product(_, operands, marks) => {
+                drop(operands);
+                drop(marks);
+            }
+            Expr::Sum(_, operands, signs) => {
+                drop(operands);
+                drop(signs);
+            }
+            Expr::Compare(_, _, _, left, right) => {
+                drop(left);
+                drop(right);
+            }
+            Expr::Unary(_, _, operand) => drop(operand),
+            Expr::Selected(_, primary, selections) => {
+                drop(primary);
+                drop(selections);
+            }
+        }
+    }
 }

@@ -8,7 +8,6 @@ use std::alloc::{AllocError, Global};
 use std::marker::Model;
 
 /// The texts of names. Each has one number: its place in the order in which the texts came.
-#[derive(Drop)]
 pub struct Names {
     texts: IndexSet<Vec<u8>>,
 }
@@ -91,5 +90,12 @@ impl Names {
         ensures distinct { AreDistinct self.now }
     {
         self.texts.len()
+    }
+}
+
+impl Drop for Names {
+    fn drop(self) {
+        let Names { texts } = self;
+        drop(texts);
     }
 }

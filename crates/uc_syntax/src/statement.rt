@@ -9,7 +9,6 @@ use std::alloc::{AllocError, Global};
 use uc_items::{Items, beside};
 
 /// What stands behind the name of a target, with the place of its first sign.
-#[derive(Drop)]
 pub enum TargetPart {
     /// `.name`
     Field(Place, Identifier),
@@ -18,7 +17,6 @@ pub enum TargetPart {
 }
 
 /// What an assignment or a call writes.
-#[derive(Drop)]
 pub struct Target {
     pub place: Place,
     pub name: u32,
@@ -27,7 +25,6 @@ pub struct Target {
 }
 
 /// A condition and the block that it guards. `S` is the type of a statement.
-#[derive(Drop)]
 pub struct Arm<S> {
     pub condition: Expr,
     pub body: Items<S>,
@@ -41,7 +38,6 @@ pub enum RangeBound {
 }
 
 /// A statement, with the place of its first word.
-#[derive(Drop)]
 pub enum Stmt {
     /// `var names : type;`
     Local(Place, Items<Identifier>, TypeExpr),
@@ -246,4 +242,64 @@ fn copy_arms(alloc: Global, arms: &[Arm<Stmt>]) -> Result<Items<Arm<Stmt>>, Allo
         copies.push(Arm { condition, body })?;
     }
     Ok(copies)
+}
+
+impl Drop for TargetPart {
+    fn drop(self) {
+        match self {
+            TargetPart::Field(_, _) => {}
+            TargetPart::Element(_, index) => drop(index),
+        }
+    }
+}
+
+impl Drop for Target {
+    fn drop(self) {
+        let Target {
+            place: _,
+            name: _,
+            is_primed: _,
+            parts,
+        } = self;
+        drop(parts);
+    }
+}
+
+impl<S: Drop> Drop for Arm<S> {
+    fn drop(self) {
+        let Arm { condition, body } = self;
+        drop(condition);
+        drop(body);
+    }
+}
+
+impl Drop for Stmt {
+    fn drop(self) {
+        match self {
+            Stmt::Skip(_) | Stmt::Havoc(_, _, _) | Stmt::Next(_, _) => {}
+            Stmt::Local(_, names, ty) => {
+                drop(names);
+                drop(ty);
+            }
+            Stmt::Block(_, body) => drop(body),
+            Stmt::Assert(_, _, condition) => drop(condition),
+            Stmt::Assume(_, condition) => drop(condition),
+            Stmt::Assign(_, targets, values) => {
+                drop(targets);
+                drop(values);
+            }
+            Stmt::If(_, arms, otherwise) | Stmt::Case(_, arms, otherwise) => {
+                drop(arms);
+                drop(otherwise);
+            }
+            Stmt::For(_, _, ty, _, _, body) => {
+                drop(ty);
+                drop(body);
+            }
+            Stmt::Call(_, targets, _, arguments) => {
+                drop(targets);
+                drop(arguments);
+            }
+        }
+    }
 }

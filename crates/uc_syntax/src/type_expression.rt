@@ -14,7 +14,6 @@ pub struct Parameter<T> {
 }
 
 /// A type as it is written, with the place of its first word.
-#[derive(Drop)]
 pub enum TypeExpr {
     Boolean(Place),
     Integer(Place),
@@ -81,4 +80,22 @@ pub fn copy_parameters(
         })?;
     }
     Ok(copies)
+}
+
+impl Drop for TypeExpr {
+    fn drop(self) {
+        match self {
+            TypeExpr::Boolean(_)
+            | TypeExpr::Integer(_)
+            | TypeExpr::Bits(_, _)
+            | TypeExpr::Named(_, _)
+            | TypeExpr::OfModule(_, _, _) => {}
+            TypeExpr::Enumeration(_, labels) => drop(labels),
+            TypeExpr::Record(_, fields) => drop(fields),
+            TypeExpr::Array(_, index, element) => {
+                drop(index);
+                drop(element);
+            }
+        }
+    }
 }

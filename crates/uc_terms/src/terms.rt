@@ -16,7 +16,6 @@ use uc_ops::{Node, Op, TermId, result_type};
 use uc_values::Ty;
 
 /// The nodes, by number. Equal nodes are shared.
-#[derive(Drop)]
 pub struct Terms {
     nodes: IndexSet<Node>,
 }
@@ -149,4 +148,11 @@ fn type_and_parts(
     }
     let ty = result_type(alloc, nodes, op, parts)?;
     beside(ty, Items::from_slice(alloc, parts))
+}
+
+impl Drop for Terms {
+    fn drop(self) {
+        let Terms { nodes } = self;
+        drop(nodes);
+    }
 }

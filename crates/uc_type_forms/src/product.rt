@@ -66,15 +66,9 @@ fn pair(
 fn times(is_second: bool, outcome: Outcome) -> Outcome
     ensures { result ≡ times is_second outcome }
 {
-    match outcome {
-        Outcome::Has(Ty::Int) => {
-            if is_second {
-                Outcome::Breaks(Rule::Nonlinear)
-            } else {
-                Outcome::Has(Ty::Int)
-            }
-        }
-        other => other,
+    match &outcome {
+        Outcome::Has(Ty::Int) if is_second => Outcome::Breaks(Rule::Nonlinear),
+        _ => outcome,
     }
 }
 

@@ -8,14 +8,12 @@ use crate::value::Value;
 use uc_items::Items;
 
 /// The arguments, and the result for these.
-#[derive(Drop)]
 pub struct Row {
     pub arguments: Items<Value>,
     pub result: Value,
 }
 
 /// A function: the first row with the arguments counts, else the default.
-#[derive(Drop)]
 pub struct Table {
     pub rows: Items<Row>,
     pub default: Value,
@@ -48,4 +46,20 @@ fn same_scalars(left: &[Value], right: &[Value]) -> bool
         }
     }
     true
+}
+
+impl Drop for Row {
+    fn drop(self) {
+        let Row { arguments, result } = self;
+        drop(arguments);
+        drop(result);
+    }
+}
+
+impl Drop for Table {
+    fn drop(self) {
+        let Table { rows, default } = self;
+        drop(rows);
+        drop(default);
+    }
 }

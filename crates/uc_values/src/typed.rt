@@ -9,14 +9,12 @@ use crate::value::Value;
 use std::marker::Model;
 
 /// A type and a value that fits it.
-#[derive(Drop)]
 pub struct Typed {
     ty: Ty,
     value: Value,
 }
 
 /// A type and a value that does not fit it.
-#[derive(Drop)]
 pub struct Unfit {
     pub ty: Ty,
     pub value: Value,
@@ -63,5 +61,21 @@ impl Typed {
         ensures fits { IsTrue (fits self.now.ty self.now.value) }
     {
         &self.value
+    }
+}
+
+impl Drop for Typed {
+    fn drop(self) {
+        let Typed { ty, value } = self;
+        drop(ty);
+        drop(value);
+    }
+}
+
+impl Drop for Unfit {
+    fn drop(self) {
+        let Unfit { ty, value } = self;
+        drop(ty);
+        drop(value);
     }
 }
