@@ -35,7 +35,7 @@
 //! that meets declared names counts them in a `Tally`, with the contract `CountsOn` (`proofs/Steps.antt`,
 //! `proofs/Counting.antt`); a form that declares none needs no clause (`proofs/Silent.antt`). The public call then
 //! answers `IsAnswer` by one lemma for each way to end (`proofs/Whole.antt`). `proofs/Spelled.antt` serves printers.
-//! The crate `uc_forms_example` does all of this for a small language.
+//! The parser of the language does all of this, in `uc_words`, `uc_parse_expressions` and `uc_parser`.
 #![tactic(auto)]
 
 mod fault;
