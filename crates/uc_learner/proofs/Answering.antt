@@ -34,7 +34,7 @@ use Rattle.uc_learner.specs.Learned.{LearnedBy}
 use Rattle.uc_learner.specs.Propagated.{Waiting}
 use Rattle.uc_learner.specs.Recorded.{IsRecorded, LearntFits, Extends, KeepsRecord, RecordsOne}
 use Rattle.uc_learner.proofs.Opening.{meet_of}
-use Rattle.uc_learner.specs.Answered.{NoneEmpty, Holds, GoesOn, Concluded, UnitRefutable, inputs_count}
+use Rattle.uc_learner.specs.Answered.{NoneEmpty, Holds, HoldsFor, GoesOn, Concluded, UnitRefutable, inputs_count}
 use Rattle.uc_learner.proofs.Walk.{assign_here, assign_elsewhere}
 use Rattle.uc_learner.proofs.Learning.{DecidedAt, decided_at, shape_false_at}
 use Rattle.uc_learner.proofs.Steps.{open_at}
@@ -58,7 +58,7 @@ not_held s (l ∷ rest) hints target ready none learns has =
 
 pub new_learnt :
     (s : State) (nodes : List Node) (opened : Option Question) (here : ℕ) (log : List Entry) (clause clause' : List Lit) (hints hints' : List ℕ) (target : ℕ)
-    → Ready s → NoneEmpty s.clauses.items → Holds s (known_now opened log) → IsRecorded nodes opened here log
+    → Ready s → NoneEmpty s.clauses.items → HoldsFor (input_flags (known_now opened log).circuit) s (known_now opened log) → IsRecorded nodes opened here log
     → Learns s clause hints target → clause' ≡ clause → Contains log (Learnt clause' hints') → ⊥
 new_learnt s nodes opened here log clause clause' hints hints' target ready none holds recorded learns same has =
     new_clause nodes (opened_known opened) log clause' hints' (meet_of nodes opened log recorded.valid)
@@ -68,10 +68,10 @@ new_learnt s nodes opened here log clause clause' hints hints' target ready none
 
 pub learnt_fits :
     (s : State) (opened : Option Question) (log : List Entry) (clause clause' : List Lit) (hints hints' : List ℕ) (target : ℕ)
-    → Holds s (known_now opened log) → Learns s clause hints target → clause' ≡ clause → hints' ≡ hints → LearntFits opened log clause' hints'
+    → HoldsFor (input_flags (known_now opened log).circuit) s (known_now opened log) → Learns s clause hints target → clause' ≡ clause → hints' ≡ hints → LearntFits opened log clause' hints'
 learnt_fits s opened log clause clause' hints hints' target holds learns same_clause same_hints =
     let k : Known = known_now opened log in
-    let many : length s.inputs.items ≡ length k.circuit = ap length holds.inputs ∙ length-map k.circuit flag_of in
+    let many : length s.inputs.items ≡ length k.circuit = holds.many ∙ length-map k.circuit flag_of in
     let a : IsLearnt (length k.circuit) s.clauses.items clause hints = subst (λ n. IsLearnt n s.clauses.items clause hints) many learns.learnt in
     let b : IsLearnt (length k.circuit) k.clauses clause hints = subst (λ (cs : List (List Lit)). IsLearnt (length k.circuit) cs clause hints) holds.clauses a in
     let c : IsLearnt (length k.circuit) k.clauses clause' hints = subst (λ (x : List Lit). IsLearnt (length k.circuit) k.clauses x hints) (sym same_clause) b in
@@ -97,12 +97,12 @@ none_empty_push clauses c none some n h is =
 
 pub goes_on :
     (before after : State) (opened : Option Question) (log log' : List Entry) (clause clause' : List Lit) (hints hints' : List ℕ) (target : ℕ)
-    → Holds before (known_now opened log) → NoneEmpty before.clauses.items
+    → HoldsFor (input_flags (known_now opened log).circuit) before (known_now opened log) → NoneEmpty before.clauses.items
     → Learns before clause hints target → 0 < length clause
     → clause' ≡ clause
     → log' ≡ log ++ Learnt clause' hints' ∷ []
     → LearnedBy before clause after → Waiting after
-    → Concluded before log (known_now opened log') after log' false
+    → Concluded (input_flags (known_now opened log).circuit) before log (known_now opened log') after log' false
 goes_on before after opened log log' [] clause' hints hints' target holds none learns some same grown learned waiting = absurd (omega arith)
 goes_on before after opened log log' (l ∷ rest) clause' hints hints' target holds none learns some same grown learned waiting =
     let k : Known = known_now opened log in
@@ -112,7 +112,8 @@ goes_on before after opened log log' (l ∷ rest) clause' hints hints' target ho
       one_more = ap length grown ∙ length_push log (Learnt clause' hints');
       goes_on = (
         record {
-          inputs = learned.inputs ∙ holds.inputs ∙ ap input_flags (sym (append-nil k.circuit)) ∙ sym (ap (λ (k : Known). input_flags k.circuit) known);
+          inputs = ap input_flags (sym (append-nil k.circuit)) ∙ sym (ap (λ (k : Known). input_flags k.circuit) known);
+          many = ap length learned.inputs ∙ holds.many;
           clauses =
               learned.clauses ∙ ap (λ cs. cs ++ (l ∷ rest) ∷ []) holds.clauses ∙ ap (λ c. k.clauses ++ c ∷ []) (sym same)
               ∙ sym (ap (λ (k : Known). k.clauses) known);
@@ -127,11 +128,11 @@ goes_on before after opened log log' (l ∷ rest) clause' hints hints' target ho
     }
 
 pub ends_empty :
-    (before after : State) (known : Known) (log log' : List Entry) (clause clause' : List Lit) (hints' : List ℕ)
+    (flags : List Bool) (before after : State) (known : Known) (log log' : List Entry) (clause clause' : List Lit) (hints' : List ℕ)
     → length clause ≡ 0 → clause' ≡ clause → log' ≡ log ++ Learnt clause' hints' ∷ []
-    → Concluded before log known after log' true
-ends_empty before after known log log' (l ∷ rest) clause' hints' empty same grown = absurd (omega arith)
-ends_empty before after known log log' [] clause' hints' empty same grown = record {
+    → Concluded flags before log known after log' true
+ends_empty flags before after known log log' (l ∷ rest) clause' hints' empty same grown = absurd (omega arith)
+ends_empty flags before after known log log' [] clause' hints' empty same grown = record {
   one_more = ap length grown ∙ length_push log (Learnt clause' hints');
   goes_on = record {
     before = log;
@@ -192,7 +193,7 @@ no_refutation clauses v w (n ∷ rest) settled below refutes =
           p.2
     ]
 
-free-none : (inputs : List Bool) → free inputs (replicate (length inputs) None) ≡ inputs_count inputs
+pub free-none : (inputs : List Bool) → free inputs (replicate (length inputs) None) ≡ inputs_count inputs
 free-none [] = refl
 free-none (true ∷ inputs) = ap (λ k. 1 + k) (free-none inputs)
 free-none (false ∷ inputs) = ap (λ k. 0 + k) (free-none inputs)
@@ -268,13 +269,13 @@ settled_refutes s once refutable =
 
 -- the answer of `conclude` where it goes on
 pub went_on :
-    (before after : State) (log log' : List Entry) (k : Known) (b : Bool) → b ≡ false → Concluded before log k after log' b → GoesOn before log k after log' false
-went_on before after log log' k b is concluded = subst (GoesOn before log k after log') is concluded.goes_on
+    (flags : List Bool) (before after : State) (log log' : List Entry) (k : Known) (b : Bool) → b ≡ false → Concluded flags before log k after log' b → GoesOn flags before log k after log' false
+went_on flags before after log log' k b is concluded = subst (GoesOn flags before log k after log') is concluded.goes_on
 
 -- the answer of `conclude` where it does not go on
 pub refuted_by :
-    (before after : State) (log log' : List Entry) (k : Known) (b : Bool) → b ≡ true → Concluded before log k after log' b → GivesEmpty log'
-refuted_by before after log log' k b is concluded = subst (GoesOn before log k after log') is concluded.goes_on
+    (flags : List Bool) (before after : State) (log log' : List Entry) (k : Known) (b : Bool) → b ≡ true → Concluded flags before log k after log' b → GivesEmpty log'
+refuted_by flags before after log log' k b is concluded = subst (GoesOn flags before log k after log') is concluded.goes_on
 
 -- what is known of the clauses at the start, after a decision
 pub settled_on :

@@ -17,3 +17,4 @@ pub mod Narrow
 pub mod Visiting
 pub mod Adding
 pub mod Starting
+pub mod Roaming

@@ -33,6 +33,12 @@ pub record Holds (s : State) (k : Known) : Type 0 where
   pub inputs : s.inputs.items ≡ input_flags k.circuit
   pub clauses : s.clauses.items ≡ k.clauses
 
+-- the same, but that other variables may be decided: the flags tell the inputs
+pub record HoldsFor (flags : List Bool) (s : State) (k : Known) : Type 0 where
+  pub inputs : flags ≡ input_flags k.circuit
+  pub many : length s.inputs.items ≡ length flags
+  pub clauses : s.clauses.items ≡ k.clauses
+
 -- the search has these variables and clauses, and its values make each clause true
 pub record HasCandidate (s : State) (k : Known) : Type 0 where
   pub whole : Whole s
@@ -46,16 +52,16 @@ pub record AtConflict (s : State) (n : ℕ) : Type 0 where
   pub conflict : IsFalsified s.values.items (slice_index_or s.clauses.items n [])
 
 -- after a conflict: the empty clause was learnt, or another one and the search goes on
-abbrev pub GoesOn : State → List Entry → Known → State → List Entry → Bool → Type 0
-GoesOn before log_before known after log true = GivesEmpty log
-GoesOn before log_before known after log false =
-    Holds after known × Ready after × NoneEmpty after.clauses.items × (left_of after + 1 ≤ left_of before) × (after.inputs.items ≡ before.inputs.items)
+abbrev pub GoesOn : List Bool → State → List Entry → Known → State → List Entry → Bool → Type 0
+GoesOn flags before log_before known after log true = GivesEmpty log
+GoesOn flags before log_before known after log false =
+    HoldsFor flags after known × Ready after × NoneEmpty after.clauses.items × (left_of after + 1 ≤ left_of before) × (after.inputs.items ≡ before.inputs.items)
     × (NoDecision before → ⊥) × Waiting after
 
 -- one entry was learnt from the conflict, and the search ends or goes on
-pub record Concluded (before : State) (log_before : List Entry) (known : Known) (after : State) (log : List Entry) (refuted : Bool) : Type 0 where
+pub record Concluded (flags : List Bool) (before : State) (log_before : List Entry) (known : Known) (after : State) (log : List Entry) (refuted : Bool) : Type 0 where
   pub one_more : length log ≡ length log_before + 1
-  pub goes_on : GoesOn before log_before known after log refuted
+  pub goes_on : GoesOn flags before log_before known after log refuted
 
 -- unit propagation over the clauses makes one of them false
 abbrev pub UnitRefutable : State → Type 0

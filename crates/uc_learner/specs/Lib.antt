@@ -13,4 +13,5 @@ pub mod Recorded
 pub mod Learners
 pub mod Learned
 pub mod Answered
+pub mod Roamed
 pub mod Added

@@ -4,11 +4,14 @@ ghost use Rattle.std.specs.Prelude.{◌≡◌, ◌≢◌, ◌+◌, ◌^◌, ◌<
 ghost use Rattle.uc_log.specs.declared.entry.Entry.TheVariants.{Learnt};
 ghost use Rattle.uc_learner.specs.Opened.{known_now, AcceptsFor, GivesEmpty, HasQuestion};
 ghost use Rattle.uc_learner.specs.Recorded.{IsRecorded, LearntFits, KeepsRecord, RecordsOne};
-ghost use Rattle.uc_learner.specs.Answered.{NoneEmpty, NoneEmptyAfter, IsEmptyAt, LastEmpty, Holds, HasCandidate, AtConflict, Concluded, UnitRefutable, inputs_count};
+ghost use Rattle.uc_learner.specs.Answered.{NoneEmpty, NoneEmptyAfter, IsEmptyAt, LastEmpty, Holds, HoldsFor, HasCandidate, AtConflict, Concluded, UnitRefutable, inputs_count};
+ghost use Rattle.uc_learner.specs.Learners.{input_flags};
+ghost use Rattle.uc_learner.specs.Roamed.{Turned, Refreshed, Roamed, Spares};
 
 use crate::analysis::Analysis;
 use crate::state::{State, Step};
 use std::alloc::{AllocError, Global};
+use std::mem;
 use uc_circuit::{Clause, Lit};
 use uc_items::Items;
 use uc_log::{Entry, Log, Meter};
@@ -90,6 +93,30 @@ fn look_at_problem<M: Meter>(meter: &M)
     }
 }
 
+/// How many entries may be spent before inputs alone are decided: all but 2 to the number of inputs, or all where the budget has less.
+fn limit_of(inputs: &[bool], start: u64, budget: u64) -> u64
+    ensures at_most { result ≤ budget }
+    ensures inside { start ≤ budget → start ≤ result }
+    ensures spares { Spares inputs.now start budget result }
+{
+    let Some(room) = budget.checked_sub(start) else {
+        return budget;
+    };
+    let mut reserve = 1;
+    for at in 0..inputs.len() {
+        if inputs[at] {
+            if reserve > room / 2 {
+                return budget;
+            }
+            reserve *= 2;
+        }
+    }
+    if reserve > room {
+        return budget;
+    }
+    budget - reserve
+}
+
 impl State {
     ghost use Rattle.uc_learner.specs.Learned.{LearnedBy, IsTaught};
     ghost use Rattle.uc_learner.specs.Moves.{Ready};
@@ -149,10 +176,10 @@ impl State {
         requires at_conflict { AtConflict self.old conflict }
         requires recorded { IsRecorded terms.now (M.opened meter.old) (M.here meter.old) log.old }
         requires total { M.total meter.old < 2 ^ 127 }
-        requires holds { Holds self.old (known_now (M.opened meter.old) log.old) }
+        requires holds { HoldsFor (input_flags (known_now (M.opened meter.old) log.old).circuit) self.old (known_now (M.opened meter.old) log.old) }
         requires none_empty { NoneEmpty self.old.clauses.items }
         ensures records { RecordsOne M.opened M.here M.total terms.now meter.old log.old meter.new log.new }
-        ensures ok { IfOk result (λ refuted. Concluded self.old log.old (known_now (M.opened meter.old) log.new) self.new log.new refuted) }
+        ensures ok { IfOk result (λ refuted. Concluded (input_flags (known_now (M.opened meter.old) log.old).circuit) self.old log.old (known_now (M.opened meter.old) log.new) self.new log.new refuted) }
     {
         let alloc = *self.clauses.allocator();
         let Analysis {
@@ -168,6 +195,65 @@ impl State {
             return Ok(true);
         }
         self.learn(kept.as_slice(), marked.as_slice(), target)?;
+        Ok(false)
+    }
+
+    /// Takes back all steps, and changes what may be decided.
+    fn turn(&mut self, choices: &mut Vec<bool>, is_free: bool)
+        requires whole { Whole self.old }
+        requires long { length choices.old.items ≡ length self.old.inputs.items }
+        ensures turned { Turned self.old choices.old.items self.new }
+        ensures given { choices.new.items ≡ self.old.inputs.items }
+    {
+        self.cut(0);
+        mem::swap(&mut self.inputs, choices);
+        self.preferences.set_free(is_free);
+    }
+
+    /// Takes back all steps where it is time to begin anew.
+    fn refresh(&mut self)
+        requires ready { Ready self.old }
+        requires waiting { Waiting self.old }
+        ensures { Refreshed self.old self.new }
+    {
+        if self.preferences.is_stuck() {
+            self.cut(0);
+            self.preferences.begin_anew();
+        }
+    }
+
+    /// Searches with any variable to decide, until the log is accepted or has so many entries, or until no clause is false. Then all steps
+    /// are taken back. The preferences keep the values that were found.
+    fn roam<M: Meter>(
+        &mut self,
+        terms: &Terms,
+        log: &mut Log,
+        limit: u64,
+        meter: &mut M,
+    ) -> Result<bool, AllocError>
+        requires whole { Whole self.old }
+        requires recorded { IsRecorded terms.now (M.opened meter.old) (M.here meter.old) log.old }
+        requires total { M.total meter.old + 2 ^ 32 ≤ 2 ^ 127 }
+        requires holds { Holds self.old (known_now (M.opened meter.old) log.old) }
+        requires none_empty { NoneEmpty self.old.clauses.items }
+        ensures kept { KeepsRecord M.opened M.here M.total terms.now meter.old log.old meter.new log.new }
+        ensures within { M.here meter.old ≤ limit → M.here meter.new ≤ limit }
+        ensures ok { IfOk result (λ refuted. Roamed self.old log.old (known_now (M.opened meter.new) log.new) self.new log.new refuted) }
+    {
+        let alloc = *self.clauses.allocator();
+        let mut other = vec![in alloc; true; self.inputs.len()]?;
+        self.turn(&mut other, true);
+        while (log.len() as u64) < limit {
+            let Some(conflict) = self.descend() else {
+                self.turn(&mut other, false);
+                return Ok(false);
+            };
+            if self.conclude(terms, log, meter, conflict)? {
+                return Ok(true);
+            }
+            self.refresh();
+        }
+        self.turn(&mut other, false);
         Ok(false)
     }
 
@@ -198,6 +284,10 @@ impl State {
                 return Err(LearnError::Budget);
             }
             repeat_empty(*self.clauses.allocator(), terms, log, meter, number)?;
+            return Ok(Search::Refuted);
+        }
+        let limit = limit_of(self.inputs.as_slice(), log.len() as u64, budget);
+        if self.roam(terms, log, limit, meter)? {
             return Ok(Search::Refuted);
         }
         loop {

@@ -97,8 +97,8 @@ impl Learner {
         value.copied().flatten().unwrap_or(false) != l.neg
     }
 
-    /// Searches until the values make every clause true or the log is accepted. Decides on inputs alone. Where no
-    /// candidate is found nothing is told of the learner afterwards.
+    /// Searches until the values make every clause true or the log is accepted. Where no candidate is found nothing is told
+    /// of the learner afterwards.
     pub fn next<M: Meter>(
         &mut self,
         terms: &Terms,

@@ -3,17 +3,22 @@
 //! In: a problem and the entries of its log. Out: a candidate, which makes every clause of both true, or a log that
 //! is accepted. What is learnt goes into the log with its hints, and each entry is spent at a meter.
 //!
-//! An input is decided by its score, which rises with each conflict that it takes part in, and gets the value that it had last. A conflict
-//! teaches the clause of the last decision, not that of the first unique implication point. There are no restarts, no further clauses and
-//! no deletion: each would break the bound on entries, which is 2 to the number of inputs, or what a candidate says.
+//! A search has two parts. In the first any variable is decided, and the search begins anew now and then. It ends while so many entries
+//! are left as the second may need: 2 to the number of inputs, where the budget has them. The second decides inputs alone, does not begin
+//! anew, and spends at most an entry for each assignment of the inputs. A candidate of the first is found again by the second, which
+//! begins with its values.
 //!
-//! A decision takes a step for each input and for each clause without two different literals, and a conflict one for each variable and for
-//! each step of the trail, besides what propagation takes.
+//! A variable is decided by its score, which rises with each conflict that it takes part in, and gets the value that it had last. A conflict
+//! teaches the clause of the last decision, not that of the first unique implication point. There are no further clauses and no deletion.
+//!
+//! In the second part a decision takes a step for each input. In both it takes one for each clause without two different literals, and a
+//! conflict takes one for each variable and for each step of the trail, besides what propagation takes.
 #![tactic(auto)]
 
 mod analysis;
 mod learn;
 mod learner;
+mod order;
 mod preferences;
 mod propagation;
 mod state;

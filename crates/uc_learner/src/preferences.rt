@@ -1,9 +1,7 @@
-//! Which inputs the search decides first, and with which sign. No clause of the search speaks of it.
+//! Which variables the search decides first, with which sign, and when it begins anew. No clause of the search speaks of it.
 
+use crate::order::Order;
 use std::alloc::{AllocError, Global};
-
-/// From this rise on all scores are made smaller. Below it neither a rise nor a score, which is a sum of rises, can overflow.
-const HIGH: u64 = 1 << 56;
 
 #[derive(Drop)]
 pub struct Preferences {
@@ -12,18 +10,30 @@ pub struct Preferences {
     /// The value that each variable had last.
     phases: Vec<bool>,
     /// How often and how lately each variable took part in a conflict.
-    scores: Vec<u64>,
-    /// By how much a conflict raises a score: about 17/16 of what the one before did. It begins with 16, the least number that grows so.
-    rise: u64,
+    order: Order,
+    /// Whether any variable may be decided.
+    is_free: bool,
+    /// How many conflicts there were since the search began anew.
+    conflicts: u64,
+    /// Counts up where the lowest bit of it is the number below.
+    stage: u64,
+    /// The number of Luby's sequence (1, 1, 2, 1, 1, 2, 4, ..) that times the unit is how many conflicts there may be.
+    patience: u64,
 }
+
+/// How many conflicts the shortest wait for a new beginning takes.
+const UNIT: u64 = 256;
 
 impl Preferences {
     pub fn new(alloc: Global) -> Preferences {
         Preferences {
             inputs: Vec::new(alloc),
             phases: Vec::new(alloc),
-            scores: Vec::new(alloc),
-            rise: 16,
+            order: Order::new(alloc),
+            is_free: false,
+            conflicts: 0,
+            stage: 1,
+            patience: 1,
         }
     }
 
@@ -37,16 +47,41 @@ impl Preferences {
     }
 
     pub fn add_variable(&mut self, is_input: bool) -> Result<(), AllocError> {
-        if is_input && let Ok(number) = u32::try_from(self.scores.len()) {
+        if is_input && let Ok(number) = u32::try_from(self.phases.len()) {
             self.inputs.push(number)?;
         }
         self.phases.push(false)?;
-        self.scores.push(0)?;
-        Ok(())
+        self.order.add_variable()
     }
 
     pub fn inputs(&self) -> &[u32] {
         self.inputs.as_slice()
+    }
+
+    pub fn is_free(&self) -> bool {
+        self.is_free
+    }
+
+    /// Whether any variable may be decided from now on.
+    pub fn set_free(&mut self, is_free: bool) {
+        self.is_free = is_free;
+        self.conflicts = 0;
+    }
+
+    /// Whether it is time to begin anew.
+    pub fn is_stuck(&self) -> bool {
+        self.conflicts >= self.patience.saturating_mul(UNIT)
+    }
+
+    /// Goes to the next number of Luby's sequence.
+    pub fn begin_anew(&mut self) {
+        self.conflicts = 0;
+        if self.stage & self.stage.wrapping_neg() == self.patience {
+            self.stage = self.stage.wrapping_add(1);
+            self.patience = 1;
+        } else {
+            self.patience = self.patience.saturating_mul(2);
+        }
     }
 
     /// The value that the variable had last.
@@ -61,27 +96,40 @@ impl Preferences {
     }
 
     pub fn score(&self, variable: u32) -> u64 {
-        self.scores.get(variable as usize).copied().unwrap_or(0)
+        self.order.score(variable)
+    }
+
+    /// The variable with the highest score, among those that have no value.
+    pub fn best(&self) -> Option<u32> {
+        self.order.best()
+    }
+
+    /// Takes variables out of the order until the best one has no value.
+    pub fn pass_over(&mut self, values: &[Option<bool>]) {
+        for _variable in values {
+            let Some(best) = self.order.best() else {
+                return;
+            };
+            if values.get(best as usize).copied().flatten().is_none() {
+                return;
+            }
+            self.order.take_best();
+        }
+    }
+
+    /// Puts a variable that lost its value back into the order.
+    pub fn put_back(&mut self, variable: u32) {
+        self.order.put_back(variable);
     }
 
     /// Raises the scores of the variables that took part in a conflict. Later conflicts weigh more.
     pub fn raise(&mut self, marked: &[bool]) {
-        for (score, is_marked) in self.scores.iter_mut().zip(marked) {
-            if *is_marked {
-                *score = score.saturating_add(self.rise);
+        for (number, is_marked) in marked.iter().enumerate() {
+            if *is_marked && let Ok(variable) = u32::try_from(number) {
+                self.order.raise(variable);
             }
         }
-        self.rise = self.rise.saturating_add(self.rise / 16);
-        if self.rise >= HIGH {
-            self.lower();
-        }
-    }
-
-    /// Makes all scores smaller, in proportion: 40 bits are given up at a time, which leaves the rise 16 and comes some 450 conflicts later again.
-    fn lower(&mut self) {
-        for score in self.scores.iter_mut() {
-            *score >>= 40;
-        }
-        self.rise >>= 40;
+        self.conflicts = self.conflicts.saturating_add(1);
+        self.order.end_conflict();
     }
 }

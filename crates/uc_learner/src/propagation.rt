@@ -150,10 +150,17 @@ impl State {
         }
     }
 
-    /// Of the inputs that the preferences list, the one without a value that has the highest score.
+    /// Of the inputs that the preferences list, the one without a value that has the highest score. Where any variable may be decided, the
+    /// best of all.
     fn best_input(&self) -> Option<u32>
         ensures { IfSome result (λ x. IsFreeInput self.now x) }
     {
+        if self.preferences.is_free() {
+            return match self.preferences.best() {
+                Some(variable) if self.is_free(variable) => Some(variable),
+                _ => None,
+            };
+        }
         let mut best = None;
         for input in self.preferences.inputs() {
             best = self.better(best, *input);

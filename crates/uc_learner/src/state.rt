@@ -151,6 +151,7 @@ impl State {
     {
         self.trail.push_reserved(step);
         self.values[step.literal.var as usize] = Some(!step.literal.neg);
+        self.preferences.pass_over(self.values.as_slice());
     }
 
     /// Takes back all but the first steps, which count as looked at.
@@ -165,6 +166,7 @@ impl State {
                 self.values[step.literal.var as usize] = None;
                 self.preferences
                     .keep_phase(step.literal.var, !step.literal.neg);
+                self.preferences.put_back(step.literal.var);
             }
         }
         self.head = self.trail.len();

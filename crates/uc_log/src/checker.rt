@@ -92,8 +92,8 @@ fn meets(
     }
 }
 
-/// Whether a learnt clause meets its condition. The values are undone.
-fn is_learnt(
+/// Whether a learnt clause meets its condition after the known clauses. The values are undone. Takes no memory.
+pub fn is_learnt(
     known: &[Clause],
     values: &mut [Option<bool>],
     trail: &mut [u32],

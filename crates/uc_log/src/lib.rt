@@ -17,7 +17,7 @@ mod scratch;
 mod search;
 
 pub use atom::Atom;
-pub use checker::check;
+pub use checker::{check, is_learnt};
 pub use entry::Entry;
 pub use laws::{accepted_logs_refute, logs_grow};
 pub use log::Log;

@@ -31,7 +31,7 @@ returns-then-is_empty-clause-records g c = c.in_ok-record.ensures.records
 pub returns-then-is_empty-clause-ok : goal.returns-then-is_empty-clause-ok
 returns-then-is_empty-clause-ok g c =
     let none : length c.in_ok-marked.field-0.kept.items ≡ 0 = grind (arith, common_steps) in
-    ends_empty c.args.self.now _ _ c.args.log.now c.record.new.log c.in_ok-marked.field-0.kept.items c.in_ok-clause.clause _ none
+    ends_empty _ c.args.self.now _ _ c.args.log.now c.record.new.log c.in_ok-marked.field-0.kept.items c.in_ok-clause.clause _ none
     (c.in_ok-clause.ensures ∙ c.as_slice.ensures.value) c.in_ok-record.ensures.ok
 
 pub returns-in_err-learn-clause-records : goal.returns-in_err-learn-clause-records

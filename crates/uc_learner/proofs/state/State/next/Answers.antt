@@ -1,13 +1,16 @@
-use Rattle.std.proofs.Common.{arith, refl, subst, sym, ap, inl, inr, ◌∙◌, ◌^◌, Bool, false, List, Option}
+use Rattle.std.proofs.Common.{arith, refl, subst, sym, inr, ◌∙◌, false, Option}
 use Rattle.std.proofs.lemmas.Nat.{pow_pos}
 use Rattle.uc_log.specs.Problems.{Question}
 use Rattle.uc_learner.specs.Opened.{known_now, HasQuestion}
-use Rattle.uc_learner.specs.Moves.{Ready}
+use Rattle.uc_learner.specs.Moves.{Ready, left_of}
 use Rattle.uc_learner.specs.Answered.{Holds, GoesOn, inputs_count}
 use Rattle.uc_learner.proofs.Opening.{accepted}
-use Rattle.uc_learner.proofs.Queue.{waiting_none}
 use Rattle.uc_learner.proofs.Completion.{candidate_true}
-use Rattle.uc_learner.proofs.Answering.{Started, started, holds_same, kept_same, kept_on, not_found, not_stopped, one_end, went_on, refuted_by, settled_on, used_up}
+use Rattle.uc_learner.proofs.Answering.{kept_same, kept_on, not_found, not_stopped, one_end, went_on, refuted_by, settled_on, used_up}
+use Rattle.uc_learner.specs.Learners.{input_flags}
+use Rattle.uc_learner.specs.Roamed.{Back}
+use Rattle.uc_learner.proofs.Roaming.{back_by, roam_refuted, settled_from, within_limit, spared, holds_now, holds_for}
+use Rattle.std.proofs.Common.{length}
 use Rattle.uc_learner.proofs.state.State.next.Goals as goal
 
 pub returns-then-len-budget-clause-kept : goal.returns-then-len-budget-clause-kept
@@ -46,19 +49,42 @@ returns-in-Some g c = record {
   unit = λ _ _ is. not_stopped _ _ is;
 }
 
+pub returns-in_err-roam-clause-kept : goal.returns-in_err-roam-clause-kept
+returns-in_err-roam-clause-kept g c = c.in_err-roam.ensures.kept
+
+pub returns-in_err-roam-clause-within : goal.returns-in_err-roam-clause-within
+returns-in_err-roam-clause-within g c =
+    λ room. within_limit (g.M.Meter.here c.args.meter.now) (g.M.Meter.here c.roam.new.meter) _ _ c.args.budget (sym c.requires.recorded.count ∙ sym c.len-2.ensures) c.limit_of-limit.ensures.inside c.limit_of-limit.ensures.at_most c.in_err-roam.ensures.within room
+
+pub returns-then-branch : goal.returns-then-branch
+returns-then-branch g c = record {
+  kept = c.in_ok-roam.ensures.kept;
+  candidate = λ is. absurd (one_end _ is refl);
+  refuted =
+      λ _. accepted c.args.terms.now (g.M.Meter.opened c.roam.new.meter) c.roam.new.log c.in_ok-roam.ensures.kept.recorded.valid
+      (roam_refuted c.cut.new.self c.roam.new.self c.args.log.now c.roam.new.log _ c.in_ok-roam.field-0 c.if-branch.true c.in_ok-roam.ensures.ok);
+  budget = λ is. absurd (not_stopped _ _ is);
+  within = λ room. within_limit (g.M.Meter.here c.args.meter.now) (g.M.Meter.here c.roam.new.meter) _ _ c.args.budget (sym c.requires.recorded.count ∙ sym c.len-2.ensures) c.limit_of-limit.ensures.inside c.limit_of-limit.ensures.at_most c.in_ok-roam.ensures.within room;
+  enough = λ _ is. not_stopped _ _ is;
+  unit = λ _ _ is. not_stopped _ _ is;
+}
+
 pub loop-conflict-init : goal.loop-conflict-init
 loop-conflict-init g c =
-    let start : Started c.cut.new.self = started c.args.self.now c.cut.new.self c.cut.ensures.cut c.requires.whole.watched c.requires.whole.room in
+    let b : Back c.cut.new.self c.args.log.now (known_now (g.M.Meter.opened c.roam.new.meter) c.roam.new.log) c.roam.new.self c.roam.new.log =
+    back_by c.cut.new.self c.roam.new.self c.args.log.now c.roam.new.log _ c.in_ok-roam.field-0 c.if-branch.false c.in_ok-roam.ensures.ok in
     record {
-      ready = start.ready;
-      waiting = waiting_none c.cut.new.self c.cut.ensures.head;
-      inputs = c.cut.ensures.cut.inputs;
-      kept = kept_same g.M.Meter.opened g.M.Meter.here g.M.Meter.total c.args.terms.now c.args.meter.now c.args.log.now c.requires.recorded;
-      holds = holds_same c.args.self.now c.cut.new.self 0 _ c.cut.ensures.cut c.requires.holds;
-      within = λ room. room;
-      none_empty = c.in_default.ensures;
-      count = omega (arith, start.all_left, ap (λ (k : List Bool). 2 ^ inputs_count k) c.cut.ensures.cut.inputs);
-      settled = inl (refl, start.none, c.cut.ensures.cut.clauses);
+      ready = b.ready;
+      waiting = b.waiting;
+      inputs = b.inputs ∙ c.cut.ensures.cut.inputs;
+      kept = c.in_ok-roam.ensures.kept;
+      holds = b.holds;
+      within = λ room. within_limit (g.M.Meter.here c.args.meter.now) (g.M.Meter.here c.roam.new.meter) _ _ c.args.budget (sym c.requires.recorded.count ∙ sym c.len-2.ensures) c.limit_of-limit.ensures.inside c.limit_of-limit.ensures.at_most c.in_ok-roam.ensures.within room;
+      none_empty = b.none_empty;
+      count = λ room. spared c.args.self.now.inputs.items c.as_slice.result.now c.cut.new.self.inputs.items (g.M.Meter.here c.args.meter.now) (g.M.Meter.here c.roam.new.meter)
+          c.len-2.result c.limit_of-limit.result c.args.budget (length c.args.log.now) (length c.roam.new.log) (left_of c.roam.new.self)
+          c.requires.recorded.count c.in_ok-roam.ensures.kept.recorded.count (sym c.len-2.ensures) c.as_slice.ensures.value c.cut.ensures.cut.inputs c.limit_of-limit.ensures.spares c.in_ok-roam.ensures.within b.all_left room;
+      settled = settled_from c.args.self.now c.cut.new.self c.roam.new.self c.args.log.now c.roam.new.log c.cut.ensures.cut.clauses b.settled;
     }
 
 pub returns-then-len-budget-2-clause-kept : goal.returns-then-len-budget-2-clause-kept
@@ -96,13 +122,13 @@ returns-in_err-conclude-clause-within g c =
       c.in_err-conclude.ensures.records.few,
     )
 
-pub returns-then-branch : goal.returns-then-branch
-returns-then-branch g c = record {
+pub returns-then-branch-2 : goal.returns-then-branch-2
+returns-then-branch-2 g c = record {
   kept = kept_on g.M.Meter.opened g.M.Meter.here g.M.Meter.total c.args.terms.now _ _ _ _ _ _ c.loop-conflict.invariant.kept c.in_ok-conclude.ensures.records.kept;
   candidate = λ is. absurd (one_end _ is refl);
   refuted =
       λ _. accepted c.args.terms.now (g.M.Meter.opened c.conclude.new.meter) c.conclude.new.log c.in_ok-conclude.ensures.records.kept.recorded.valid
-      (refuted_by c.descend.new.self c.conclude.new.self c.loop-conflict.log c.conclude.new.log _ c.in_ok-conclude.field-0 c.if-branch.true c.in_ok-conclude.ensures.ok);
+      (refuted_by _ c.descend.new.self c.conclude.new.self c.loop-conflict.log c.conclude.new.log _ c.in_ok-conclude.field-0 c.if-branch-2.true c.in_ok-conclude.ensures.ok);
   budget = λ is. absurd (not_stopped _ _ is);
   within =
       λ room. omega (
@@ -120,17 +146,19 @@ returns-then-branch g c = record {
 pub loop-conflict-preserved : goal.loop-conflict-preserved
 loop-conflict-preserved g c =
     let inv = c.loop-conflict.invariant in
-    let on : GoesOn c.descend.new.self c.loop-conflict.log (known_now (g.M.Meter.opened c.loop-conflict.meter) c.conclude.new.log) c.conclude.new.self c.conclude.new.log false =
-    went_on c.descend.new.self c.conclude.new.self c.loop-conflict.log c.conclude.new.log _ c.in_ok-conclude.field-0 c.if-branch.false c.in_ok-conclude.ensures.ok in
+    let on : GoesOn (input_flags (known_now (g.M.Meter.opened c.loop-conflict.meter) c.loop-conflict.log).circuit) c.descend.new.self c.loop-conflict.log (known_now (g.M.Meter.opened c.loop-conflict.meter) c.conclude.new.log) c.conclude.new.self c.conclude.new.log false =
+    went_on _ c.descend.new.self c.conclude.new.self c.loop-conflict.log c.conclude.new.log _ c.in_ok-conclude.field-0 c.if-branch-2.false c.in_ok-conclude.ensures.ok in
     record {
       ready = on.1;
       waiting = on.6;
       inputs = on.4 ∙ c.descend.ensures.onward.inputs ∙ inv.inputs;
       kept = kept_on g.M.Meter.opened g.M.Meter.here g.M.Meter.total c.args.terms.now _ _ _ _ _ _ inv.kept c.in_ok-conclude.ensures.records.kept;
-      holds = subst (λ (k : Option Question). Holds c.conclude.new.self (known_now k c.conclude.new.log)) (sym c.in_ok-conclude.ensures.records.kept.still_open) on.0;
+      holds =
+          subst (λ (k : Option Question). Holds c.conclude.new.self (known_now k c.conclude.new.log)) (sym c.in_ok-conclude.ensures.records.kept.still_open)
+          (record { inputs = on.4 ∙ c.descend.ensures.onward.inputs ∙ inv.holds.inputs ∙ on.0.inputs; clauses = on.0.clauses });
       within = λ room. omega (arith, inv.within room, c.if-len-budget-2.false, c.len-in-loop-conflict.ensures, inv.kept.recorded.count, c.in_ok-conclude.ensures.records.few);
       none_empty = on.2;
-      count = omega (arith, inv.count, on.3, c.descend.ensures.onward.left_le, c.in_ok-conclude.ensures.ok.one_more);
+      count = λ room. omega (arith, inv.count room, on.3, c.descend.ensures.onward.left_le, c.in_ok-conclude.ensures.ok.one_more);
       settled = inr (settled_on c.args.self.now c.loop-conflict.self c.descend.new.self c.loop-conflict.log c.args.log.now inv.settled c.descend.ensures.decided on.5);
     }
 
@@ -154,3 +182,8 @@ returns-in_default-descend g c =
       enough = λ _ is. not_stopped _ _ is;
       unit = λ _ _ is. not_stopped _ _ is;
     }
+
+pub conclude-requires-clause-holds : goal.conclude-requires-clause-holds
+conclude-requires-clause-holds g c =
+    holds_now _ c.loop-conflict.self c.descend.new.self (known_now (g.M.Meter.opened c.loop-conflict.meter) c.loop-conflict.log) c.descend.ensures.onward.inputs c.descend.ensures.onward.clauses
+    (holds_for c.loop-conflict.self (known_now (g.M.Meter.opened c.loop-conflict.meter) c.loop-conflict.log) c.loop-conflict.invariant.holds)

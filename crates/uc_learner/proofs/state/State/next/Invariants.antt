@@ -15,7 +15,7 @@ invariant-loop-conflict g l = record {
   holds : Holds l.self (known_now (g.M.Meter.opened l.meter) l.log);
   within : g.M.Meter.here l.fn.meter ≤ l.budget → g.M.Meter.here l.meter ≤ l.budget;
   none_empty : NoneEmpty l.self.clauses.items;
-  count : length l.log + left_of l.self ≤ length l.fn.log + 2 ^ inputs_count l.fn.self.inputs.items;
+  count : length l.fn.log + 2 ^ inputs_count l.fn.self.inputs.items ≤ l.budget → length l.log + left_of l.self ≤ l.budget;
   settled : ((length l.log ≡ length l.fn.log) × NoDecision l.self × (l.self.clauses.items ≡ l.fn.self.clauses.items)) ⊎ SettledOnce l.fn.self.clauses.items;
 }
 
