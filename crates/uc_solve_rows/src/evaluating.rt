@@ -72,9 +72,9 @@ fn input_under(
 
 /// A bit of a bit-vector, or the truth that a boolean is.
 fn bit_of(value: Value, bit: u8) -> bool {
-    match value {
-        Value::Bool(truth) => truth,
-        Value::Bv(_, bits) => bits >> (bit % 64) & 1 == 1,
+    match &value {
+        Value::Bool(truth) => *truth,
+        Value::Bv(_, bits) => *bits >> (bit % 64) & 1 == 1,
         _ => false,
     }
 }

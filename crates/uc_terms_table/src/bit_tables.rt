@@ -115,15 +115,15 @@ fn concats() -> [ConcatRow; 4] {
 
 /// The width and the bits of a bit-vector.
 fn bits_of(value: Option<Value>) -> Option<(u8, u64)> {
-    match value {
-        Some(Value::Bv(width, bits)) => Some((width, bits)),
+    match &value {
+        Some(Value::Bv(width, bits)) => Some((*width, *bits)),
         _ => None,
     }
 }
 
 fn truth_of(value: Option<Value>) -> Option<bool> {
-    match value {
-        Some(Value::Bool(truth)) => Some(truth),
+    match &value {
+        Some(Value::Bool(truth)) => Some(*truth),
         _ => None,
     }
 }

@@ -1,3 +1,0 @@
-mod Here
-mod Items
-mod Scopes

@@ -1,4 +1,0 @@
-pub mod Code
-pub mod Syntax
-pub mod Plain
-pub mod Verdict
