@@ -13,7 +13,7 @@ use Rattle.uc_ops.specs.Typing.{type_at}
 use Rattle.uc_terms.specs.Tables.{WellTyped}
 use Rattle.uc_terms.specs.Subterms.{Marked, AreSubterms}
 use Rattle.uc_terms.proofs.Fitting.{value-fits}
-use Rattle.uc_gates.specs.declared.signal.Signal.{Signal}
+use Rattle.uc_circuit.specs.declared.signal.Signal.{Signal}
 use Rattle.uc_log.specs.declared.atom.Atom.{Atom}
 use Rattle.uc_log.specs.declared.atom.Atom.TheVariants.{Bit}
 use Rattle.uc_blast.specs.Words.{bit_width}

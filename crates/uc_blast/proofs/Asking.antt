@@ -17,12 +17,12 @@ use Rattle.uc_ops.specs.Typing.{type_at}
 use Rattle.uc_ops.proofs.Fitting.{Fits}
 use Rattle.uc_terms.specs.Values.{value}
 use Rattle.uc_terms.proofs.Grown.{slice_get-front, slice_get-last}
-use Rattle.uc_gates.specs.declared.signal.Signal.{Signal}
-use Rattle.uc_gates.specs.declared.signal.Signal.TheVariants.{Constant, Of}
-use Rattle.uc_gates.specs.Signals.{bit, number, Below, AllBelow}
-use Rattle.uc_gates.proofs.Growing.{all_below-more}
-use Rattle.uc_gates.proofs.Numbers.{number-push}
-use Rattle.uc_gates.proofs.Digits.{Digits, digits-none, digits-more, digits-all}
+use Rattle.uc_circuit.specs.declared.signal.Signal.{Signal}
+use Rattle.uc_circuit.specs.declared.signal.Signal.TheVariants.{Constant, Of}
+use Rattle.uc_circuit.specs.Signals.{bit, number, Below, AllBelow}
+use Rattle.uc_circuit.proofs.Growing.{all_below-more}
+use Rattle.uc_circuit.proofs.Numbers.{number-push}
+use Rattle.uc_circuit.proofs.Digits.{Digits, digits-none, digits-more, digits-all}
 use Rattle.uc_log.specs.declared.atom.Atom.{Atom}
 use Rattle.uc_log.specs.declared.atom.Atom.TheVariants.{Bit}
 use Rattle.uc_log.specs.Atoms.{bit_of}

@@ -10,10 +10,10 @@ use Rattle.uc_ops.specs.declared.op.Op.{Op}
 use Rattle.uc_ops.specs.declared.op.Op.TheVariants.{BvAdd, BvSub, BvMul, BvNeg, BvAnd, BvOr, BvXor, BvNot, Extract, ZeroExt, SignExt, Shl, Lshr, Ashr, Slt, Sle, Ult, Ule}
 use Rattle.uc_ops.specs.Typing.{type_of, part_type}
 use Rattle.uc_ops.specs.Meaning.{apply}
-use Rattle.uc_gates.specs.declared.signal.Signal.{Signal}
-use Rattle.uc_gates.specs.Signals.{number, Below}
-use Rattle.uc_gates.specs.Building.{Building, size}
-use Rattle.uc_gates.specs.Meanings.{Means, Amounts}
+use Rattle.uc_circuit.specs.declared.signal.Signal.{Signal}
+use Rattle.uc_circuit.specs.Signals.{number, Below}
+use Rattle.uc_circuit.specs.Building.{Building, size}
+use Rattle.uc_circuit.specs.Meanings.{Means, Amounts}
 use Rattle.uc_blast.specs.Words.{worth, IsWord, Gives}
 use Rattle.uc_blast.specs.Operations.{IsPair, pair_number, IsOrder, order_truth, IsSingle, single_width, single_number}
 use Rattle.uc_blast.proofs.Ready.{TwoWords, OneWord}

@@ -9,12 +9,12 @@ use Rattle.uc_values.specs.declared.ty.Ty.{Ty}
 use Rattle.uc_values.specs.declared.ty.Ty.TheVariants.{Bool}
 use Rattle.uc_values.specs.declared.value.Value.TheVariants.{Bool as truth}
 use Rattle.uc_ops.specs.declared.op.Op.TheVariants.{And, Or}
-use Rattle.uc_gates.specs.declared.signal.Signal.{Signal}
-use Rattle.uc_gates.specs.declared.signal.Signal.TheVariants.{Constant}
-use Rattle.uc_gates.specs.Signals.{signal_value, Below}
-use Rattle.uc_gates.specs.Building.{Building, Grows, size}
-use Rattle.uc_gates.specs.Meanings.{Means}
-use Rattle.uc_gates.proofs.Growing.{grows-trans, below-grown, obeys-back}
+use Rattle.uc_circuit.specs.declared.signal.Signal.{Signal}
+use Rattle.uc_circuit.specs.declared.signal.Signal.TheVariants.{Constant}
+use Rattle.uc_circuit.specs.Signals.{signal_value, Below}
+use Rattle.uc_circuit.specs.Building.{Building, Grows, size}
+use Rattle.uc_circuit.specs.Meanings.{Means}
+use Rattle.uc_circuit.proofs.Growing.{grows-trans, below-grown, obeys-back}
 use Rattle.uc_blast.specs.Words.{first, worth, worths, words_at, IsWord, AreWords, Gives}
 
 and-three : (a b c : Truth) → (a && (b && c)) ≡ ((a && b) && c)

@@ -12,12 +12,12 @@ use Rattle.uc_values.specs.declared.ty.Ty.{Ty}
 use Rattle.uc_values.specs.declared.ty.Ty.TheVariants.{Bool, Bv}
 use Rattle.uc_values.specs.declared.value.Value.TheVariants.{Bool as truth, Bv as bits}
 use Rattle.uc_ops.specs.declared.op.Op.TheVariants.{Not, Eq, Ite, Concat}
-use Rattle.uc_gates.specs.declared.signal.Signal.{Signal}
-use Rattle.uc_gates.specs.declared.signal.Signal.TheVariants.{Constant}
-use Rattle.uc_gates.specs.Signals.{signal_value, turned, number, bit, Below}
-use Rattle.uc_gates.specs.Building.{Building, size}
-use Rattle.uc_gates.specs.Meanings.{Means, Amounts}
-use Rattle.uc_gates.proofs.Choices.{turned-value, turned-below}
+use Rattle.uc_circuit.specs.declared.signal.Signal.{Signal}
+use Rattle.uc_circuit.specs.declared.signal.Signal.TheVariants.{Constant}
+use Rattle.uc_circuit.specs.Signals.{signal_value, turned, number, bit, Below}
+use Rattle.uc_circuit.specs.Building.{Building, size}
+use Rattle.uc_circuit.specs.Meanings.{Means, Amounts}
+use Rattle.uc_circuit.proofs.Choices.{turned-value, turned-below}
 use Rattle.uc_blast.specs.Words.{is_bits, bit_width, first, worth, IsWord, AreWords, Gives}
 
 pub record Words1 (n : ℕ) (s : Ty) (words : List (List Signal)) (x : List Signal) : Type 0 where

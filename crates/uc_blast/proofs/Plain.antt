@@ -13,12 +13,12 @@ use Rattle.uc_ops.specs.declared.op.Op.{Op}
 use Rattle.uc_ops.specs.declared.op.Op.TheVariants.{Const}
 use Rattle.uc_ops.specs.Typing.{Suits, Valid}
 use Rattle.uc_ops.proofs.Typed.{Bv-small}
-use Rattle.uc_gates.specs.declared.signal.Signal.{Signal}
-use Rattle.uc_gates.specs.declared.signal.Signal.TheVariants.{Constant}
-use Rattle.uc_gates.specs.Signals.{Below}
-use Rattle.uc_gates.specs.Building.{Building, size}
-use Rattle.uc_gates.specs.Meanings.{AreConstant}
-use Rattle.uc_gates.proofs.Growing.{all_below-more}
+use Rattle.uc_circuit.specs.declared.signal.Signal.{Signal}
+use Rattle.uc_circuit.specs.declared.signal.Signal.TheVariants.{Constant}
+use Rattle.uc_circuit.specs.Signals.{Below}
+use Rattle.uc_circuit.specs.Building.{Building, size}
+use Rattle.uc_circuit.specs.Meanings.{AreConstant}
+use Rattle.uc_circuit.proofs.Growing.{all_below-more}
 use Rattle.uc_blast.specs.Words.{is_bits, worth, IsWord, Gives}
 use Rattle.uc_blast.specs.Operations.{IsComputed}
 use Rattle.uc_blast.specs.Constants.{IsPlain, plain_type, StandsForValue}

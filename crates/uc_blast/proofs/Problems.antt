@@ -15,9 +15,9 @@ use Rattle.uc_values.specs.declared.value.Value.TheVariants.{Bool as truth}
 use Rattle.uc_ops.specs.declared.model.Model.{Model}
 use Rattle.uc_ops.specs.declared.node.Node.{Node}
 use Rattle.uc_terms.specs.Values.{value}
-use Rattle.uc_gates.specs.declared.signal.Signal.{Signal}
-use Rattle.uc_gates.specs.declared.signal.Signal.TheVariants.{Constant, Of}
-use Rattle.uc_gates.specs.Building.{Building, Obeys, nodes_of, size}
+use Rattle.uc_circuit.specs.declared.signal.Signal.{Signal}
+use Rattle.uc_circuit.specs.declared.signal.Signal.TheVariants.{Constant, Of}
+use Rattle.uc_circuit.specs.Building.{Building, Obeys, nodes_of, size}
 use Rattle.uc_log.specs.declared.atom.Atom.{Atom}
 use Rattle.uc_log.specs.declared.atom.Atom.TheVariants.{Free, Bit, Le, Eq}
 use Rattle.uc_log.specs.Atoms.{Agrees, atom_truth}

@@ -7,8 +7,8 @@ use Rattle.uc_ops.specs.declared.op.Op.{Op}
 use Rattle.uc_ops.specs.declared.op.Op.TheVariants.{BvAdd, BvSub, BvMul, BvNeg, BvAnd, BvOr, BvXor, BvNot, Extract, ZeroExt, SignExt, Shl, Lshr, Ashr, Slt, Sle, Ult, Ule}
 use Rattle.uc_ops.specs.Typing.{Suits, AllValid, Pair_of_bits}
 use Rattle.uc_ops.proofs.Typed.{Bv-positive, Bv-small, first_valid}
-use Rattle.uc_gates.specs.declared.signal.Signal.{Signal}
-use Rattle.uc_gates.specs.Signals.{AllBelow}
+use Rattle.uc_circuit.specs.declared.signal.Signal.{Signal}
+use Rattle.uc_circuit.specs.Signals.{AllBelow}
 use Rattle.uc_blast.specs.Words.{AreWords}
 use Rattle.uc_blast.specs.Operations.{IsPair, IsOrder, IsSingle, SuitsWidth}
 

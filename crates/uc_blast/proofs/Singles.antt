@@ -5,11 +5,11 @@ use Rattle.std.proofs.Common.{sym, ap, ◌∙◌, subst, get_or}
 use Rattle.std.proofs.lemmas.Option.{slice_get-map, unwrap_or-slice_get}
 use Rattle.uc_values.specs.Operators.{complemented, extracted, sign_extended}
 use Rattle.uc_ops.specs.declared.op.Op.{Op}
-use Rattle.uc_gates.specs.declared.signal.Signal.{Signal}
-use Rattle.uc_gates.specs.Signals.{turned, number, AllBelow}
-use Rattle.uc_gates.specs.Building.{Building, size}
-use Rattle.uc_gates.specs.Meanings.{Amounts}
-use Rattle.uc_gates.proofs.BitByBit.{number-turned, turned-all, turned-long}
+use Rattle.uc_circuit.specs.declared.signal.Signal.{Signal}
+use Rattle.uc_circuit.specs.Signals.{turned, number, AllBelow}
+use Rattle.uc_circuit.specs.Building.{Building, size}
+use Rattle.uc_circuit.specs.Meanings.{Amounts}
+use Rattle.uc_circuit.proofs.BitByBit.{number-turned, turned-all, turned-long}
 use Rattle.uc_blast.specs.Words.{words_at}
 use Rattle.uc_blast.specs.Operations.{single_width, single_number}
 

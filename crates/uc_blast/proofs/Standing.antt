@@ -16,10 +16,10 @@ use Rattle.uc_terms.specs.Subterms.{IsSubterm, itself, deeper, Marked, AreSubter
 use Rattle.uc_terms.proofs.Values.{value-node, within_all}
 use Rattle.uc_terms.proofs.Grown.{parts-node, type-node, types-valid}
 use Rattle.uc_terms.proofs.Walk.{marked_within}
-use Rattle.uc_gates.specs.declared.signal.Signal.{Signal}
-use Rattle.uc_gates.specs.declared.signal.Signal.TheVariants.{Constant}
-use Rattle.uc_gates.specs.Building.{Building, Grows, size, Obeys}
-use Rattle.uc_gates.proofs.Growing.{all_below-more, all_below-grown, obeys-back}
+use Rattle.uc_circuit.specs.declared.signal.Signal.{Signal}
+use Rattle.uc_circuit.specs.declared.signal.Signal.TheVariants.{Constant}
+use Rattle.uc_circuit.specs.Building.{Building, Grows, size, Obeys}
+use Rattle.uc_circuit.proofs.Growing.{all_below-more, all_below-grown, obeys-back}
 use Rattle.uc_log.specs.declared.atom.Atom.{Atom}
 use Rattle.uc_blast.specs.Words.{is_bits, worth, worths, words_at, IsWord, AreWords}
 use Rattle.uc_blast.specs.Blasting.{IsBlastable, atomic_in}

@@ -4,10 +4,10 @@ use Rattle.std.proofs.Common.{sym, ap, ◌∙◌, arith, get_or}
 use Rattle.std.proofs.lemmas.Bool.Decides.{nat_tests}
 use Rattle.std.proofs.lemmas.List.{take_all}
 use Rattle.uc_values.specs.Operators.{is_low, shifted_right_signed}
-use Rattle.uc_gates.specs.declared.signal.Signal.{Signal}
-use Rattle.uc_gates.specs.Signals.{signal_value, number, bit}
-use Rattle.uc_gates.specs.Shifting.{shifted_down}
-use Rattle.uc_gates.proofs.Numbers.{number-more, number-front}
+use Rattle.uc_circuit.specs.declared.signal.Signal.{Signal}
+use Rattle.uc_circuit.specs.Signals.{signal_value, number, bit}
+use Rattle.uc_circuit.specs.Shifting.{shifted_down}
+use Rattle.uc_circuit.proofs.Numbers.{number-more, number-front}
 
 low-by : (w i A r : ℕ) (t : Bool) → w ≡ i + 1 → r < 2 ^ i → A ≡ r + 2 ^ i * bit t → is_low w A ≡ not t
 low-by w i A r true e h split =

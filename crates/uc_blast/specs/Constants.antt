@@ -4,7 +4,7 @@ use Rattle.uc_values.specs.declared.ty.Ty.{Ty}
 use Rattle.uc_values.specs.declared.ty.Ty.TheVariants.{Bool, Bv}
 use Rattle.uc_values.specs.declared.value.Value.{Value}
 use Rattle.uc_values.specs.declared.value.Value.TheVariants.{Bool as truth, Bv as bits}
-use Rattle.uc_gates.specs.declared.signal.Signal.{Signal}
+use Rattle.uc_circuit.specs.declared.signal.Signal.{Signal}
 use Rattle.uc_blast.specs.Words.{worth, IsWord}
 
 -- a boolean, or a bit-vector of at most 64 bits

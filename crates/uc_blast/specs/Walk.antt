@@ -9,10 +9,10 @@ use Rattle.uc_ops.specs.declared.node.Node.{Node}
 use Rattle.uc_ops.specs.Typing.{type_at, types_at}
 use Rattle.uc_terms.specs.Subterms.{Marked}
 use Rattle.uc_terms.specs.Values.{value}
-use Rattle.uc_gates.specs.declared.signal.Signal.{Signal}
-use Rattle.uc_gates.specs.declared.signal.Signal.TheVariants.{Of}
-use Rattle.uc_gates.specs.Signals.{signal_value, Below}
-use Rattle.uc_gates.specs.Building.{Building, size, nodes_of, Grows, Obeys}
+use Rattle.uc_circuit.specs.declared.signal.Signal.{Signal}
+use Rattle.uc_circuit.specs.declared.signal.Signal.TheVariants.{Of}
+use Rattle.uc_circuit.specs.Signals.{signal_value, Below}
+use Rattle.uc_circuit.specs.Building.{Building, size, nodes_of, Grows, Obeys}
 use Rattle.uc_log.specs.declared.atom.Atom.{Atom}
 use Rattle.uc_log.specs.declared.atom.Atom.TheVariants.{Bit}
 use Rattle.uc_log.specs.Atoms.{Agrees}

@@ -10,10 +10,10 @@ use Rattle.uc_ops.specs.declared.model.Model.{Model}
 use Rattle.uc_ops.specs.declared.op.Op.{Op}
 use Rattle.uc_ops.specs.Typing.{type_of}
 use Rattle.uc_ops.specs.Meaning.{apply}
-use Rattle.uc_gates.specs.declared.signal.Signal.{Signal}
-use Rattle.uc_gates.specs.declared.signal.Signal.TheVariants.{Constant}
-use Rattle.uc_gates.specs.Signals.{signal_value, number, AllBelow}
-use Rattle.uc_gates.specs.Building.{Building, size, Obeys}
+use Rattle.uc_circuit.specs.declared.signal.Signal.{Signal}
+use Rattle.uc_circuit.specs.declared.signal.Signal.TheVariants.{Constant}
+use Rattle.uc_circuit.specs.Signals.{signal_value, number, AllBelow}
+use Rattle.uc_circuit.specs.Building.{Building, size, Obeys}
 
 -- booleans and bit-vectors
 abbrev pub is_bits : Ty → Truth

@@ -3,7 +3,7 @@
 ghost use Rattle.std.specs.Prelude.{◌≡◌, true, IfOk};
 ghost use Rattle.uc_ops.specs.Typing.{Suits, AllValid, part_type, types_at};
 ghost use Rattle.uc_ops.specs.declared.op.Op.TheVariants.{And, Concat, Eq, Ite, Not, Or};
-ghost use Rattle.uc_gates.specs.Building.{Grows, size};
+ghost use Rattle.uc_circuit.specs.Building.{Grows, size};
 ghost use Rattle.uc_blast.specs.Words.{is_bits, words_at, AreWords, Gives};
 ghost use Rattle.uc_blast.specs.Operations.{IsPair, IsOrder, IsSingle};
 
@@ -11,7 +11,7 @@ use crate::logic::{all_of, any_of};
 use crate::operations::{order, pair_bits, single_bits};
 use crate::words::{truth, word};
 use std::alloc::{AllocError, Global};
-use uc_gates::{Gates, Signal, choose_each, concat, equal};
+use uc_circuit::{Gates, Signal, choose_each, concat, equal};
 use uc_items::Items;
 use uc_ops::{Node, Op, TermId};
 

@@ -4,7 +4,7 @@ ghost use Rattle.std.specs.Prelude.{IfOk};
 ghost use Rattle.uc_blast.specs.Constants.{IsPlain, StandsForValue};
 
 use std::alloc::{AllocError, Global};
-use uc_gates::{Signal, constant};
+use uc_circuit::{Signal, constant};
 use uc_items::Items;
 use uc_values::Value;
 

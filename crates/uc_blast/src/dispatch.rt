@@ -2,7 +2,7 @@
 
 ghost use Rattle.std.specs.Prelude.{◌≡◌, true, IfOk};
 ghost use Rattle.uc_ops.specs.Typing.{Suits, AllValid, part_type, types_at};
-ghost use Rattle.uc_gates.specs.Building.{Grows, size};
+ghost use Rattle.uc_circuit.specs.Building.{Grows, size};
 ghost use Rattle.uc_blast.specs.Words.{is_bits, words_at, AreWords, Gives};
 ghost use Rattle.uc_blast.specs.Operations.{IsComputed};
 
@@ -12,7 +12,7 @@ use crate::computed::{
 };
 use crate::constants::constant_word;
 use std::alloc::{AllocError, Global};
-use uc_gates::{Gates, Signal};
+use uc_circuit::{Gates, Signal};
 use uc_items::Items;
 use uc_ops::{Node, Op, TermId};
 

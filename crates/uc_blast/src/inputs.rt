@@ -3,15 +3,14 @@
 ghost use Rattle.std.specs.Prelude.{◌≡◌, ◌<◌, ◌++◌, [], ◌∷◌, length, IfOk, OnOk};
 ghost use Rattle.uc_circuit.specs.Literals.{positive};
 ghost use Rattle.uc_terms.specs.Subterms.{AreSubterms};
-ghost use Rattle.uc_gates.specs.declared.signal.Signal.TheVariants.{Of};
+ghost use Rattle.uc_circuit.specs.declared.signal.Signal.TheVariants.{Of};
 ghost use Rattle.uc_log.specs.declared.atom.Atom.TheVariants.{Bit};
 ghost use Rattle.uc_blast.specs.Words.{bit_width};
 ghost use Rattle.uc_blast.specs.Blasting.{IsBlastable, is_atomic};
 ghost use Rattle.uc_blast.specs.Walk.{term_bits, variables_from, IsAsked, AreInputs};
 
 use std::alloc::{AllocError, Global};
-use uc_circuit::Lit;
-use uc_gates::Signal;
+use uc_circuit::{Lit, Signal};
 use uc_items::Items;
 use uc_log::Atom;
 use uc_terms::{Op, TermId, Terms};

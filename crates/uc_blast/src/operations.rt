@@ -2,13 +2,13 @@
 
 ghost use Rattle.std.specs.Prelude.{◌≡◌, ◌≤◌, ◌<◌, length, IfOk};
 ghost use Rattle.uc_values.specs.Operators.{shifted_right_signed};
-ghost use Rattle.uc_gates.specs.Signals.{number, AllBelow};
-ghost use Rattle.uc_gates.specs.Building.{Grows, size};
-ghost use Rattle.uc_gates.specs.Meanings.{Means, Amounts};
+ghost use Rattle.uc_circuit.specs.Signals.{number, AllBelow};
+ghost use Rattle.uc_circuit.specs.Building.{Grows, size};
+ghost use Rattle.uc_circuit.specs.Meanings.{Means, Amounts};
 ghost use Rattle.uc_blast.specs.Operations.{IsPair, pair_number, IsOrder, order_truth, IsSingle, single_width, single_number, SuitsWidth};
 
 use std::alloc::{AllocError, Global};
-use uc_gates::{
+use uc_circuit::{
     Gates, Shift, Signal, add, and_each, at_most, at_most_signed, extract, less, less_signed,
     multiply, negate, or_each, shift_by, sign_extend, subtract, turn_each, xor_each, zero_extend,
 };

@@ -2,14 +2,14 @@
 
 ghost use Rattle.std.specs.Prelude.{◌≡◌, ◌<◌, [], ◌∷◌, true, false, length, IfOk, OnOk};
 ghost use Rattle.uc_terms.specs.Subterms.{AreSubterms};
-ghost use Rattle.uc_gates.specs.Building.{Grows, size};
+ghost use Rattle.uc_circuit.specs.Building.{Grows, size};
 ghost use Rattle.uc_blast.specs.Blasting.{IsBlastable};
 ghost use Rattle.uc_blast.specs.Walk.{AreInputs, AreStanding, IsReady, GivesAt, IsStep, atomic_at};
 
 use crate::dispatch::operation_word;
 use crate::inputs::{Inputs, count, is_atomic};
 use std::alloc::{AllocError, Global};
-use uc_gates::{Gates, Signal};
+use uc_circuit::{Gates, Signal};
 use uc_items::Items;
 use uc_log::Atom;
 use uc_terms::{TermId, Terms};

@@ -2,14 +2,14 @@
 
 ghost use Rattle.std.specs.Prelude.{◌≡◌, ◌<◌, ◌^◌, [], ◌∷◌, false, length, map, slice_index_or, IfOk, All};
 ghost use Rattle.std.specs.List.{list_all, list_any};
-ghost use Rattle.uc_gates.specs.Signals.{signal_value, AllBelow};
-ghost use Rattle.uc_gates.specs.Building.{Grows, size};
-ghost use Rattle.uc_gates.specs.Meanings.{Means};
-ghost use Rattle.uc_gates.specs.declared.signal.Signal.TheVariants.{Constant};
+ghost use Rattle.uc_circuit.specs.Signals.{signal_value, AllBelow};
+ghost use Rattle.uc_circuit.specs.Building.{Grows, size};
+ghost use Rattle.uc_circuit.specs.Meanings.{Means};
+ghost use Rattle.uc_circuit.specs.declared.signal.Signal.TheVariants.{Constant};
 ghost use Rattle.uc_blast.specs.Words.{words_at, first};
 
 use std::alloc::AllocError;
-use uc_gates::{Gates, Signal};
+use uc_circuit::{Gates, Signal};
 use uc_items::{Items, at};
 use uc_ops::TermId;
 

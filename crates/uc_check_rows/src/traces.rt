@@ -5,11 +5,11 @@ use Subject::{Exit, Formula, SiteAt};
 use std::alloc::{AllocError, Global};
 use std::process::Abort;
 use std::test::Fail;
+use uc_checks::accepts_trace;
 use uc_items::{Boxed, Items, beside};
 use uc_layout::Layout;
 use uc_meaning::{At, Choices, Interp, Line, Path, Site, State, Trace, What, WideOp};
 use uc_operators::EvalError;
-use uc_refuting::accepts_trace;
 use uc_syntax::Place;
 use uc_values::{Table, Value};
 

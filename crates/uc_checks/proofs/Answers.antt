@@ -12,8 +12,8 @@ use Rattle.uc_meaning.specs.declared.scope.Interp.{Interp}
 use Rattle.uc_meaning.specs.Lookup.{System, main_module, next_in, next_of}
 use Rattle.uc_meaning.specs.Cells.{cells_of, as_list}
 use Rattle.uc_meaning.specs.Steps.{Watched, Check, Kept, Broken, AllKeep, IsStep, check, main_next, step_scope, watched_first}
-use Rattle.uc_check_parts.specs.Watches.{watched}
-use Rattle.uc_overflows.specs.Checks.{check_met, step_met}
+use Rattle.uc_checks.specs.Watches.{watched}
+use Rattle.uc_meaning.specs.Checks.{check_met, step_met}
 use Rattle.uc_checks.specs.Levels.{first_seen}
 
 -- ---- main

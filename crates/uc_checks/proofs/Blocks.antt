@@ -12,7 +12,7 @@ use Rattle.uc_syntax.specs.declared.statement.Stmt.TheViews.{roll-Stmt}
 use Rattle.uc_syntax.specs.declared.statement.Stmt.TheVariants.{Next}
 use Rattle.uc_syntax.specs.declared.statement.Stmt.TheFolds.{fold-roll-Stmt}
 use Rattle.uc_meaning.specs.Lookup.{System, InstanceParts, instance_of, module_named, module_from, module_at, main_module, next_in}
-use Rattle.uc_shapes.specs.Shapes.{total}
+use Rattle.uc_meaning.specs.Shapes.{total}
 use Rattle.uc_evaluator.proofs.Bodies.{weight, weighed}
 use Rattle.uc_runs.proofs.Sizes.{size, sizes}
 use Rattle.uc_runs.proofs.Bodies.{weight_below, weight_found, weight_got}

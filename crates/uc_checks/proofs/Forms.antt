@@ -26,9 +26,9 @@ use Rattle.uc_meaning.specs.Expressions.{value, is_true}
 use Rattle.uc_meaning.specs.Overflow.{met}
 use Rattle.uc_meaning.specs.Code.{run, taken, turns, turn_type, call}
 use Rattle.uc_meaning.specs.Steps.{Watched, Check, Kept, Broken, Constraint, then_check, kept_if, check_each, check_form, check_statement, check_by, check_through, check_targets, check_turns, check_call, check_instance, running, watched_site, writes, name_parts, with_local}
-use Rattle.uc_overflows.specs.Runs.{run_met, met_after, all_met_in, conditions_met, call_met}
-use Rattle.uc_overflows.specs.Checks.{TracedCheck, CheckMet, checks, checks_met, met_kept, traced_check_form, traced_check, check_met_by, check_met_through, check_turns_met, assigned_met, call_left_met, instance_met}
-use Rattle.uc_run_parts.proofs.Layers.{arms_in, else_in, traced_steps}
+use Rattle.uc_meaning.specs.OverflowsRuns.{run_met, met_after, all_met_in, conditions_met, call_met}
+use Rattle.uc_meaning.specs.Checks.{TracedCheck, CheckMet, checks, checks_met, met_kept, traced_check_form, traced_check, check_met_by, check_met_through, check_turns_met, assigned_met, call_left_met, instance_met}
+use Rattle.uc_runs.proofs.Layers.{arms_in, else_in, traced_steps}
 use Rattle.uc_checks.specs.Levels.{check_at, check_met_at, asked_at, asked_met_at, traced_at, turns_at, turns_met_at, turn_at}
 
 -- ---- the arms of a conditional whose blocks are seen otherwise

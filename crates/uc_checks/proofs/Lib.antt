@@ -1,6 +1,15 @@
+pub mod Growing
+pub mod Parts
+pub mod Targets
+pub mod Leaving
 pub mod Rounds
 pub mod Forms
 pub mod Statements
 pub mod Blocks
 pub mod Scopes
 pub mod Answers
+pub mod Told
+pub mod Walking
+pub mod RefutingJudging
+pub mod Executed
+pub mod Inducing

@@ -6,12 +6,12 @@ use Rattle.uc_values.specs.declared.value.Value.{Value}
 use Rattle.uc_meaning.specs.declared.scope.Scope.{Scope}
 use Rattle.uc_meaning.specs.declared.overflow.Wide.{Wide}
 use Rattle.uc_meaning.specs.Steps.{Watched, Check, Kept, Broken, Constraint, then_check}
-use Rattle.uc_overflows.specs.Checks.{CheckMet, met_kept}
+use Rattle.uc_meaning.specs.Checks.{CheckMet, met_kept}
 use Rattle.uc_operators.specs.declared.error.EvalError.{EvalError}
 use Rattle.uc_operators.specs.Overflows.{first_wide, TellsWide}
 use Rattle.uc_evaluator.proofs.Told.{none_first, told_first}
-use Rattle.uc_check_parts.specs.declared.seen.Seen.{Seen}
-use Rattle.uc_check_parts.specs.Watches.{watched, check_of}
+use Rattle.uc_checks.specs.declared.seen.Seen.{Seen}
+use Rattle.uc_checks.specs.Watches.{watched, check_of}
 
 parted : {A : Type 0} (xs : List A) (k : ℕ) (x d : A) → k < length xs → x ≡ get_or xs k d → drop k xs ≡ x ∷ drop (k + 1) xs
 parted xs k x d within is = drop_more xs k d within ∙ ap (λ y. y ∷ drop (k + 1) xs) (sym is)

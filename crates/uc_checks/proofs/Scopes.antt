@@ -13,10 +13,10 @@ use Rattle.uc_meaning.specs.Lookup.{System, next_in, next_of}
 use Rattle.uc_meaning.specs.Expressions.{at_path}
 use Rattle.uc_meaning.specs.Code.{run_by, run_through, Ending as HowItEnds, Goes as GoesOn, Stopped as IsStopped, Unfit}
 use Rattle.uc_meaning.specs.Steps.{Watched, Check, Kept, Broken, then_check, back_in, check_through, check_instance, check_call}
-use Rattle.uc_overflows.specs.Runs.{run_met_by, run_met_through}
-use Rattle.uc_overflows.specs.Checks.{check_met_through, instance_met}
-use Rattle.uc_check_parts.specs.declared.seen.Seen.{Seen}
-use Rattle.uc_check_parts.specs.Watches.{watched, check_of, before_call}
+use Rattle.uc_meaning.specs.OverflowsRuns.{run_met_by, run_met_through}
+use Rattle.uc_meaning.specs.Checks.{check_met_through, instance_met}
+use Rattle.uc_checks.specs.declared.seen.Seen.{Seen}
+use Rattle.uc_checks.specs.Watches.{watched, check_of, before_call}
 use Rattle.uc_checks.specs.Levels.{check_at, check_met_at}
 
 -- what is asked in another scope, back in this one

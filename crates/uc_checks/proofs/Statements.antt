@@ -20,10 +20,10 @@ use Rattle.uc_meaning.specs.Expressions.{value, is_true}
 use Rattle.uc_meaning.specs.Overflow.{met}
 use Rattle.uc_meaning.specs.Code.{run, taken, turns, turn_type, call}
 use Rattle.uc_meaning.specs.Steps.{Watched, Check, Kept, Constraint, kept_if, check_targets, check_call, check_instance, check_through, running, watched_site, writes, name_parts}
-use Rattle.uc_overflows.specs.Runs.{run_met, met_after, all_met_in, conditions_met, call_met}
-use Rattle.uc_overflows.specs.Checks.{check_met_through, assigned_met, call_left_met, instance_met}
-use Rattle.uc_check_parts.specs.declared.seen.Seen.{Seen}
-use Rattle.uc_check_parts.specs.Watches.{watched, check_of, Asks}
+use Rattle.uc_meaning.specs.OverflowsRuns.{run_met, met_after, all_met_in, conditions_met, call_met}
+use Rattle.uc_meaning.specs.Checks.{check_met_through, assigned_met, call_left_met, instance_met}
+use Rattle.uc_checks.specs.declared.seen.Seen.{Seen}
+use Rattle.uc_checks.specs.Watches.{watched, check_of, Asks}
 use Rattle.uc_checks.specs.Levels.{check_at, check_met_at, asked_at, asked_met_at, turns_at, turns_met_at}
 use Rattle.uc_checks.proofs.Forms.{local_asks, skip_asks, block_asks, assert_asks, assume_asks, havoc_asks, assign_asks, if_asks, case_asks, for_asks, call_asks, next_asks, local_meets, skip_meets, block_meets, assert_meets, assume_meets, havoc_meets, assign_meets, if_meets, case_meets, for_meets, call_meets, next_meets}
 

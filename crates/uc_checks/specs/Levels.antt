@@ -5,8 +5,8 @@ use Rattle.uc_values.specs.declared.ty.Ty.{Ty}
 use Rattle.uc_values.specs.declared.value.Value.{Value}
 use Rattle.uc_meaning.specs.Lookup.{System}
 use Rattle.uc_meaning.specs.Steps.{Constraint, Kept, then_check, check_by, check_statement, check_through, check_turns, with_local}
-use Rattle.uc_check_parts.specs.declared.seen.Seen.{Seen}
-use Rattle.uc_overflows.specs.Checks.{TracedCheck, CheckMet, traced_check, check_met_by, check_met_through, check_turns_met}
+use Rattle.uc_checks.specs.declared.seen.Seen.{Seen}
+use Rattle.uc_meaning.specs.Checks.{TracedCheck, CheckMet, traced_check, check_met_by, check_met_through, check_turns_met}
 
 abbrev pub check_at : ℕ → System → List Stmt → Constraint
 check_at n system code = check_by system (check_through n system) code

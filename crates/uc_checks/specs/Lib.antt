@@ -1,1 +1,9 @@
+pub mod Watches
+pub mod Asked
 pub mod Levels
+pub mod Sites
+pub mod Tellings
+pub mod Walks
+pub mod Answers
+pub mod Refutations
+pub mod Bodies

@@ -3,20 +3,19 @@
 ghost use Rattle.std.specs.Prelude.{◌≡◌, ◌++◌, IfOk};
 ghost use Rattle.uc_meaning.specs.Code.{run, call};
 ghost use Rattle.uc_meaning.specs.Steps.{running, check_call};
-ghost use Rattle.uc_overflows.specs.Runs.{run_met, met_after, call_met};
-ghost use Rattle.uc_overflows.specs.Checks.{call_left_met};
+ghost use Rattle.uc_meaning.specs.OverflowsRuns.{run_met, met_after, call_met};
+ghost use Rattle.uc_meaning.specs.Checks.{call_left_met};
 ghost use Rattle.uc_operators.specs.Overflows.{first_wide, TellsWide};
-ghost use Rattle.uc_scopes.specs.Scopes.{scope_in};
-ghost use Rattle.uc_check_parts.specs.Watches.{watched, check_of};
+ghost use Rattle.uc_readings.specs.Scopes.{scope_in};
+ghost use Rattle.uc_checks.specs.Watches.{watched, check_of};
 
+use crate::{Seen, left_by_call, whole_scope};
 use std::alloc::Global;
-use uc_check_parts::{Seen, left_by_call, whole_scope};
 use uc_items::beside;
 use uc_layout::Layout;
 use uc_operators::EvalError;
-use uc_run_forms::Run;
-use uc_runs::run_call;
-use uc_scopes::ScopeRef;
+use uc_readings::ScopeRef;
+use uc_runs::{Run, run_call};
 use uc_syntax::{Expr, Place, Target};
 use uc_values::Value;
 

@@ -2,13 +2,13 @@
 
 ghost use Rattle.std.specs.Prelude.{◌≡◌, ◌∷◌, ◌++◌, [], IfOk};
 ghost use Rattle.uc_meaning.specs.Expressions.{at_path};
-ghost use Rattle.uc_scopes.specs.Scopes.{scope_in};
+ghost use Rattle.uc_readings.specs.Scopes.{scope_in};
 
+use crate::copy_locals;
 use std::alloc::{AllocError, Global};
-use uc_check_parts::copy_locals;
 use uc_items::Items;
 use uc_meaning::Local;
-use uc_scopes::ScopeRef;
+use uc_readings::ScopeRef;
 
 /// The scope of an instance.
 pub(crate) fn at_path<'b, 'f: 'b>(scope: &ScopeRef<'f>, path: &'b [u32]) -> ScopeRef<'b>

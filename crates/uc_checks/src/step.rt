@@ -4,21 +4,20 @@ ghost use Rattle.std.specs.Prelude.{◌≡◌, IfOk};
 ghost use Rattle.uc_meaning.specs.declared.scope.Interp.{Interp as InterpMeant};
 ghost use Rattle.uc_meaning.specs.Steps.{Kept, check, main_next, step_scope, watched_first};
 ghost use Rattle.uc_meaning.specs.Answers.{IsStepAnswer};
-ghost use Rattle.uc_overflows.specs.Checks.{check_met, step_met};
+ghost use Rattle.uc_meaning.specs.Checks.{check_met, step_met};
 ghost use Rattle.uc_operators.specs.Overflows.{first_wide, TellsWide};
-ghost use Rattle.uc_scopes.specs.Scopes.{scope_in};
-ghost use Rattle.uc_check_parts.specs.Watches.{watched, check_of};
+ghost use Rattle.uc_readings.specs.Scopes.{scope_in};
+ghost use Rattle.uc_checks.specs.Watches.{watched, check_of};
 ghost use Rattle.uc_checks.specs.Levels.{first_seen};
 
+use crate::Seen;
 use crate::checking::check_decls;
 use std::alloc::{AllocError, Global};
-use uc_check_parts::Seen;
-use uc_frame::all_keep;
 use uc_items::{Items, beside};
-use uc_layout::Layout;
+use uc_layout::{Layout, all_keep};
 use uc_meaning::{Interp, Site, State};
 use uc_operators::EvalError;
-use uc_scopes::ScopeRef;
+use uc_readings::ScopeRef;
 use uc_values::Value;
 
 /// How many instances stand inside each other at most.

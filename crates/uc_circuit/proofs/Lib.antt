@@ -6,3 +6,17 @@ pub mod Forcing
 pub mod Reaching
 pub mod SameLiterals
 pub mod Settling
+pub mod GateEquality
+pub mod Growing
+pub mod Sharing
+pub mod Numbers
+pub mod Pushing
+pub mod Choices
+pub mod Turns
+pub mod BitByBit
+pub mod Sums
+pub mod Orders
+pub mod Shifts
+pub mod Products
+pub mod Digits
+pub mod Joins

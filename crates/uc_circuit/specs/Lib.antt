@@ -5,3 +5,8 @@ pub mod Circuits
 pub mod Values
 pub mod ClauseStates
 pub mod Propagation
+pub mod Signals
+pub mod Building
+pub mod Meanings
+pub mod Adding
+pub mod Shifting

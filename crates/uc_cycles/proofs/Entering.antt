@@ -7,10 +7,10 @@ use Rattle.uc_meaning.specs.Lookup.{System, or_else}
 use Rattle.uc_rules.specs.Cycles.{TypeName}
 use Rattle.uc_rules.specs.Names.{only_if}
 use Rattle.uc_syntax.specs.declared.declaration.Module.{Module}
-use Rattle.uc_way_laws.specs.AliasLaw.{IsAmong}
-use Rattle.uc_way_laws.proofs.Among.{among_split}
-use Rattle.uc_name_table.specs.Senses.{module_in}
-use Rattle.uc_way_laws.specs.Names.{names_in}
+use Rattle.uc_declared_types.specs.AliasLaw.{IsAmong}
+use Rattle.uc_declared_types.proofs.Among.{among_split}
+use Rattle.uc_names.specs.Senses.{module_in}
+use Rattle.uc_declared_types.specs.Names.{names_in}
 use Rattle.uc_cycles.specs.declared.types.TypeKey.{TypeKey}
 use Rattle.uc_cycles.specs.declared.types.TypeNumbers.{TypeNumbers}
 use Rattle.uc_cycles.specs.declared.names.NameNumbers.{NameNumbers}

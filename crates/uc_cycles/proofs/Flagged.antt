@@ -6,13 +6,13 @@ use Rattle.uc_meaning.specs.Lookup.{System}
 use Rattle.uc_syntax.specs.declared.declaration.Module.{Module}
 use Rattle.uc_rules.specs.Cycles.{TypeName, alias_steps, instance_steps, leads_to, on_alias_cycle, on_instance_cycle, same_type_name}
 use Rattle.uc_rules.specs.Types.{longest_alias}
-use Rattle.uc_way_laws.specs.AliasLaw.{IsAmong}
-use Rattle.uc_way_laws.proofs.Among.{among_back}
-use Rattle.uc_name_table.specs.Senses.{module_in}
-use Rattle.uc_way_laws.specs.Names.{alias_names, names_in}
-use Rattle.uc_way_laws.proofs.Aliases.{alias_followed, covers}
-use Rattle.uc_way_laws.proofs.Instances.{instance_followed, module_names, named_module}
-use Rattle.uc_graph_cycles.specs.Cycles.{MarksCycles}
+use Rattle.uc_declared_types.specs.AliasLaw.{IsAmong}
+use Rattle.uc_declared_types.proofs.Among.{among_back}
+use Rattle.uc_names.specs.Senses.{module_in}
+use Rattle.uc_declared_types.specs.Names.{alias_names, names_in}
+use Rattle.uc_declared_types.proofs.WayLawsAliases.{alias_followed, covers}
+use Rattle.uc_declared_types.proofs.Instances.{instance_followed, module_names, named_module}
+use Rattle.uc_graph.specs.Cycles.{MarksCycles}
 use Rattle.uc_cycles.specs.declared.types.TypeKey.{TypeKey}
 use Rattle.uc_cycles.specs.declared.types.TypeNumbers.{TypeNumbers}
 use Rattle.uc_cycles.specs.declared.names.NameNumbers.{NameNumbers}

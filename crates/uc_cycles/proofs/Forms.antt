@@ -14,7 +14,7 @@ use Rattle.uc_syntax.specs.declared.declaration.Module.{Module}
 use Rattle.uc_meaning.specs.Lookup.{System, module_named}
 use Rattle.uc_rules.specs.Names.{type_named}
 use Rattle.uc_rules.specs.Cycles.{TypeName, entry_name, mentioned, mentioned_form, name_of_module}
-use Rattle.uc_way_laws.proofs.Declared.{each_parameter}
+use Rattle.uc_declared_types.proofs.Declared.{each_parameter}
 use Rattle.uc_cycles.specs.declared.types.TypeNumbers.{TypeNumbers}
 use Rattle.uc_cycles.specs.Numbers.{key_of, listed, type_number, type_places}
 use Rattle.uc_cycles.proofs.Lists.{flat_append, flat_all, flat_more, joined}

@@ -1,3 +1,9 @@
+mod Tests
+mod DefineReadsForms
+mod Adding
+mod Places
+mod DefineReadsEntering
+mod Naming
 mod Lists
 mod Entering
 mod Forms

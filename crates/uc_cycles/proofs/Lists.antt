@@ -5,8 +5,8 @@ use Rattle.std.specs.List.{flat_map}
 use Rattle.std.specs.Option.{option_map}
 use Rattle.std.proofs.lemmas.List.{append-nil, take_all, take_more}
 use Rattle.uc_syntax.specs.declared.declaration.Module.{Module}
-use Rattle.uc_way_laws.specs.AliasLaw.{IsAmong}
-use Rattle.uc_name_table.specs.Senses.{module_in}
+use Rattle.uc_declared_types.specs.AliasLaw.{IsAmong}
+use Rattle.uc_names.specs.Senses.{module_in}
 
 pub none_some : {A B : Type 0} (x : A) → None ≡ Some x → B
 none_some x h = cc

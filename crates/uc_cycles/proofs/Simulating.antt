@@ -4,11 +4,11 @@ use Rattle.std.specs.Prelude.{nat_eq, ◌||◌, slice_get, slice_index_or}
 use Rattle.std.specs.List.{flat_map, list_any}
 use Rattle.std.proofs.lemmas.List.Folds.{list_any-append}
 use Rattle.uc_rules.specs.Cycles.{leads_to}
-use Rattle.uc_way_laws.specs.AliasLaw.{IsAmong}
-use Rattle.uc_needed_first.specs.Order.{has, needs}
-use Rattle.uc_way_laws.proofs.Along.{any_by, any_there, either, nothing, or_left, or_right}
-use Rattle.uc_graph_cycles.specs.Cycles.{IsWay, LeadsTo, LiesOnCycle, MarksCycles}
-use Rattle.uc_graph_cycles.proofs.Ways.{by_edge, leads_on}
+use Rattle.uc_declared_types.specs.AliasLaw.{IsAmong}
+use Rattle.uc_graph.specs.Order.{has, needs}
+use Rattle.uc_declared_types.proofs.Along.{any_by, any_there, either, nothing, or_left, or_right}
+use Rattle.uc_graph.specs.Cycles.{IsWay, LeadsTo, LiesOnCycle, MarksCycles}
+use Rattle.uc_graph.proofs.GraphCyclesWays.{by_edge, leads_on}
 use Rattle.uc_cycles.specs.Numbers.{flag_at, listed}
 use Rattle.uc_cycles.proofs.Lists.{equal, index_map, index_none, none_some, same, same_some}
 

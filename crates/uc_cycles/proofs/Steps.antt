@@ -14,8 +14,8 @@ use Rattle.uc_meaning.specs.Lookup.{System, InstanceParts, instance_in, instance
 use Rattle.uc_meaning.specs.Types.{TypeEntry, Alias, Opaque}
 use Rattle.uc_rules.specs.Names.{type_of_module}
 use Rattle.uc_rules.specs.Cycles.{TypeName, alias_cycle_in, alias_steps, alias_steps_from, alias_steps_in, entry_name, entry_steps, instance_steps, instance_steps_from, mentioned, name_of_module}
-use Rattle.uc_name_table.specs.declared.senses.DeclaredType.{DeclaredType}
-use Rattle.uc_name_table.specs.Senses.{declared_meant, entry_at, module_in}
+use Rattle.uc_names.specs.declared.senses.DeclaredType.{DeclaredType}
+use Rattle.uc_names.specs.Senses.{declared_meant, entry_at, module_in}
 use Rattle.uc_cycles.specs.declared.names.NameNumbers.{NameNumbers}
 use Rattle.uc_cycles.specs.Numbers.{alias_of, alias_written, instance_name, instance_names, listed, name_number, name_places}
 use Rattle.uc_cycles.proofs.Lists.{flat_all, flat_append, flat_more, joined, none_some, same_some}

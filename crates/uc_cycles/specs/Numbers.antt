@@ -9,10 +9,10 @@ use Rattle.uc_syntax.specs.declared.declaration.Module.{Module}
 use Rattle.uc_meaning.specs.Lookup.{System}
 use Rattle.uc_meaning.specs.Types.{TypeEntry, Alias}
 use Rattle.uc_rules.specs.Cycles.{TypeName, on_alias_cycle, on_instance_cycle}
-use Rattle.uc_way_laws.specs.AliasLaw.{IsAmong}
-use Rattle.uc_name_table.specs.declared.firsts.Firsts.{Firsts}
-use Rattle.uc_name_table.specs.Senses.{module_in}
-use Rattle.uc_way_laws.specs.Names.{names_in}
+use Rattle.uc_declared_types.specs.AliasLaw.{IsAmong}
+use Rattle.uc_names.specs.declared.firsts.Firsts.{Firsts}
+use Rattle.uc_names.specs.Senses.{module_in}
+use Rattle.uc_declared_types.specs.Names.{names_in}
 use Rattle.uc_cycles.specs.declared.types.TypeKey.{TypeKey}
 use Rattle.uc_cycles.specs.declared.types.TypeNumbers.{TypeNumbers}
 use Rattle.uc_cycles.specs.declared.names.NameNumbers.{NameNumbers}

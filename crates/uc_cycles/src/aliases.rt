@@ -3,17 +3,16 @@
 ghost use Rattle.std.specs.Prelude.{◌≡◌, Some, map, slice_get, IfOk, OnOk};
 ghost use Rattle.std.specs.Option.{option_copied, option_map};
 ghost use Rattle.uc_rules.specs.Cycles.{alias_steps, alias_steps_in, entry_steps};
-ghost use Rattle.uc_name_table.specs.Senses.{declared_meant, entry_at, module_in};
+ghost use Rattle.uc_names.specs.Senses.{declared_meant, entry_at, module_in};
 ghost use Rattle.uc_cycles.specs.Numbers.{EntersAliases, HasAliases, KnowsTypes, alias_of, alias_written, key_name, type_places};
-ghost use Rattle.uc_way_laws.specs.Names.{names_in};
+ghost use Rattle.uc_declared_types.specs.Names.{names_in};
 
 use crate::mentioned::{add_mentioned, name_of};
 use crate::types::{TypeKey, TypeNumbers};
 use std::alloc::{AllocError, Global};
 use uc_items::{Items, at};
-use uc_name_table::DeclaredType;
+use uc_names::{DeclaredType, TypeHomes};
 use uc_syntax::{Decl, TypeExpr};
-use uc_type_homes::TypeHomes;
 
 /// The aliases that the first so many modules of a design declare.
 pub(crate) fn alias_numbers(

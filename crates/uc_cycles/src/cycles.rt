@@ -1,7 +1,7 @@
 //! What lies on a cycle in a design.
 
 ghost use Rattle.std.specs.Prelude.{◌≡◌, ◌≤◌, ℕ, length, map, IfOk};
-ghost use Rattle.uc_graph_cycles.specs.Cycles.{MarksCycles};
+ghost use Rattle.uc_graph.specs.Cycles.{MarksCycles};
 ghost use Rattle.uc_rules.specs.Cycles.{TypeName, alias_steps, instance_steps, on_alias_cycle, on_instance_cycle};
 ghost use Rattle.uc_cycles.specs.Numbers.{KnowsCycles, flag_at, is_alias_flagged, is_name_flagged, key_name, key_of, name_number, name_places, type_number, type_places};
 
@@ -10,9 +10,9 @@ use crate::instances::{instance_graph, module_numbers};
 use crate::names::NameNumbers;
 use crate::types::{TypeKey, TypeNumbers};
 use std::alloc::{AllocError, Global};
-use uc_graph_cycles::on_cycles;
+use uc_graph::on_cycles;
 use uc_items::{Items, beside};
-use uc_type_homes::TypeHomes;
+use uc_names::TypeHomes;
 
 /// The aliases and the modules of a design, with those that lie on a cycle.
 #[derive(Drop)]

@@ -8,8 +8,8 @@ use crate::mentioned::{add_place, name_of};
 use crate::names::NameNumbers;
 use std::alloc::{AllocError, Global};
 use uc_items::Items;
+use uc_names::TypeHomes;
 use uc_syntax::Decl;
-use uc_type_homes::TypeHomes;
 
 /// The names of the first so many modules of a design.
 pub(crate) fn module_numbers(

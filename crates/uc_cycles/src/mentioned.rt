@@ -5,15 +5,14 @@ ghost use Rattle.std.specs.List.{flat_map};
 ghost use Rattle.std.specs.Option.{option_map};
 ghost use Rattle.uc_rules.specs.Cycles.{entry_name, mentioned, name_of_module};
 ghost use Rattle.uc_meaning.specs.Lookup.{module_named};
-ghost use Rattle.uc_name_table.specs.Senses.{declared_meant, module_in};
+ghost use Rattle.uc_names.specs.Senses.{declared_meant, module_in};
 ghost use Rattle.uc_cycles.specs.Numbers.{listed, type_places};
 
 use crate::types::{TypeKey, TypeNumbers};
 use std::alloc::AllocError;
 use uc_items::Items;
-use uc_name_table::DeclaredType;
+use uc_names::{DeclaredType, TypeHomes};
 use uc_syntax::{Parameter, TypeExpr};
-use uc_type_homes::TypeHomes;
 
 /// Adds the places of the types that a written type of the module at a place names.
 #[cycle(add_mentioned)]

@@ -7,7 +7,7 @@ ghost use Rattle.uc_cycles.specs.Numbers.{EntersName, KnowsNames, name_number};
 
 use std::alloc::{AllocError, Global};
 use uc_items::Items;
-use uc_name_table::Firsts;
+use uc_names::Firsts;
 
 /// Names, each with its place among them.
 #[derive(Drop)]

@@ -19,7 +19,7 @@ use Rattle.uc_rules.specs.Statements.{bound_names}
 use Rattle.uc_rules.specs.Types.{parameter_faults, type_faults, type_of}
 use Rattle.uc_rules.proofs.Chains.{first_of_append}
 use Rattle.uc_rules.proofs.Lists.{drop_turn}
-use Rattle.uc_fault_order.proofs.Swaps.{any_order}
+use Rattle.uc_rules.proofs.Swaps.{any_order}
 use Rattle.uc_statement_rules.proofs.Declaring.{SameNames, repeated_front, repeated_none, repeated_turn}
 use Rattle.uc_declaration_rules.specs.Procedures.{NotesParameters}
 

@@ -20,7 +20,7 @@ use Rattle.uc_rules.specs.Faults.{breaks, breaks_where, broken, earlier, first_o
 use Rattle.uc_rules.specs.Names.{Valued, ValuedVariable, ValuedLabel, names_one_of, repeated_in_list, value_named}
 use Rattle.uc_rules.proofs.Chains.{first_of_append}
 use Rattle.uc_rules.proofs.Lists.{take_turn}
-use Rattle.uc_fault_order.proofs.Swaps.{any_order}
+use Rattle.uc_rules.proofs.Swaps.{any_order}
 use Rattle.uc_type_names.specs.NameSets.{with_name}
 use Rattle.uc_rules.specs.Statements.{is_written_value}
 use Rattle.uc_expression_rules.specs.Judging.{Judges}

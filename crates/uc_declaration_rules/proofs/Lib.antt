@@ -1,3 +1,5 @@
+mod Parts
+mod Repeats
 mod Listed
 mod Becoming
 mod Joined

@@ -1,2 +1,3 @@
+pub mod Seen
 pub mod Procedures
 pub mod Judging

@@ -2,7 +2,7 @@
 
 ghost use Rattle.std.specs.Prelude.{◌≡◌, Some, OnOk};
 ghost use Rattle.uc_declaration_rules.specs.Judging.{bound_faults, judged_and_bound, kind_faults, output_faults, value_faults, valued_faults};
-ghost use Rattle.uc_name_table.specs.Senses.{module_in, value_meant};
+ghost use Rattle.uc_names.specs.Senses.{module_in, value_meant};
 ghost use Rattle.uc_rules.specs.Declarations.{output_typed, output_valued};
 ghost use Rattle.uc_rules.specs.Faults.{first_of};
 ghost use Rattle.uc_rules.specs.Names.{value_named};
@@ -12,7 +12,7 @@ ghost use Rattle.std.specs.Option.{option_map};
 
 use std::alloc::{AllocError, Global};
 use uc_expression_rules::{judge, name_of};
-use uc_name_table::Value;
+use uc_names::Value;
 use uc_read_names::Scope;
 use uc_rules::{Fault, Rule, note, same_outcome, settle};
 use uc_statement_rules::is_written;

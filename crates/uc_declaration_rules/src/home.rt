@@ -1,7 +1,7 @@
 //! A module of a design, outside all scopes.
 
 ghost use Rattle.std.specs.Prelude.{◌≡◌};
-ghost use Rattle.uc_name_table.specs.Senses.{module_in};
+ghost use Rattle.uc_names.specs.Senses.{module_in};
 ghost use Rattle.uc_read_names.specs.Reading.{KnowsReads};
 ghost use Rattle.uc_rules.specs.Declarations.{in_module};
 
@@ -22,7 +22,7 @@ pub struct Home<'a, 'd> {
 
 impl<'a, 'd> Model for Home<'a, 'd> {
     ghost use Rattle.uc_rules.specs.Expressions.{Context};
-    ghost use Rattle.uc_name_table.specs.Senses.{module_in};
+    ghost use Rattle.uc_names.specs.Senses.{module_in};
     ghost use Rattle.uc_read_names.specs.Reading.{KnowsReads};
     ghost use Rattle.uc_rules.specs.Declarations.{in_module};
     ghost use Rattle.std.specs.Coded.{codes};

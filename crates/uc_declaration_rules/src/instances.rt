@@ -4,7 +4,7 @@ ghost use Rattle.std.specs.Prelude.{◌≡◌, IfOk, OnOk};
 ghost use Rattle.std.specs.List.{flat_map, list_all};
 ghost use Rattle.std.specs.Option.{option_map};
 ghost use Rattle.uc_declaration_rules.specs.Judging.{KnowsBindings, are_known, judged_and_bound, missing_faults};
-ghost use Rattle.uc_name_table.specs.Senses.{module_in};
+ghost use Rattle.uc_names.specs.Senses.{module_in};
 ghost use Rattle.uc_rules.specs.Declarations.{in_module, inputs_in, instance_faults};
 ghost use Rattle.uc_rules.specs.Faults.{first_of};
 

@@ -23,8 +23,8 @@ use Rattle.uc_rules.specs.Outcomes.{faults_in, type_in}
 use Rattle.uc_rules.specs.Types.{Aliases, TypeFound, array_outcome, entry_outcome, finds, found_by, known_fields, of_module, record_outcome}
 use Rattle.uc_rules.proofs.Chains.{first_of_append}
 use Rattle.uc_rules.proofs.Lists.{take_turn}
-use Rattle.uc_name_table.specs.declared.senses.DeclaredType.{DeclaredType}
-use Rattle.uc_name_table.specs.Senses.{declared_meant, module_in}
+use Rattle.uc_names.specs.declared.senses.DeclaredType.{DeclaredType}
+use Rattle.uc_names.specs.Senses.{declared_meant, module_in}
 use Rattle.uc_declared_types.specs.declared.aliases.AliasTypes.{AliasTypes}
 use Rattle.uc_declared_types.specs.Aliases.{Agrees, Related, Same, Side, fields_found, with_field_at_end}
 use Rattle.uc_declared_types.proofs.Sides.{array_related, field_at_end, field_related, record_related, related_on, same_related}

@@ -16,8 +16,8 @@ use Rattle.uc_rules.specs.Faults.{breaks_where, earlier, first_of}
 use Rattle.uc_rules.specs.Names.{names_one_of, repeated_in, repeated_in_list}
 use Rattle.uc_rules.specs.Outcomes.{faults_in, outcome_of, type_in}
 use Rattle.uc_rules.specs.Types.{Aliases, entry_outcome, entry_type, of_module}
-use Rattle.uc_name_table.specs.declared.senses.DeclaredType.{DeclaredType}
-use Rattle.uc_name_table.specs.Senses.{declared_meant, module_in}
+use Rattle.uc_names.specs.declared.senses.DeclaredType.{DeclaredType}
+use Rattle.uc_names.specs.Senses.{declared_meant, module_in}
 use Rattle.uc_declared_types.specs.declared.aliases.AliasTypes.{AliasTypes}
 use Rattle.uc_declared_types.specs.Aliases.{Agrees, Related, Side, alias_written, entry_of, same_declared, type_at, with_type}
 use Rattle.uc_declared_types.proofs.Sides.{nothing, related_on, same_related, type_again}

@@ -15,14 +15,14 @@ use Rattle.uc_meaning.specs.Types.{TypeEntry, Alias, Opaque}
 use Rattle.uc_rules.specs.Types.{Aliases, found_by, longest_alias, type_faults, type_found, type_of, type_through}
 use Rattle.uc_rules.specs.declared.fault.Fault.{Fault}
 use Rattle.uc_rules.specs.Faults.{first_of}
-use Rattle.uc_way_laws.specs.AliasLaw.{IsAmong, alias_in, aliases_of, aliases_of_module}
-use Rattle.uc_way_laws.proofs.Among.{among_back}
-use Rattle.uc_way_laws.proofs.Growing.{Refines, types_refine}
-use Rattle.uc_way_laws.proofs.Declared.{alias_declared}
-use Rattle.uc_way_laws.proofs.Stable.{alias_read}
-use Rattle.uc_name_table.specs.declared.senses.DeclaredType.{DeclaredType}
-use Rattle.uc_name_table.specs.Senses.{entry_at, module_in, no_module}
-use Rattle.uc_module_names.proofs.Forms.{module_found, module_missing}
+use Rattle.uc_declared_types.specs.AliasLaw.{IsAmong, alias_in, aliases_of, aliases_of_module}
+use Rattle.uc_declared_types.proofs.Among.{among_back}
+use Rattle.uc_declared_types.proofs.Growing.{Refines, types_refine}
+use Rattle.uc_declared_types.proofs.Declared.{alias_declared}
+use Rattle.uc_declared_types.proofs.Stable.{alias_read}
+use Rattle.uc_names.specs.declared.senses.DeclaredType.{DeclaredType}
+use Rattle.uc_names.specs.Senses.{entry_at, module_in, no_module}
+use Rattle.uc_names.proofs.Forms.{module_found, module_missing}
 use Rattle.uc_declared_types.specs.declared.aliases.AliasTypes.{AliasTypes}
 use Rattle.uc_declared_types.specs.Aliases.{Above, Agrees, Below, Follows, HasAliases, IsSettled, IsStuck, KnowsAliases, Related, Same, Side, entry_of, read_to_end, type_at}
 use Rattle.uc_declared_types.proofs.Sides.{nothing}

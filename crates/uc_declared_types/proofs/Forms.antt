@@ -20,7 +20,7 @@ use Rattle.uc_rules.specs.Names.{repeated_in_list, type_named}
 use Rattle.uc_rules.specs.Declarations.{identifiers_of}
 use Rattle.uc_rules.specs.Rows.{width_outcome}
 use Rattle.uc_rules.specs.Types.{Aliases, TypeFound, array_outcome, entry_outcome, finds, found_by, known_fields, of_module, record_outcome, type_form}
-use Rattle.uc_way_laws.proofs.Declared.{each_parameter}
+use Rattle.uc_declared_types.proofs.Declared.{each_parameter}
 use Rattle.uc_declared_types.specs.Aliases.{fields_found}
 
 names_mapped : {A B : Type 0} (f : A → B) (ps : List (Parameter A)) → map {B = Identifier} (λ p. p.identifier) (map (each_parameter f) ps) ≡ map {B = Identifier} (λ p. p.identifier) ps

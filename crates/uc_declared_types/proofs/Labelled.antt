@@ -6,8 +6,8 @@ use Rattle.std.proofs.lemmas.List.{map-append, length-map}
 use Rattle.uc_syntax.specs.declared.place.Identifier.{Identifier}
 use Rattle.uc_syntax.specs.declared.declaration.Module.{Module}
 use Rattle.uc_syntax.specs.WrittenTypes.{Written, enums_of, enums_of_module, labels_of}
-use Rattle.uc_written_types.specs.declared.enums.WrittenEnum.{WrittenEnum}
-use Rattle.uc_written_types.specs.Lent.{enum_meant, meant}
+use Rattle.uc_type_names.specs.declared.enums.WrittenEnum.{WrittenEnum}
+use Rattle.uc_type_names.specs.Lent.{enum_meant, meant}
 use Rattle.uc_declared_types.specs.Counts.{counts_in, written_counts}
 
 named : (is : List Identifier) → length is ≡ length (map {B = ℕ} (λ i. i.name) is)

@@ -10,10 +10,10 @@ use Rattle.uc_syntax.specs.declared.declaration.Decl.TheVariants.{TypeAlias}
 use Rattle.uc_syntax.specs.declared.declaration.Module.{Module}
 use Rattle.uc_meaning.specs.Lookup.{System}
 use Rattle.uc_meaning.specs.Types.{TypeEntry, Alias, Opaque}
-use Rattle.uc_way_laws.specs.AliasLaw.{IsAmong}
-use Rattle.uc_way_laws.proofs.Among.{among_left, among_right}
-use Rattle.uc_name_table.specs.declared.senses.DeclaredType.{DeclaredType}
-use Rattle.uc_name_table.specs.Senses.{entry_at, module_in}
+use Rattle.uc_declared_types.specs.AliasLaw.{IsAmong}
+use Rattle.uc_declared_types.proofs.Among.{among_left, among_right}
+use Rattle.uc_names.specs.declared.senses.DeclaredType.{DeclaredType}
+use Rattle.uc_names.specs.Senses.{entry_at, module_in}
 use Rattle.uc_declared_types.specs.Aliases.{HasAlias, HasAliases, IsAliasDeclaration, IsKept, entry_of}
 use Rattle.uc_declared_types.proofs.Fixed.{opaque_clash}
 

@@ -11,10 +11,10 @@ use Rattle.uc_meaning.specs.Lookup.{System}
 use Rattle.uc_meaning.specs.Types.{TypeEntry, Alias, Opaque}
 use Rattle.uc_rules.specs.Types.{Aliases, found_by}
 use Rattle.uc_rules.proofs.Lists.{take_turn}
-use Rattle.uc_way_laws.specs.AliasLaw.{IsAmong}
-use Rattle.uc_way_laws.proofs.Among.{among_left, among_right, among_split}
-use Rattle.uc_name_table.specs.declared.senses.DeclaredType.{DeclaredType}
-use Rattle.uc_name_table.specs.Senses.{module_in}
+use Rattle.uc_declared_types.specs.AliasLaw.{IsAmong}
+use Rattle.uc_declared_types.proofs.Among.{among_left, among_right, among_split}
+use Rattle.uc_names.specs.declared.senses.DeclaredType.{DeclaredType}
+use Rattle.uc_names.specs.Senses.{module_in}
 use Rattle.uc_declared_types.specs.declared.aliases.AliasTypes.{AliasTypes}
 use Rattle.uc_declared_types.specs.Aliases.{Above, Agrees, Below, Follows, IsSettled, IsStuck, IsTaken, KeepsKnown, KnowsAliases, Related, Side, alias_written, entry_of, read_to_end, same_declared, type_at, with_type}
 use Rattle.uc_declared_types.proofs.Entries.{alias_is}

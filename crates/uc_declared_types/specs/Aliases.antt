@@ -12,10 +12,10 @@ use Rattle.uc_rules.specs.Types.{Aliases, found_by, known_fields, longest_alias,
 use Rattle.uc_syntax.specs.declared.declaration.Decl.{Decl}
 use Rattle.uc_syntax.specs.declared.declaration.Decl.TheVariants.{TypeAlias}
 use Rattle.uc_syntax.specs.declared.declaration.Module.{Module}
-use Rattle.uc_way_laws.specs.AliasLaw.{IsAmong}
-use Rattle.uc_name_table.specs.contracts.senses.DeclaredTypePartialEq.TheImpl.{eq-value}
-use Rattle.uc_name_table.specs.declared.senses.DeclaredType.{DeclaredType}
-use Rattle.uc_name_table.specs.Senses.{entry_at, module_in}
+use Rattle.uc_declared_types.specs.AliasLaw.{IsAmong}
+use Rattle.uc_names.specs.contracts.senses.DeclaredTypePartialEq.TheImpl.{eq-value}
+use Rattle.uc_names.specs.declared.senses.DeclaredType.{DeclaredType}
+use Rattle.uc_names.specs.Senses.{entry_at, module_in}
 use Rattle.uc_declared_types.specs.declared.aliases.AliasTypes.{AliasTypes}
 
 -- what a table knows of a declared type

@@ -4,7 +4,7 @@ use Rattle.std.specs.List.{flat_map}
 use Rattle.uc_syntax.specs.declared.declaration.Module.{Module}
 use Rattle.uc_syntax.specs.WrittenTypes.{enums_of_module}
 use Rattle.uc_meaning.specs.Lookup.{System}
-use Rattle.uc_written_types.specs.declared.enums.WrittenEnum.{WrittenEnum}
+use Rattle.uc_type_names.specs.declared.enums.WrittenEnum.{WrittenEnum}
 use Rattle.uc_declared_types.specs.declared.aliases.AliasTypes.{AliasTypes}
 use Rattle.uc_declared_types.specs.Aliases.{KnowsAliases}
 

@@ -2,12 +2,12 @@
 
 ghost use Rattle.std.specs.Prelude.{◌≡◌, None, IfOk, OnOk};
 ghost use Rattle.std.specs.Option.{is_some};
-ghost use Rattle.uc_name_table.specs.declared.senses.DeclaredType.{DeclaredType};
+ghost use Rattle.uc_names.specs.declared.senses.DeclaredType.{DeclaredType};
 ghost use Rattle.uc_declared_types.specs.Aliases.{type_at, with_type};
 
 use indexmap::IndexMap;
 use std::alloc::{AllocError, Global};
-use uc_name_table::DeclaredType;
+use uc_names::DeclaredType;
 use uc_values::{Ty, copy_ty};
 
 /// The type of each alias that was read, by where it is declared.

@@ -7,7 +7,7 @@ ghost use Rattle.uc_declared_types.specs.Counts.{counts_in, written_counts};
 use std::alloc::{AllocError, Global};
 use uc_items::Items;
 use uc_syntax::Module;
-use uc_written_types::{WrittenEnum, enums_of};
+use uc_type_names::{WrittenEnum, enums_of};
 
 /// How many labels each enum of some modules has, in the order of the text.
 #[tactic(auto, using(uc_syntax::proofs::Added::added_begin, uc_syntax::proofs::Added::added_more, uc_syntax::proofs::Added::added_end))]

@@ -2,7 +2,7 @@
 
 ghost use Rattle.std.specs.Prelude.{◌≡◌, ◌≤◌, length, IfOk, OnOk};
 ghost use Rattle.uc_lookup.specs.Parts.{system_in};
-ghost use Rattle.uc_name_table.specs.Senses.{module_in};
+ghost use Rattle.uc_names.specs.Senses.{module_in};
 ghost use Rattle.uc_rules.specs.Faults.{first_of};
 ghost use Rattle.uc_rules.specs.Expressions.{enum_of};
 ghost use Rattle.uc_rules.specs.Types.{type_faults, type_of};
@@ -19,9 +19,9 @@ use std::alloc::{AllocError, Global};
 use std::marker::Model;
 use uc_items::{Items, beside};
 use uc_lookup::SystemRef;
+use uc_names::TypeHomes;
 use uc_rules::Fault;
 use uc_syntax::TypeExpr;
-use uc_type_homes::TypeHomes;
 use uc_values::Ty;
 
 /// A design with what its names stand for and with the types of its aliases.

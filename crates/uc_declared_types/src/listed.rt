@@ -1,14 +1,13 @@
 //! The aliases that a design declares.
 
 ghost use Rattle.std.specs.Prelude.{OnOk, IfOk};
-ghost use Rattle.uc_way_laws.specs.AliasLaw.{IsAmong};
+ghost use Rattle.uc_declared_types.specs.AliasLaw.{IsAmong};
 ghost use Rattle.uc_declared_types.specs.Aliases.{HasAlias, HasAliases, IsAliasDeclaration, IsKept};
 
 use std::alloc::{AllocError, Global};
 use uc_items::Items;
-use uc_name_table::DeclaredType;
+use uc_names::{DeclaredType, TypeHomes};
 use uc_syntax::Decl;
-use uc_type_homes::TypeHomes;
 
 /// The aliases that the first so many modules of a design declare.
 pub(crate) fn aliases_of(

@@ -2,7 +2,7 @@
 
 ghost use Rattle.std.specs.Prelude.{◌≡◌, IfOk, OnOk};
 ghost use Rattle.std.specs.Option.{option_copied, option_map};
-ghost use Rattle.uc_name_table.specs.Senses.{declared_meant, entry_at, module_in};
+ghost use Rattle.uc_names.specs.Senses.{declared_meant, entry_at, module_in};
 ghost use Rattle.std.specs.Prelude.{Some};
 ghost use Rattle.uc_rules.specs.Faults.{first_of};
 ghost use Rattle.uc_rules.specs.Outcomes.{faults_in, type_in};
@@ -12,10 +12,9 @@ ghost use Rattle.uc_declared_types.specs.Aliases.{Agrees, Related, Side, alias_w
 use crate::aliases::AliasTypes;
 use std::alloc::{AllocError, Global};
 use uc_items::at;
-use uc_name_table::DeclaredType;
+use uc_names::{DeclaredType, TypeHomes};
 use uc_rules::{Fault, Rule, note};
 use uc_syntax::{Decl, Place, TypeExpr};
-use uc_type_homes::TypeHomes;
 use uc_values::Ty;
 
 /// The type that an alias writes, where the declared type is an alias.

@@ -4,11 +4,10 @@
 use crate::named::alias_written;
 use indexmap::IndexMap;
 use std::alloc::{AllocError, Global};
+use uc_graph::needed_first;
 use uc_items::Items;
-use uc_name_table::DeclaredType;
-use uc_needed_first::needed_first;
+use uc_names::{DeclaredType, TypeHomes};
 use uc_syntax::{Parameter, TypeExpr};
-use uc_type_homes::TypeHomes;
 
 /// The places of aliases in a list.
 #[derive(Drop)]

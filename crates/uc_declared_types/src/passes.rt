@@ -1,8 +1,8 @@
 //! Reading aliases until no more become known.
 
 ghost use Rattle.std.specs.Prelude.{◌≡◌, ◌⊎◌, ◌≤◌, length, nat_eq, IfOk, OnOk};
-ghost use Rattle.uc_way_laws.specs.AliasLaw.{IsAmong};
-ghost use Rattle.uc_name_table.specs.declared.senses.DeclaredType.{DeclaredType};
+ghost use Rattle.uc_declared_types.specs.AliasLaw.{IsAmong};
+ghost use Rattle.uc_names.specs.declared.senses.DeclaredType.{DeclaredType};
 ghost use Rattle.uc_declared_types.specs.Aliases.{Agrees, Below, IsSettled, IsStuck, IsTaken, KeepsKnown, KnowsAliases, read_to_end};
 
 use crate::aliases::AliasTypes;
@@ -10,8 +10,7 @@ use crate::named::alias_written;
 use crate::reading::note_type;
 use std::alloc::{AllocError, Global};
 use uc_items::Items;
-use uc_name_table::DeclaredType;
-use uc_type_homes::TypeHomes;
+use uc_names::{DeclaredType, TypeHomes};
 
 /// Reads an alias, where it isn't known and what it rests on is. One that stays unknown is kept for later.
 fn read_alias(

@@ -2,7 +2,7 @@
 
 ghost use Rattle.std.specs.Prelude.{◌≡◌, IfOk, OnOk};
 ghost use Rattle.std.specs.List.{flat_map};
-ghost use Rattle.uc_name_table.specs.Senses.{module_in};
+ghost use Rattle.uc_names.specs.Senses.{module_in};
 ghost use Rattle.uc_rules.specs.Faults.{first_of};
 ghost use Rattle.uc_rules.specs.Names.{repeated_in_list};
 ghost use Rattle.uc_rules.specs.Declarations.{identifiers_of};
@@ -16,9 +16,9 @@ use crate::named::{note_named, word};
 use crate::shapes::array_outcome;
 use std::alloc::{AllocError, Global};
 use uc_items::Items;
+use uc_names::TypeHomes;
 use uc_rules::{Fault, Rule, note, settle, width_outcome};
 use uc_syntax::{Identifier, Parameter, Place, TypeExpr};
-use uc_type_homes::TypeHomes;
 use uc_type_names::{NameSet, note_repeated_parameters};
 use uc_values::{Field, Ty};
 

@@ -17,7 +17,7 @@ use Rattle.uc_meaning.specs.declared.scope.Local.{Local}
 use Rattle.uc_meaning.specs.Lookup.{System, Defined, Signature, InstanceParts, first_some, or_else, some_if, is_named, define_in, define_of, function_of, instance_in, instances_of, instance_of, bound_to, module_named, module_from, module_at, main_module, variable_of, parent_of}
 use Rattle.uc_meaning.specs.Types.{label_of}
 use Rattle.uc_meaning.specs.Expressions.{Source, OfValue, OfCell, OfBinding, Meant, meaning_of, name_meaning, global_meaning, module_meaning, declared_meaning, variable_source, cell_source, binding_from, binding_of, local_of, Applied, OfDefine, applied, applied_in, applied_name, applied_function}
-use Rattle.uc_shapes.specs.Shapes.{size, total}
+use Rattle.uc_meaning.specs.Shapes.{size, total}
 
 -- what is weighed, and nothing where there is none
 abbrev pub weight : {A : Type 0} → (A → ℕ) → Option A → ℕ

@@ -14,7 +14,7 @@ use Rattle.uc_meaning.specs.Expressions.{Reading, reads, name, reading_through, 
 use Rattle.uc_meaning.specs.Overflow.{name_met, met_through}
 use Rattle.uc_meaning.proofs.Equations.{map-map}
 use Rattle.uc_readings.specs.Readings.{on_bits_said}
-use Rattle.uc_shapes.specs.Levels.{reading_at, type_at, value_at, met_at, select_all_at, selections_met_at, head_reading, head_rest, head_met}
+use Rattle.uc_meaning.specs.Levels.{reading_at, type_at, value_at, met_at, select_all_at, selections_met_at, head_reading, head_rest, head_met}
 
 on_bits_pair : (f : BitFunction) (rs : List Reading) → on_bits_said f (map (λ r. r.type) rs) (map (λ r. r.value) rs) ≡ on_bits_reading f rs
 on_bits_pair f [] = refl

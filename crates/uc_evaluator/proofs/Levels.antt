@@ -6,7 +6,7 @@ use Rattle.uc_meaning.specs.declared.overflow.Wide.{Wide}
 use Rattle.uc_meaning.specs.Lookup.{System}
 use Rattle.uc_meaning.specs.Expressions.{Reading, reads_nothing, reading, reading_through, longest_way, name}
 use Rattle.uc_meaning.specs.Overflow.{met, met_through, name_met}
-use Rattle.uc_shapes.specs.Levels.{reading_at, met_at}
+use Rattle.uc_meaning.specs.Levels.{reading_at, met_at}
 
 reading_level : (n : ℕ) (system : System) (s : Scope) (e : Expr) → reading_through (suc n) system s e ≡ reading_at n system s e
 unfolding reading_through

@@ -9,8 +9,8 @@ use Rattle.uc_meaning.specs.Lookup.{System}
 use Rattle.uc_meaning.specs.Expressions.{Reading, reads, OfBinding, means, meaning_of, meant_reading, name, reading_through, OfDefine, applied, applied_reading}
 use Rattle.uc_meaning.specs.Overflow.{source_met, name_met, applied_met, met_through}
 use Rattle.uc_operators.specs.Overflows.{first_wide}
-use Rattle.uc_shapes.specs.Shapes.{size}
-use Rattle.uc_sources.specs.Sources.{IsKnown, IsResult}
+use Rattle.uc_meaning.specs.Shapes.{size}
+use Rattle.uc_readings.specs.Sources.{IsKnown, IsResult}
 use Rattle.uc_evaluator.proofs.Bodies.{bodies, source_size, meaning_size, applied_size, application_size}
 
 module _ (n : ℕ) (system : System) (s : Scope) where

@@ -17,9 +17,9 @@ use Rattle.uc_meaning.specs.Expressions.{Reading, reads, reads_truth, element_ty
 use Rattle.uc_meaning.specs.Overflow.{unary_operations}
 use Rattle.uc_operators.specs.declared.error.EvalError.{EvalError}
 use Rattle.uc_operators.specs.Overflows.{first_wide, TellsWide}
-use Rattle.uc_shapes.specs.declared.shape.Chain.{Chain}
-use Rattle.uc_shapes.specs.Levels.{reading_at, type_at, value_at, met_at}
-use Rattle.uc_shapes.specs.Shapes.{IsChain, IsCompared, IsApplied, chain_reading, chain_operations}
+use Rattle.uc_meaning.specs.declared.shape.Chain.{Chain}
+use Rattle.uc_meaning.specs.Levels.{reading_at, type_at, value_at, met_at}
+use Rattle.uc_meaning.specs.Shapes.{IsChain, IsCompared, IsApplied, chain_reading, chain_operations}
 use Rattle.uc_evaluator.proofs.Told.{none_both, none_first, told_first, told_same, told_second}
 
 module _ (n : ℕ) (system : System) (s : Scope) (e : Expr) where

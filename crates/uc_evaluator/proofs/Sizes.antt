@@ -1,6 +1,6 @@
 -- The parts of a list are no larger than all of it.
 use Rattle.std.proofs.Common.{◌≡◌, ℕ, zero, suc, ◌+◌, ◌<◌, ◌≤◌, List, [], ◌∷◌, map, length, drop, get_or, ap, arith}
-use Rattle.uc_shapes.specs.Shapes.{total}
+use Rattle.uc_meaning.specs.Shapes.{total}
 
 among : {A : Type 0} (w : A → ℕ) (xs : List A) (k : ℕ) (d : A) → k < length xs → w (get_or xs k d) ≤ total (map w xs)
 unfolding total

@@ -15,7 +15,7 @@ use Rattle.uc_meaning.specs.Operators.{holds}
 use Rattle.uc_meaning.specs.Expressions.{Reading}
 use Rattle.uc_operators.specs.declared.error.EvalError.{EvalError}
 use Rattle.uc_operators.specs.Overflows.{first_wide, TellsWide}
-use Rattle.uc_shapes.specs.Levels.{reading_at, value_at, met_at, chosen_at, chosen_met_at, select_at, select_all_at}
+use Rattle.uc_meaning.specs.Levels.{reading_at, value_at, met_at, chosen_at, chosen_met_at, select_at, select_all_at}
 use Rattle.uc_evaluator.proofs.Told.{none_first, none_both, told_first, told_second}
 
 split : {A : Type 0} (xs : List A) (k : ℕ) (x d : A) → k < length xs → x ≡ get_or xs k d → drop k xs ≡ x ∷ drop (k + 1) xs

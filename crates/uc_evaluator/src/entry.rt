@@ -4,7 +4,7 @@ ghost use Rattle.std.specs.Prelude.{◌≡◌, IfOk};
 ghost use Rattle.uc_meaning.specs.Expressions.{value, reading, is_true, name as name_says};
 ghost use Rattle.uc_meaning.specs.Overflow.{met, name_met};
 ghost use Rattle.uc_operators.specs.Overflows.{first_wide, TellsWide};
-ghost use Rattle.uc_scopes.specs.Scopes.{scope_in};
+ghost use Rattle.uc_readings.specs.Scopes.{scope_in};
 ghost use Rattle.uc_readings.specs.Readings.{reading_of};
 
 use crate::evaluation::{named, said};
@@ -13,8 +13,7 @@ use std::alloc::Global;
 use uc_layout::Layout;
 use uc_meaning::Scope;
 use uc_operators::EvalError;
-use uc_readings::Said;
-use uc_scopes::ScopeRef;
+use uc_readings::{Said, ScopeRef};
 use uc_syntax::Expr;
 use uc_values::Value;
 

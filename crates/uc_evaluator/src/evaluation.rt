@@ -6,21 +6,19 @@ ghost use Rattle.uc_meaning.specs.Operators.{holds};
 ghost use Rattle.uc_meaning.specs.Expressions.{Reading, reads, name as name_says, reading_through, applied, applied_reading};
 ghost use Rattle.uc_meaning.specs.Overflow.{name_met, applied_met, met_through};
 ghost use Rattle.uc_operators.specs.Overflows.{first_wide, TellsWide};
-ghost use Rattle.uc_shapes.specs.Levels.{reading_at, type_at, value_at, met_at, chosen_at, chosen_met_at, select_at, select_all_at, selection_met_at, selections_met_at, head_reading, head_rest, head_met};
-ghost use Rattle.uc_scopes.specs.Scopes.{scope_in};
+ghost use Rattle.uc_meaning.specs.Levels.{reading_at, type_at, value_at, met_at, chosen_at, chosen_met_at, select_at, select_all_at, selection_met_at, selections_met_at, head_reading, head_rest, head_met};
+ghost use Rattle.uc_readings.specs.Scopes.{scope_in};
 ghost use Rattle.uc_readings.specs.Readings.{reading_of};
 
 use crate::operands::{Operands, chained, is_held, retyped};
 use std::alloc::Global;
 use uc_layout::Layout;
+use uc_meaning::{Shape, shape_of};
 use uc_operators::EvalError;
 use uc_readings::{
-    Said, applied, bits_literal, compared, element, extracted, field, number, on_bits, truth,
-    updated,
+    Applied, Meant, Said, ScopeRef, application, applied, bits_literal, compared, element,
+    extracted, field, meaning, number, on_bits, reached, truth, updated, with_locals,
 };
-use uc_scopes::{ScopeRef, reached};
-use uc_shapes::{Shape, shape_of};
-use uc_sources::{Applied, Meant, application, meaning, with_locals};
 use uc_syntax::{Branch, Expr, Primary, Selection};
 use uc_values::{Ty, Value};
 

@@ -5,14 +5,14 @@ ghost use Rattle.uc_values.specs.declared.ty.Ty.{Ty};
 ghost use Rattle.uc_values.specs.declared.value.Value.{Value};
 ghost use Rattle.uc_meaning.specs.Operators.{holds};
 ghost use Rattle.uc_operators.specs.Overflows.{first_wide, TellsWide};
-ghost use Rattle.uc_shapes.specs.Shapes.{chain_reading, chain_operations};
+ghost use Rattle.uc_meaning.specs.Shapes.{chain_reading, chain_operations};
 ghost use Rattle.uc_readings.specs.Readings.{reading_of};
 
 use std::alloc::{AllocError, Global};
 use uc_items::Items;
+use uc_meaning::Chain;
 use uc_operators::{BitOperator, EvalError, all_hold, any_holds, equivalent, holds, implied};
 use uc_readings::{Said, bitwise, joined, multiple, total, truth};
-use uc_shapes::Chain;
 use uc_values::{Ty, Value};
 
 /// The types and the values of several expressions.

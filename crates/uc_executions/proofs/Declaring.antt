@@ -12,12 +12,12 @@ use Rattle.uc_values.specs.Values.{fits}
 use Rattle.uc_meaning.specs.Lookup.{System, module_at, module_from, main_module}
 use Rattle.uc_meaning.specs.Types.{type_of_written}
 use Rattle.uc_meaning.specs.Code.{Running, Goes as GoesOn, Unfit, take_choice, declare, declare_at, push_local}
-use Rattle.uc_run_forms.specs.declared.run.Run.{Run}
-use Rattle.uc_run_forms.specs.declared.run.Ending.{Ending}
-use Rattle.uc_run_forms.specs.declared.run.Ending.TheVariants.{Goes}
-use Rattle.uc_run_forms.specs.Runs.{running, ending_of}
-use Rattle.uc_run_forms.proofs.Choices.{declare_one, declare_all, declares_none, declares_next}
-use Rattle.uc_run_forms.proofs.Loops.{runs_end, runs_more, runs_out}
+use Rattle.uc_runs.specs.declared.run.Run.{Run}
+use Rattle.uc_runs.specs.declared.run.Ending.{Ending}
+use Rattle.uc_runs.specs.declared.run.Ending.TheVariants.{Goes}
+use Rattle.uc_runs.specs.Runs.{running, ending_of}
+use Rattle.uc_runs.proofs.RunFormsChoices.{declare_one, declare_all, declares_none, declares_next}
+use Rattle.uc_runs.proofs.Loops.{runs_end, runs_more, runs_out}
 
 abbrev pub pair_of : Parameter TypeExpr → ℕ × TypeExpr
 pair_of p = (p.identifier.name, p.ty)

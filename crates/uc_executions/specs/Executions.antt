@@ -13,9 +13,9 @@ use Rattle.uc_meaning.specs.Expressions.{bind}
 use Rattle.uc_meaning.specs.Code.{Ending, then_run, run, declare, names_with_types}
 use Rattle.uc_meaning.specs.Steps.{scope_of}
 use Rattle.uc_meaning.specs.Ends.{begun}
-use Rattle.uc_overflows.specs.Runs.{met_after, run_met}
-use Rattle.uc_trace_checks.specs.Asked.{Asked}
-use Rattle.uc_trace_checks.specs.Judged.{falsity_asked}
+use Rattle.uc_meaning.specs.OverflowsRuns.{met_after, run_met}
+use Rattle.uc_executions.specs.Asked.{Asked}
+use Rattle.uc_executions.specs.Judged.{falsity_asked}
 
 -- where a procedure of main begins
 abbrev pub entry_at : System → Module → Interp → Procedure → State → List Value → Scope

@@ -1,1 +1,5 @@
+pub mod Starts
+pub mod Asked
+pub mod Formulas
+pub mod Judged
 pub mod Executions

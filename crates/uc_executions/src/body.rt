@@ -5,9 +5,9 @@ ghost use Rattle.uc_syntax.specs.declared.declaration.Module.{Module};
 ghost use Rattle.uc_meaning.specs.Lookup.{module_at};
 ghost use Rattle.uc_meaning.specs.Code.{declare, names_with_types, then_run, run as run_code};
 ghost use Rattle.uc_meaning.specs.Ends.{IsEnd, begun};
-ghost use Rattle.uc_overflows.specs.Runs.{run_met, met_after};
+ghost use Rattle.uc_meaning.specs.OverflowsRuns.{run_met, met_after};
 ghost use Rattle.uc_operators.specs.Overflows.{first_wide, TellsWide};
-ghost use Rattle.uc_run_forms.specs.Runs.{running, ending_of};
+ghost use Rattle.uc_runs.specs.Runs.{running, ending_of};
 ghost use Rattle.uc_executions.specs.Executions.{body_ending, body_met};
 
 use std::alloc::{AllocError, Global};
@@ -16,8 +16,7 @@ use uc_items::Items;
 use uc_layout::Layout;
 use uc_meaning::{CodeEnd, Scope};
 use uc_operators::EvalError;
-use uc_run_forms::{Ending, Run, declared};
-use uc_runs::{code_end, run_each};
+use uc_runs::{Ending, Run, code_end, declared, run_each};
 use uc_syntax::{Parameter, Procedure, Stmt, TypeExpr};
 use uc_values::Value;
 

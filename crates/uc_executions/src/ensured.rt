@@ -8,7 +8,7 @@ ghost use Rattle.uc_meaning.specs.Runs.{ensures_in, ensures_of};
 ghost use Rattle.uc_meaning.specs.Lines.{EnsuresFails};
 ghost use Rattle.uc_meaning.specs.Ends.{begun};
 ghost use Rattle.uc_operators.specs.Overflows.{first_wide, TellsWide};
-ghost use Rattle.uc_scopes.specs.Scopes.{scope_in};
+ghost use Rattle.uc_readings.specs.Scopes.{scope_in};
 ghost use Rattle.uc_executions.specs.Executions.{ensures_asked};
 
 use std::alloc::Global;
@@ -16,7 +16,7 @@ use uc_evaluator::is_true;
 use uc_layout::Layout;
 use uc_meaning::{Scope, State};
 use uc_operators::EvalError;
-use uc_scopes::ScopeRef;
+use uc_readings::ScopeRef;
 use uc_syntax::{Clause, Expr, Procedure};
 
 /// Whether the `ensures` of a number, counted from 1, is there and false at an exit from an entry state.

@@ -10,11 +10,10 @@ ghost use Rattle.uc_executions.specs.Executions.{entry_at, body_ending, body_met
 use crate::body::body_end;
 use std::alloc::{AllocError, Global};
 use uc_items::{Items, beside};
-use uc_layout::Layout;
+use uc_layout::{Layout, main_scope};
 use uc_meaning::{CodeEnd, Interp, Local, Scope, State};
 use uc_operators::EvalError;
-use uc_sources::bound_locals;
-use uc_states::main_scope;
+use uc_readings::bound_locals;
 use uc_syntax::{Module, Procedure};
 use uc_values::Value;
 

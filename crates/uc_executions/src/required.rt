@@ -7,15 +7,15 @@ ghost use Rattle.std.specs.Option.{option_copied};
 ghost use Rattle.uc_meaning.specs.Expressions.{is_true};
 ghost use Rattle.uc_meaning.specs.Code.{requires_of, requires_in};
 ghost use Rattle.uc_operators.specs.Overflows.{first_wide, TellsWide};
-ghost use Rattle.uc_trace_checks.specs.Asked.{ask_each};
-ghost use Rattle.uc_trace_checks.specs.Formulas.{truth_asked, truth_if};
+ghost use Rattle.uc_executions.specs.Asked.{ask_each};
+ghost use Rattle.uc_executions.specs.Formulas.{truth_asked, truth_if};
 
 use std::alloc::Global;
 use uc_evaluator::is_true;
 use uc_layout::Layout;
 use uc_meaning::Scope;
 use uc_operators::EvalError;
-use uc_scopes::ScopeRef;
+use uc_readings::ScopeRef;
 use uc_syntax::{Clause, Expr, Procedure};
 
 /// Whether each `requires` of a procedure is true in a scope, asked in order up to the first that is false.

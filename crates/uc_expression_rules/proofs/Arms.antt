@@ -7,7 +7,7 @@ use Rattle.uc_rules.specs.Outcomes.{faults_in, type_in}
 use Rattle.uc_rules.specs.Rows.{condition, same_outcome}
 use Rattle.uc_rules.specs.Expressions.{Own, kept_where}
 use Rattle.uc_rules.proofs.Chains.{first_of_append}
-use Rattle.uc_fault_order.proofs.Swaps.{any_order}
+use Rattle.uc_rules.proofs.Swaps.{any_order}
 use Rattle.uc_expression_rules.specs.declared.branches.JudgedBranch.{JudgedBranch}
 use Rattle.uc_expression_rules.specs.Judging.{FindsOutcome, FindsOwn, own_of_branch}
 

@@ -7,7 +7,7 @@ ghost use Rattle.uc_expression_rules.specs.Judging.{bits_outcome};
 
 use uc_rules::{Outcome, Rule};
 use uc_syntax::BitFunction;
-use uc_type_forms::{extended, shifted};
+use uc_type_names::{extended, shifted};
 use uc_values::Ty;
 
 /// What a function on bits gives, by the types of its arguments and by the number of the first one, where that is a plain number.

@@ -9,7 +9,7 @@ use std::alloc::{AllocError, Global};
 use uc_items::Items;
 use uc_rules::{Chain, Fault, comparison, judge_chain, settle, unary};
 use uc_syntax::{Comparison, Place, SumSign, UnaryOperator};
-use uc_type_forms::judge_product;
+use uc_type_names::judge_product;
 use uc_values::Ty;
 
 /// The type of a chain of operators from the left.

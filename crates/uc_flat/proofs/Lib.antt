@@ -9,3 +9,6 @@ pub mod Constants
 pub mod Repeating
 pub mod Making
 pub mod Executing
+pub mod Front
+pub mod Running
+pub mod FlatTracesFinding

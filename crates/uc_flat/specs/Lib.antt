@@ -8,3 +8,6 @@ pub mod Laws
 pub mod Flats
 pub mod Unrolled
 pub mod Executions
+pub mod Front
+pub mod Traces
+pub mod FlatTracesLaws

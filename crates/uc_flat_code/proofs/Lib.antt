@@ -1,5 +1,15 @@
 pub mod Forms
 pub mod Sparing
 pub mod Replaced
-pub mod Assigning
+pub mod FlatCodeAssigning
 pub mod Arms
+pub mod CellTypes
+pub mod Zeros
+pub mod Names
+pub mod Orders
+pub mod Targets
+pub mod FlatInitForms
+pub mod After
+pub mod NewCells
+pub mod Adding
+pub mod Shapes

@@ -1,2 +1,9 @@
 pub mod Code
 pub mod Walk
+pub mod CellTypes
+pub mod Zero
+pub mod Init
+pub mod FlatInitWalk
+pub mod Once
+pub mod FlatOnceWalk
+pub mod Written

@@ -85,7 +85,7 @@ fn fields_of(ty: &Ty) -> &[Field<Ty>]
 }
 
 /// The fields with another one in a place, if there is such a place.
-#[tactic(auto, using(crate::proofs::Assigning::set_past))]
+#[tactic(auto, using(crate::proofs::FlatCodeAssigning::set_past))]
 fn put(fields: Items<Expression>, place: usize, field: Expression) -> Items<Expression>
     ensures { result ≡ slice_set fields place field }
 {

@@ -151,7 +151,7 @@ fn one_assigned(
 }
 
 /// Each target takes the value of its source, from left to right.
-#[tactic(auto, using(crate::proofs::Assigning::uneven_none, crate::proofs::Assigning::targets_begin))]
+#[tactic(auto, using(crate::proofs::FlatCodeAssigning::uneven_none, crate::proofs::FlatCodeAssigning::targets_begin))]
 pub(crate) fn assign(
     alloc: Global,
     names: &[Meant],

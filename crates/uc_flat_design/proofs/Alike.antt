@@ -17,9 +17,9 @@ use Rattle.uc_flat.specs.declared.expression.Expression.TheVariants.{rolls-Cell,
 use Rattle.uc_flat.specs.declared.expression.Expression.TheFolds.{ind-Expression, map-Expression}
 use Rattle.uc_flat.specs.Reading.{read, value_of}
 use Rattle.uc_flat.proofs.Forms.{read_cell, read_apply}
-use Rattle.uc_flat_once.specs.declared.once.Part.{Part}
-use Rattle.uc_flat_once.specs.Once.{new_cell, new_cells}
-use Rattle.uc_flat_once.proofs.NewCells.{new_cells_cell, new_cells_apply}
+use Rattle.uc_flat_code.specs.declared.once.Part.{Part}
+use Rattle.uc_flat_code.specs.Once.{new_cell, new_cells}
+use Rattle.uc_flat_code.proofs.NewCells.{new_cells_cell, new_cells_apply}
 use Rattle.uc_flat_design.proofs.Effects.{IsSub, Holds, holds_own, sub_left, sub_right}
 use Rattle.uc_flat_design.proofs.Halves.{part_behind}
 use Rattle.uc_flat_design.proofs.Settled.{at_fields}

@@ -13,9 +13,9 @@ use Rattle.uc_meaning.specs.Steps.{CellPart, Watched, Kept, kept_if, writes, par
 use Rattle.uc_ops.specs.Typing.{part_type}
 use Rattle.uc_ops.specs.Meaning.{part}
 use Rattle.uc_flat.specs.Running.{next_of}
-use Rattle.uc_flat_init_law.proofs.Fields.{placed}
-use Rattle.uc_flat_once.specs.declared.once.Part.{Part}
-use Rattle.uc_flat_once.specs.Once.{overlaps, touched}
+use Rattle.uc_flat_design.proofs.Fields.{placed}
+use Rattle.uc_flat_code.specs.declared.once.Part.{Part}
+use Rattle.uc_flat_code.specs.Once.{overlaps, touched}
 
 pub true_false : true ≡ false → ⊥
 true_false h = cc

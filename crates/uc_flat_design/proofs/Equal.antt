@@ -12,7 +12,7 @@ use Rattle.uc_values.proofs.Shapes.{and_true}
 use Rattle.uc_meaning.specs.Expressions.{Reading, reads, fields_of, field_type, field_reading}
 use Rattle.uc_meaning.specs.Steps.{part_reading, has_part, is_prefix}
 use Rattle.uc_flat_code.specs.Code.{are_different}
-use Rattle.uc_flat_init_law.proofs.Fields.{name_is, has_field, place_of, is_nat, field_of_fit, field_fits, IsPath}
+use Rattle.uc_flat_design.proofs.Fields.{name_is, has_field, place_of, is_nat, field_of_fit, field_fits, IsPath}
 
 -- ---- fields of different names
 

@@ -14,7 +14,7 @@ use Rattle.uc_flat_expressions.specs.declared.typed.Meant.{Meant}
 use Rattle.uc_flat_expressions.specs.Types.{is_boolean}
 use Rattle.uc_flat_expressions.specs.Expressions.{flat_of}
 use Rattle.uc_flat_design.specs.Design.{Reader, condition_of, invariant_in, axiom_in, formulas_from}
-use Rattle.uc_flat_init_law.proofs.Options.{then_some, map_some, if_some, some_same}
+use Rattle.uc_flat_design.proofs.FlatInitLawOptions.{then_some, map_some, if_some, some_same}
 
 pub all_read : (P : Formula → Type 0) (read : Reader) (from : ℕ) (decls : List Decl) → ((n : ℕ) (d : Decl) (xs : List Formula) → slice_get decls n ≡ Some d → read (from + n) d ≡ Some xs → All P xs)
     → (fs : List Formula) → formulas_from read from decls ≡ Some fs → All P fs

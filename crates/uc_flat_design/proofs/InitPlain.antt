@@ -14,15 +14,15 @@ use Rattle.uc_meaning.specs.Code.{else_block}
 use Rattle.uc_flat_expressions.specs.declared.typed.Meant.{Meant}
 use Rattle.uc_flat_expressions.specs.Types.{is_boolean}
 use Rattle.uc_flat_expressions.specs.Expressions.{flat_of}
-use Rattle.uc_flat_init.specs.declared.made.MadeCode.{MadeCode}
-use Rattle.uc_flat_init.specs.declared.made.MadeArms.{MadeArms}
-use Rattle.uc_flat_init.specs.CellTypes.{Types}
-use Rattle.uc_flat_init.specs.Init.{Made, Making, then_made, in_order, ended, in_block, arm_by, arm_with, arm_made, then_arms, arms_made, else_of, joined, if_of, making_form, making_of, made_code, init_code}
-use Rattle.uc_flat_init_law.proofs.Options.{then_some, map_some, if_some}
-use Rattle.uc_flat_init_law.proofs.Forms.{arms_in, else_in}
-use Rattle.uc_flat_init_law.proofs.Locals.{none_some}
-use Rattle.uc_first_free.proofs.Arranged.{true_and}
-use Rattle.uc_guarded.specs.Laws.{all_true, plain_form, is_plain}
+use Rattle.uc_flat_code.specs.declared.made.MadeCode.{MadeCode}
+use Rattle.uc_flat_code.specs.declared.made.MadeArms.{MadeArms}
+use Rattle.uc_flat_code.specs.CellTypes.{Types}
+use Rattle.uc_flat_code.specs.Init.{Made, Making, then_made, in_order, ended, in_block, arm_by, arm_with, arm_made, then_arms, arms_made, else_of, joined, if_of, making_form, making_of, made_code, init_code}
+use Rattle.uc_flat_design.proofs.FlatInitLawOptions.{then_some, map_some, if_some}
+use Rattle.uc_flat_design.proofs.Forms.{arms_in, else_in}
+use Rattle.uc_flat_design.proofs.Locals.{none_some}
+use Rattle.uc_graph.proofs.Arranged.{true_and}
+use Rattle.uc_flat_order.specs.GuardedLaws.{all_true, plain_form, is_plain}
 
 -- true where there is code, whatever names stand for and wherever further cells stand
 abbrev Plain : Bool → Making → Type 0

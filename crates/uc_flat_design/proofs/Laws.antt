@@ -22,12 +22,12 @@ use Rattle.uc_flat.specs.Flats.{cell_types, wider_types, init_types}
 use Rattle.uc_flat.specs.Unrolled.{widened}
 use Rattle.uc_flat.specs.Running.{Placed, run_all}
 use Rattle.uc_flat.specs.Executions.{FitAll, IsInitial as IsInitialOver, IsStep as IsStepOver}
-use Rattle.uc_flat_names.specs.Names.{StandsAlone, names_over_cells, types_of, constant_types, flat_constant}
-use Rattle.uc_flat_names.specs.Constants.{SharesConstants}
-use Rattle.uc_flat_names.proofs.Cells.{stands_alone}
-use Rattle.uc_flat_init.specs.CellTypes.{cell_type_of}
-use Rattle.uc_flat_init_law.specs.Law.{running, placed, AreAt, EndAlike}
-use Rattle.uc_flat_init_law.proofs.Walk.{init_code_means}
+use Rattle.uc_flat_design.specs.Names.{StandsAlone, names_over_cells, types_of, constant_types, flat_constant}
+use Rattle.uc_flat_design.specs.Constants.{SharesConstants}
+use Rattle.uc_flat_design.proofs.Cells.{stands_alone}
+use Rattle.uc_flat_code.specs.CellTypes.{cell_type_of}
+use Rattle.uc_flat_design.specs.FlatInitLawLaw.{running, placed, AreAt, EndAlike}
+use Rattle.uc_flat_design.proofs.Walk.{init_code_means}
 use Rattle.uc_flat_design.specs.Next.{primed_behind, step_code, IsAsked, IsReached, IsNextCode}
 use Rattle.uc_flat_design.proofs.Stepping.{found_holds, asks_holds, fits_hold}
 use Rattle.uc_flat_design.specs.Design.{flat_cell, next_names, next_arranged, IsFlatOf}
@@ -36,7 +36,7 @@ use Rattle.uc_flat_design.proofs.Tables.{fit_cells, fit_types, all_plain, all_va
 use Rattle.uc_flat_design.proofs.NextTable.{next_table}
 use Rattle.uc_flat_design.proofs.InitPlain.{code_plain}
 use Rattle.uc_flat_order.specs.Arranged.{IsTakenFrom}
-use Rattle.uc_guarded.specs.Laws.{is_plain}
+use Rattle.uc_flat_order.specs.GuardedLaws.{is_plain}
 use Rattle.uc_flat_order.proofs.PlainCode.{plain_if_taken}
 use Rattle.uc_flat_order.proofs.Pairs.{block_taken}
 

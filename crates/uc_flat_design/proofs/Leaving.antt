@@ -9,9 +9,9 @@ use Rattle.uc_meaning.specs.Steps.{part_reading}
 use Rattle.uc_ops.specs.Typing.{part_type}
 use Rattle.uc_ops.specs.Meaning.{part}
 use Rattle.uc_flat.specs.Executions.{FitAll}
-use Rattle.uc_flat_init_law.proofs.Options.{then_some, map_some, some_same}
-use Rattle.uc_flat_init_law.proofs.Turns.{fit_set}
-use Rattle.uc_flat_init_law.proofs.Fields.{placed, placed_fits, part_type_same, IsPath, path_part}
+use Rattle.uc_flat_design.proofs.FlatInitLawOptions.{then_some, map_some, some_same}
+use Rattle.uc_flat_design.proofs.Turns.{fit_set}
+use Rattle.uc_flat_design.proofs.Fields.{placed, placed_fits, part_type_same, IsPath, path_part}
 use Rattle.uc_flat_design.proofs.Effects.{Effect, reading_at, type_of_part, given_value, put, performs, performed, none_some}
 
 abbrev pub FitsValue : Ty → Option Value → Type 0

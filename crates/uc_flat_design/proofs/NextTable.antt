@@ -26,28 +26,28 @@ use Rattle.uc_flat.specs.declared.expression.Expression.TheVariants.{Cell as Cel
 use Rattle.uc_flat.specs.Fine.{IsWithin, itself, deeper}
 use Rattle.uc_flat.specs.Executions.{FitAll}
 use Rattle.uc_flat.proofs.Forms.{type_cell, value_cell}
-use Rattle.uc_flat_front.proofs.Front.{front_holds}
+use Rattle.uc_flat.proofs.Front.{front_holds}
 use Rattle.uc_flat_expressions.specs.declared.typed.TypedExpression.{TypedExpression}
 use Rattle.uc_flat_expressions.specs.declared.typed.Meant.{Meant}
 use Rattle.uc_flat_expressions.specs.declared.typed.Meant.TheVariants.{Unknown, Cell, Label, Constant}
 use Rattle.uc_flat_expressions.specs.Names.{of_cell, meant_as}
 use Rattle.uc_flat_expressions.specs.Expressions.{flat_of}
-use Rattle.uc_flat_meaning.specs.Sayings.{Says, IsMeant, AreMeant}
-use Rattle.uc_flat_meaning.proofs.Telling.{flat_says}
-use Rattle.uc_flat_names.specs.Names.{StandsAlone, names_over_cells, types_of, constant_types}
-use Rattle.uc_flat_names.specs.Constants.{SharesConstants}
-use Rattle.uc_flat_names.proofs.Cells.{cell_type}
-use Rattle.uc_flat_names.proofs.Meaning.{name_in_cell, no_instance, names_hold}
+use Rattle.uc_flat_design.specs.Sayings.{Says, IsMeant, AreMeant}
+use Rattle.uc_flat_design.proofs.Telling.{flat_says}
+use Rattle.uc_flat_design.specs.Names.{StandsAlone, names_over_cells, types_of, constant_types}
+use Rattle.uc_flat_design.specs.Constants.{SharesConstants}
+use Rattle.uc_flat_design.proofs.Cells.{cell_type}
+use Rattle.uc_flat_design.proofs.Meaning.{name_in_cell, no_instance, names_hold}
 use Rattle.uc_flat_design.specs.Tables.{IsSaid}
 use Rattle.uc_flat_design.specs.Next.{between, with_new, IsNextTable}
-use Rattle.uc_flat_init.specs.CellTypes.{is_cell_type}
+use Rattle.uc_flat_code.specs.CellTypes.{is_cell_type}
 use Rattle.uc_flat_design.specs.Design.{next_names}
-use Rattle.uc_flat_init_law.proofs.Options.{some_same}
+use Rattle.uc_flat_design.proofs.FlatInitLawOptions.{some_same}
 use Rattle.uc_flat_design.proofs.Effects.{none_some}
 use Rattle.uc_flat_design.proofs.Halves.{get_behind, part_behind}
-use Rattle.uc_flat_init_law.proofs.Turns.{fit_part}
+use Rattle.uc_flat_design.proofs.Turns.{fit_part}
 use Rattle.uc_flat_design.proofs.Told.{fit_length, there_below}
-use Rattle.uc_flat_init_law.proofs.Entries.{IsEntry, entry}
+use Rattle.uc_flat_design.proofs.Entries.{IsEntry, entry}
 use Rattle.uc_flat_design.proofs.Tables.{all_valid, zeros_fit, zero_interpretation, zero_model, zero_shared}
 
 -- ---- names between two states

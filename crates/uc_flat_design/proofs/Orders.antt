@@ -19,12 +19,12 @@ use Rattle.uc_flat.specs.declared.statement.Statement.{Statement}
 use Rattle.uc_flat.specs.Executions.{FitAll}
 use Rattle.uc_flat_expressions.specs.declared.typed.Meant.{Meant}
 use Rattle.uc_flat_code.specs.Code.{MayBe, statement_of, code_of}
-use Rattle.uc_first_free.specs.Arranged.{IsReordered}
-use Rattle.uc_first_free.proofs.Arranged.{and_true, all_reordered}
+use Rattle.uc_graph.specs.Arranged.{IsReordered}
+use Rattle.uc_graph.proofs.Arranged.{and_true, all_reordered}
 use Rattle.uc_flat_order.proofs.Coded.{is_coded, coded}
-use Rattle.uc_guarded.specs.Slices.{all_slices}
-use Rattle.uc_guarded.specs.Laws.{is_plain, AreAlike, AskAlike}
-use Rattle.uc_guarded.proofs.Asked.{asked_alike as slices_alike}
+use Rattle.uc_flat_order.specs.Slices.{all_slices}
+use Rattle.uc_flat_order.specs.GuardedLaws.{is_plain, AreAlike, AskAlike}
+use Rattle.uc_flat_order.proofs.Asked.{asked_alike as slices_alike}
 use Rattle.uc_flat_order.specs.Arranged.{IsTakenFrom}
 use Rattle.uc_flat_order.proofs.PlainCode.{plain_if_taken}
 use Rattle.uc_flat_design.specs.Next.{between, primed_behind, IsNextTable, IsAsked}

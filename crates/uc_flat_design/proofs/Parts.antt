@@ -16,8 +16,8 @@ use Rattle.uc_values.proofs.Shapes.{and_true}
 use Rattle.uc_values.proofs.Fitting.{Fit, IsRecord-fits, parts-Rec}
 use Rattle.uc_meaning.specs.Expressions.{Reading, reads, fields_form, fields_of, field_number, field_reading}
 use Rattle.uc_meaning.specs.Steps.{part_reading, has_part}
-use Rattle.uc_same_values.specs.Same.{has_no_array}
-use Rattle.uc_same_values.proofs.Same.{no_array-Rec}
+use Rattle.uc_values.specs.Same.{has_no_array}
+use Rattle.uc_values.proofs.SameValuesSame.{no_array-Rec}
 
 rolled : (t : Ty) → roll-Ty (out-Ty t) ≡ t
 rolled t = search (rules, the_lemmas)

@@ -16,12 +16,12 @@ use Rattle.uc_meaning.specs.Steps.{AllKeep, is_prefix, is_written, is_input, par
 use Rattle.uc_ops.specs.Typing.{part_type}
 use Rattle.uc_ops.specs.Meaning.{part}
 use Rattle.uc_flat.specs.Executions.{FitAll}
-use Rattle.uc_same_values.specs.Same.{has_no_array}
-use Rattle.uc_same_values.proofs.Same.{same_holds}
-use Rattle.uc_flat_init_law.proofs.Options.{then_some, some_same}
-use Rattle.uc_flat_init_law.proofs.Fields.{placed, placed_same, placed_other, stays_part, part_type_same, IsPath, path_part}
-use Rattle.uc_flat_once.specs.declared.once.Part.{Part}
-use Rattle.uc_flat_once.specs.Once.{overlaps, touched}
+use Rattle.uc_values.specs.Same.{has_no_array}
+use Rattle.uc_values.proofs.SameValuesSame.{same_holds}
+use Rattle.uc_flat_design.proofs.FlatInitLawOptions.{then_some, some_same}
+use Rattle.uc_flat_design.proofs.Fields.{placed, placed_same, placed_other, stays_part, part_type_same, IsPath, path_part}
+use Rattle.uc_flat_code.specs.declared.once.Part.{Part}
+use Rattle.uc_flat_code.specs.Once.{overlaps, touched}
 use Rattle.uc_flat_design.specs.Next.{types_in}
 use Rattle.uc_flat_design.proofs.Effects.{Effect, part_of, parts_of, parts_in, reading_at, part_at, type_of_part, agrees, all_agree, given_value, put, performs, performed, Apart, apart_not, holds_own, true_false, same_nat, nat-eq}
 use Rattle.uc_flat_design.proofs.Parts.{parts_fit}

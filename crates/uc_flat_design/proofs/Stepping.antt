@@ -17,10 +17,10 @@ use Rattle.uc_flat.specs.declared.statement.Statement.TheVariants.{Havoc}
 use Rattle.uc_flat.specs.Executions.{FitAll}
 use Rattle.uc_flat.specs.Running.{Placed, run_all}
 use Rattle.uc_flat_expressions.specs.declared.typed.Meant.{Meant}
-use Rattle.uc_flat_init_law.proofs.Options.{then_some, map_some}
-use Rattle.uc_flat_init_law.proofs.Turns.{run_append, run_none}
-use Rattle.uc_flat_once.specs.declared.once.Part.{Part}
-use Rattle.uc_flat_once.specs.Once.{Writer, touched, written_by}
+use Rattle.uc_flat_design.proofs.FlatInitLawOptions.{then_some, map_some}
+use Rattle.uc_flat_design.proofs.Turns.{run_append, run_none}
+use Rattle.uc_flat_code.specs.declared.once.Part.{Part}
+use Rattle.uc_flat_code.specs.Once.{Writer, touched, written_by}
 use Rattle.uc_flat_design.specs.Next.{IsNextTable, types_in, inputs_from, step_code, IsReached, IsFound, StepFitsLaw, StepFoundLaw, StepIsLaw}
 use Rattle.uc_flat_design.proofs.Effects.{Effect, parts_of, parts_in, all_agree, performed, performed_append, kept_true, none_some}
 use Rattle.uc_flat_design.proofs.Leaving.{FineAll, left_fits}

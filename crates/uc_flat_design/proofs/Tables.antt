@@ -30,17 +30,17 @@ use Rattle.uc_ops.specs.Typing.{Valid, AllValid}
 use Rattle.uc_flat.specs.Executions.{FitAll}
 use Rattle.uc_flat_expressions.specs.declared.typed.TypedExpression.{TypedExpression}
 use Rattle.uc_flat_expressions.specs.Expressions.{flat_of}
-use Rattle.uc_flat_meaning.specs.Sayings.{Says}
-use Rattle.uc_flat_meaning.proofs.Telling.{flat_says}
-use Rattle.uc_flat_names.specs.Names.{StandsAlone, names_over_cells, types_of, names_of_constants, constant_types}
-use Rattle.uc_flat_names.specs.Constants.{SharesConstants}
-use Rattle.uc_flat_names.proofs.Meaning.{names_hold, constants_hold}
-use Rattle.uc_flat_names.proofs.Sharing.{shares_first}
+use Rattle.uc_flat_design.specs.Sayings.{Says}
+use Rattle.uc_flat_design.proofs.Telling.{flat_says}
+use Rattle.uc_flat_design.specs.Names.{StandsAlone, names_over_cells, types_of, names_of_constants, constant_types}
+use Rattle.uc_flat_design.specs.Constants.{SharesConstants}
+use Rattle.uc_flat_design.proofs.Meaning.{names_hold, constants_hold}
+use Rattle.uc_flat_design.proofs.Sharing.{shares_first}
 use Rattle.uc_flat_design.specs.Tables.{IsSaid}
-use Rattle.uc_flat_init_law.specs.Law.{now}
-use Rattle.uc_same_values.specs.Same.{has_no_array, no_array_form}
-use Rattle.uc_same_values.proofs.Same.{no_array-Rec}
-use Rattle.uc_flat_init.specs.CellTypes.{is_finite, is_finite_form, is_cell_type}
+use Rattle.uc_flat_design.specs.FlatInitLawLaw.{now}
+use Rattle.uc_values.specs.Same.{has_no_array, no_array_form}
+use Rattle.uc_values.proofs.SameValuesSame.{no_array-Rec}
+use Rattle.uc_flat_code.specs.CellTypes.{is_finite, is_finite_form, is_cell_type}
 use Rattle.uc_flat_design.specs.Design.{is_built}
 
 -- ---- fitting values, by the definitions of designs and of cells

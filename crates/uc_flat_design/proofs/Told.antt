@@ -44,13 +44,13 @@ use Rattle.uc_flat_code.specs.declared.writing.Written.{Written}
 use Rattle.uc_flat_code.specs.declared.writing.FlatArm.{FlatArm}
 use Rattle.uc_flat_code.specs.Code.{MayBe, may_write, may_havoc, written_as, written, havocked, assume_of, havoc_of, replaced_in, assigned, spares, one_assigned, with_cell, each_assigned, assign_of, in_order, arm_with, arm_of, joined_arms, else_of, if_of, code_form, statement_of, code_of}
 use Rattle.uc_flat_design.specs.Tables.{IsSaid}
-use Rattle.uc_flat_init_law.proofs.Options.{then_some, map_some, if_some, some_same}
-use Rattle.uc_flat_init_law.proofs.Turns.{run_append, run_none, run_one, run_is}
-use Rattle.uc_flat_init_law.proofs.Forms.{truth_holds, is_written_as, arms_in, else_in}
-use Rattle.uc_flat_init_law.proofs.Fields.{placed, IsPath}
-use Rattle.uc_flat_init_law.proofs.Replacing.{Replaces, replaced_known}
-use Rattle.uc_flat_once.specs.declared.once.Part.{Part}
-use Rattle.uc_flat_once.specs.Once.{overlaps, touched, new_cells, new_cells_in, read_by, Writer, writes_part, each_writes, either_writes, arms_write, reads_first, writer_of, target_writer, conditions_read, choice_writer, writer_form, writer, written_by}
+use Rattle.uc_flat_design.proofs.FlatInitLawOptions.{then_some, map_some, if_some, some_same}
+use Rattle.uc_flat_design.proofs.Turns.{run_append, run_none, run_one, run_is}
+use Rattle.uc_flat_design.proofs.Forms.{truth_holds, is_written_as, arms_in, else_in}
+use Rattle.uc_flat_design.proofs.Fields.{placed, IsPath}
+use Rattle.uc_flat_design.proofs.Replacing.{Replaces, replaced_known}
+use Rattle.uc_flat_code.specs.declared.once.Part.{Part}
+use Rattle.uc_flat_code.specs.Once.{overlaps, touched, new_cells, new_cells_in, read_by, Writer, writes_part, each_writes, either_writes, arms_write, reads_first, writer_of, target_writer, conditions_read, choice_writer, writer_form, writer, written_by}
 use Rattle.uc_flat_design.specs.Next.{between, primed_behind, IsCell, IsNextTable}
 use Rattle.uc_flat_design.proofs.Effects.{Effect, part_of, parts_of, parts_in, reading_at, part_at, type_of_part, given_value, put, performs, all_agree, performed, agree_append, performed_append, writes_none, writes_more, IsSub, Apart, sub_left, sub_right, sub_then, sub_both, apart_less, apart_append, apart_not, none_some}
 use Rattle.uc_flat_design.proofs.Halves.{set_behind, get_behind, part_behind}

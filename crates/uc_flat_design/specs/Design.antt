@@ -16,13 +16,13 @@ use Rattle.uc_flat_expressions.specs.declared.typed.TypedExpression.{TypedExpres
 use Rattle.uc_flat_expressions.specs.declared.typed.Meant.{Meant}
 use Rattle.uc_flat_expressions.specs.Types.{is_boolean}
 use Rattle.uc_flat_expressions.specs.Expressions.{flat_of}
-use Rattle.uc_flat_names.specs.Names.{names_over_cells, types_of, names_of_constants, constant_types, flat_constants}
+use Rattle.uc_flat_design.specs.Names.{names_over_cells, types_of, names_of_constants, constant_types, flat_constants}
 use Rattle.uc_flat_code.specs.Code.{code_of}
-use Rattle.uc_flat_init.specs.declared.made.MadeCode.{MadeCode}
-use Rattle.uc_flat_init.specs.CellTypes.{is_cell_type, cell_type_of}
-use Rattle.uc_flat_init.specs.Init.{init_code}
-use Rattle.uc_flat_once.specs.declared.once.Part.{Part}
-use Rattle.uc_flat_once.specs.Once.{written_by}
+use Rattle.uc_flat_code.specs.declared.made.MadeCode.{MadeCode}
+use Rattle.uc_flat_code.specs.CellTypes.{is_cell_type, cell_type_of}
+use Rattle.uc_flat_code.specs.Init.{init_code}
+use Rattle.uc_flat_code.specs.declared.once.Part.{Part}
+use Rattle.uc_flat_code.specs.Once.{written_by}
 use Rattle.uc_flat_order.specs.Arranged.{block_arranged}
 use Rattle.uc_flat_design.specs.Next.{primed_behind, names_between, step_code}
 

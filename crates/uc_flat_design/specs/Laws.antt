@@ -11,7 +11,7 @@ use Rattle.uc_meaning.specs.Steps.{IsInitial, IsStep, state_of}
 use Rattle.uc_ops.specs.declared.model.Model.{Model}
 use Rattle.uc_flat.specs.declared.flat.Flat.{Flat}
 use Rattle.uc_flat.specs.Executions.{IsInitial as IsInitialOver, IsStep as IsStepOver}
-use Rattle.uc_flat_names.specs.Constants.{SharesConstants}
+use Rattle.uc_flat_design.specs.Constants.{SharesConstants}
 use Rattle.uc_flat_design.specs.Design.{IsFlatOf}
 
 -- no site is listed, and the state is initial over cells with the same choices

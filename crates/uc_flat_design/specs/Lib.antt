@@ -1,3 +1,9 @@
+pub mod Sayings
+pub mod FlatMeaningLaws
+pub mod Names
+pub mod Constants
+pub mod FlatNamesLaw
+pub mod FlatInitLawLaw
 pub mod Tables
 pub mod Next
 pub mod Design

@@ -23,9 +23,9 @@ use Rattle.uc_flat_expressions.specs.Expressions.{flat_of}
 use Rattle.uc_flat_code.specs.declared.writing.Writing.{Writing}
 use Rattle.uc_flat_code.specs.Code.{code_of}
 use Rattle.uc_flat_design.specs.Tables.{Scopes, IsSaid}
-use Rattle.uc_same_values.specs.Same.{has_no_array}
-use Rattle.uc_flat_once.specs.declared.once.Part.{Part}
-use Rattle.uc_flat_once.specs.Once.{written_by}
+use Rattle.uc_values.specs.Same.{has_no_array}
+use Rattle.uc_flat_code.specs.declared.once.Part.{Part}
+use Rattle.uc_flat_code.specs.Once.{written_by}
 use Rattle.uc_flat_order.specs.Arranged.{IsTakenFrom}
 
 -- in main, between an old and a new state

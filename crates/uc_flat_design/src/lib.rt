@@ -2,31 +2,12 @@
 //! states and its steps.
 #![tactic(auto)]
 
-ghost use Rattle.uc_flat_design.specs.Laws.{InitialLaw, StepLaw};
-ghost use Rattle.uc_flat_design.specs.Next.{StepFitsLaw, StepFoundLaw, StepIsLaw};
+mod flat_design_law;
+mod flat_init_law;
+mod flat_meaning;
+mod flat_names;
 
-/// Each step of a `next` block is one of the code over the cells of both states of its statements, or of its slices, in some
-/// order, run in this order, where no way through them writes a part of a cell after it was written there, or read in the new state.
-pub fn next_found()
-    ensures { StepFoundLaw }
-{}
-
-/// Each step of that code over cells is one of the block, under the same condition.
-pub fn next_asks()
-    ensures { StepIsLaw }
-{}
-
-/// That code over cells leads to fitting cells.
-pub fn next_fits()
-    ensures { StepFitsLaw }
-{}
-
-/// Both designs have the same initial states, with the same choices.
-pub fn initial_states()
-    ensures { InitialLaw }
-{}
-
-/// Both have the same steps.
-pub fn steps()
-    ensures { StepLaw }
-{}
+pub use flat_design_law::{initial_states, next_asks, next_fits, next_found, steps};
+pub use flat_init_law::init_means;
+pub use flat_meaning::flat_expressions;
+pub use flat_names::{constants_mean, names_mean};

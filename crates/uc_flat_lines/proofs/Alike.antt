@@ -21,9 +21,9 @@ use Rattle.uc_terms.proofs.Values.{value-node}
 use Rattle.uc_lower.specs.Made.{Grows}
 use Rattle.uc_lower.specs.Lowering.{IsSymbol, IsFiniteTerm}
 use Rattle.uc_lower.proofs.Growing.{kept_value, was_subterm, had_op, parts_before}
-use Rattle.uc_models.specs.Symbols.{AppliesNone}
-use Rattle.uc_models.proofs.Setting.{subterm_there}
-use Rattle.uc_models.proofs.Fitted.{fitted}
+use Rattle.uc_solver.specs.Symbols.{AppliesNone}
+use Rattle.uc_solver.proofs.Setting.{subterm_there}
+use Rattle.uc_solver.proofs.Fitted.{fitted}
 use Rattle.uc_symstep.specs.Stands.{holds}
 use Rattle.uc_simplify.specs.Simplified.{Grows as GoesOn}
 use Rattle.uc_log.specs.Problems.{Question}

@@ -11,8 +11,8 @@ use Rattle.uc_symstep.specs.Growing.{Grows}
 use Rattle.uc_symstep.specs.Known.{IsKnown, supply_after}
 use Rattle.uc_symstep.proofs.Grown.{grows_value}
 use Rattle.uc_symstep.proofs.Known.{known_grows}
-use Rattle.uc_flat_traces.specs.declared.trace.FlatTrace.{FlatTrace}
-use Rattle.uc_flat_traces.specs.Traces.{constant_types, RefutesFlat}
+use Rattle.uc_flat.specs.declared.trace.FlatTrace.{FlatTrace}
+use Rattle.uc_flat.specs.Traces.{constant_types, RefutesFlat}
 use Rattle.uc_log.specs.Problems.{Question}
 use Rattle.uc_obligations.specs.Goals.{IsGoal, IsObligation, IsTold}
 use Rattle.uc_obligations.proofs.Goaled.{goal_grows}

@@ -17,7 +17,7 @@ use Rattle.uc_terms.specs.Tables.{HasOp, WellTyped, NoTwoEqual}
 use Rattle.uc_terms.specs.Subterms.{IsSubterm}
 use Rattle.uc_lower.specs.Bits.{bits_or, type_bits, bits_at, IsSymbolBelow}
 use Rattle.uc_lower.proofs.Bits.{type_bits-append}
-use Rattle.uc_models.proofs.Setting.{subterm_there}
+use Rattle.uc_solver.proofs.Setting.{subterm_there}
 use Rattle.uc_solver.specs.declared.answer.Answer.{Answer}
 use Rattle.uc_solver.specs.declared.answer.Answer.TheVariants.{Model as Found, Refuted}
 use Rattle.uc_solver.specs.declared.answer.SolveError.{SolveError}

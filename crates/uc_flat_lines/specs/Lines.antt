@@ -5,8 +5,8 @@ use Rattle.uc_flat.specs.declared.flat.Formula.{Formula}
 use Rattle.uc_flat.specs.Drawn.{listed_if}
 use Rattle.uc_symstep.specs.Known.{supply_after}
 use Rattle.uc_lower.specs.Bits.{type_bits}
-use Rattle.uc_flat_traces.specs.declared.trace.FlatTrace.{FlatTrace}
-use Rattle.uc_flat_traces.specs.Traces.{RefutesFlat}
+use Rattle.uc_flat.specs.declared.trace.FlatTrace.{FlatTrace}
+use Rattle.uc_flat.specs.Traces.{RefutesFlat}
 use Rattle.uc_flat_lines.specs.declared.line.FlatLine.{FlatLine}
 use Rattle.uc_flat_lines.specs.declared.line.FlatVerdict.{FlatVerdict}
 use Rattle.uc_flat_lines.specs.declared.line.FlatVerdict.TheVariants.{Passed, Failed, Undef}

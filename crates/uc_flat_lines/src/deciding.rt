@@ -6,7 +6,7 @@ ghost use Rattle.uc_flat.specs.Flats.{IsSound};
 ghost use Rattle.uc_symstep.specs.Growing.{Grows};
 ghost use Rattle.uc_symstep.specs.Known.{ReadsOwnTypes};
 ghost use Rattle.uc_ops.specs.Typing.{AllValid};
-ghost use Rattle.uc_flat_traces.specs.Traces.{constant_types};
+ghost use Rattle.uc_flat.specs.Traces.{constant_types};
 ghost use Rattle.uc_flat_lines.specs.Lines.{IsFlatVerdict, IsHonestVerdict};
 ghost use Rattle.uc_obligations.specs.Unrolling.{IsUnrolled};
 ghost use Rattle.uc_flat_lines.specs.Deciding.{IsOutcome, IsSpentFor, IsSpentOn, IsHonestAfter, IsOpenedAfter, IsOpenedOn, verdict_of};
@@ -14,8 +14,7 @@ ghost use Rattle.uc_flat_lines.specs.Deciding.{IsOutcome, IsSpentFor, IsSpentOn,
 use crate::line::{FlatVerdict, FlatWhy};
 use crate::solving::solution;
 use std::alloc::Global;
-use uc_flat::Flat;
-use uc_flat_traces::FlatTrace;
+use uc_flat::{Flat, FlatTrace};
 use uc_log::Meter;
 use uc_obligations::{Unrolling, build, goal};
 use uc_terms::Terms;

@@ -6,7 +6,7 @@ ghost use Rattle.uc_flat.specs.Flats.{IsSound};
 ghost use Rattle.uc_symstep.specs.Growing.{Grows};
 ghost use Rattle.uc_symstep.specs.Known.{ReadsOwnTypes};
 ghost use Rattle.uc_ops.specs.Typing.{AllValid};
-ghost use Rattle.uc_flat_traces.specs.Traces.{constant_types};
+ghost use Rattle.uc_flat.specs.Traces.{constant_types};
 ghost use Rattle.uc_flat_lines.specs.Lines.{speaks_of_one, lines_below, step_lines, AreFlatJudged};
 ghost use Rattle.uc_obligations.specs.Unrolling.{IsUnrolled};
 

@@ -1,7 +1,7 @@
 //! Lines with their verdicts.
 
 use std::alloc::AllocError;
-use uc_flat_traces::FlatTrace;
+use uc_flat::FlatTrace;
 use uc_linear::LinearError;
 
 /// Why a line is not decided.

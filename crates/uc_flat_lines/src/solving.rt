@@ -10,9 +10,8 @@ ghost use Rattle.uc_flat_lines.specs.Deciding.{IsKnownBySome, IsSolution, IsSpen
 
 use crate::line::FlatWhy;
 use std::alloc::Global;
-use uc_finite::is_finite_term;
 use uc_log::Meter;
-use uc_solver::{Answer, SolveError, solve};
+use uc_solver::{Answer, SolveError, is_finite_term, solve};
 use uc_terms::{Model, TermId, Terms};
 
 /// A model under which the goal is true, or none where there is none. Memory also counts as used up where the goal has integers,

@@ -24,7 +24,7 @@ use Rattle.uc_flat.specs.declared.flat.Formula.{Formula}
 use Rattle.uc_flat.specs.Fine.{IsWithin, itself, deeper, IsInside, ReadsTyped}
 use Rattle.uc_flat.proofs.Making.{inside_assign}
 use Rattle.uc_symstep.specs.Known.{CodeReadsTyped, ReadsOwnTypes}
-use Rattle.uc_flat_traces.specs.Traces.{constant_types}
+use Rattle.uc_flat.specs.Traces.{constant_types}
 use Rattle.uc_flat_lines_rows.specs.Toggles.{low, enabled, turned, is_low, gives, stays_low, toggle}
 use Rattle.uc_flat_lines_rows.proofs.Sound.{none, one, two}
 

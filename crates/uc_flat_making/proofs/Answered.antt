@@ -15,21 +15,21 @@ use Rattle.uc_flat.specs.declared.flat.Flat.{Flat}
 use Rattle.uc_flat.specs.declared.flat.Constant.{Constant}
 use Rattle.uc_flat.specs.declared.flat.Formula.{Formula}
 use Rattle.uc_flat.specs.declared.statement.Statement.{Statement}
-use Rattle.uc_flat_once.specs.Once.{written_by}
+use Rattle.uc_flat_code.specs.Once.{written_by}
 use Rattle.uc_flat_order.specs.Arranged.{block_arranged}
 use Rattle.uc_flat_expressions.specs.declared.typed.Meant.{Meant}
 use Rattle.uc_flat_expressions.specs.declared.typed.FlatError.{FlatError}
 use Rattle.uc_flat_expressions.specs.declared.typed.FlatError.TheVariants.{NoMemory, NotBuilt}
 use Rattle.uc_flat_expressions.specs.Answers.{IsAnswer}
 use Rattle.uc_flat_code.specs.Code.{code_of}
-use Rattle.uc_flat_init.specs.CellTypes.{Types, is_cell_type, cell_type_of}
-use Rattle.uc_flat_init.specs.Init.{init_code}
-use Rattle.uc_flat_init.specs.declared.made.MadeCode.{MadeCode}
-use Rattle.uc_flat_names.specs.Names.{StandsAlone, names_over_cells, types_of, names_of_constants, constant_types, flat_constants}
-use Rattle.uc_flat_names.proofs.Cells.{stands_alone as alone_in_use}
+use Rattle.uc_flat_code.specs.CellTypes.{Types, is_cell_type, cell_type_of}
+use Rattle.uc_flat_code.specs.Init.{init_code}
+use Rattle.uc_flat_code.specs.declared.made.MadeCode.{MadeCode}
+use Rattle.uc_flat_design.specs.Names.{StandsAlone, names_over_cells, types_of, names_of_constants, constant_types, flat_constants}
+use Rattle.uc_flat_design.proofs.Cells.{stands_alone as alone_in_use}
 use Rattle.uc_flat_design.specs.Next.{primed_behind, names_between}
 use Rattle.uc_flat_design.specs.Design.{is_built, invariant_in, axiom_in, formulas_from, IsFlatOf}
-use Rattle.uc_flat_table.specs.declared.cells.OwnCell.{OwnCell}
+use Rattle.uc_flat_making.specs.declared.cells.OwnCell.{OwnCell}
 use Rattle.uc_flat_making.specs.declared.parts.Conditions.{Conditions}
 use Rattle.uc_flat_making.specs.Made.{IsMade, full, all_conditions, flat_over, next_once, made_over, made_with, made_typed, made, made_only, made_whole}
 

@@ -1,2 +1,5 @@
+pub mod Cells
+pub mod Table
+pub mod Firsts
 pub mod Parts
 pub mod Made

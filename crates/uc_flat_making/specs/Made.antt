@@ -13,12 +13,12 @@ use Rattle.uc_flat_order.specs.Arranged.{code_arranged}
 use Rattle.uc_flat_expressions.specs.declared.typed.Meant.{Meant}
 use Rattle.uc_flat_expressions.specs.declared.typed.FlatError.{FlatError}
 use Rattle.uc_flat_expressions.specs.declared.typed.FlatError.TheVariants.{NoMemory, NotBuilt}
-use Rattle.uc_flat_init.specs.CellTypes.{Types, is_cell_type, cell_type_of}
-use Rattle.uc_flat_init.specs.Init.{init_code}
-use Rattle.uc_flat_init.specs.declared.made.MadeCode.{MadeCode}
-use Rattle.uc_flat_names.specs.Names.{names_over_cells, types_of, without_cell, constant_types, flat_constants}
+use Rattle.uc_flat_code.specs.CellTypes.{Types, is_cell_type, cell_type_of}
+use Rattle.uc_flat_code.specs.Init.{init_code}
+use Rattle.uc_flat_code.specs.declared.made.MadeCode.{MadeCode}
+use Rattle.uc_flat_design.specs.Names.{names_over_cells, types_of, without_cell, constant_types, flat_constants}
 use Rattle.uc_flat_design.specs.Next.{primed_behind, names_between, step_code}
-use Rattle.uc_flat_table.specs.declared.cells.OwnCell.{OwnCell}
+use Rattle.uc_flat_making.specs.declared.cells.OwnCell.{OwnCell}
 use Rattle.uc_flat_design.specs.Design.{is_built, flat_cell, invariant_in, axiom_in, formulas_from, IsFlatOf}
 use Rattle.uc_flat_making.specs.declared.parts.Conditions.{Conditions}
 

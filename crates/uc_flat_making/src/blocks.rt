@@ -4,15 +4,14 @@ ghost use Rattle.std.specs.Prelude.{◌≡◌, IfOk};
 ghost use Rattle.std.specs.List.{flat_map};
 ghost use Rattle.uc_meaning.specs.Lookup.{init_in, next_in, init_of, next_of};
 ghost use Rattle.uc_flat_expressions.specs.Answers.{IsAnswer};
-ghost use Rattle.uc_flat_init.specs.CellTypes.{cell_type_of};
-ghost use Rattle.uc_flat_init.specs.Init.{init_code};
+ghost use Rattle.uc_flat_code.specs.CellTypes.{cell_type_of};
+ghost use Rattle.uc_flat_code.specs.Init.{init_code};
 ghost use Rattle.uc_flat_order.specs.Arranged.{code_arranged};
 
 use std::alloc::{AllocError, Global};
 use uc_flat::Statement;
-use uc_flat_code::Writing;
+use uc_flat_code::{MadeCode, Writing, init_code};
 use uc_flat_expressions::{FlatError, Meant};
-use uc_flat_init::{MadeCode, init_code};
 use uc_flat_order::code_arranged;
 use uc_items::Items;
 use uc_syntax::{Decl, Module, Stmt, copy_block};

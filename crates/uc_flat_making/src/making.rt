@@ -4,18 +4,18 @@ ghost use Rattle.std.specs.Prelude.{◌≡◌, ◌∷◌, [], true, IfOk};
 ghost use Rattle.std.specs.List.{list_all};
 ghost use Rattle.uc_meaning.specs.Cells.{cells_of};
 ghost use Rattle.uc_flat_expressions.specs.Answers.{IsAnswer};
-ghost use Rattle.uc_flat_init.specs.CellTypes.{cell_type_of};
-ghost use Rattle.uc_flat_names.specs.Names.{StandsAlone, names_over_cells, flat_constants};
+ghost use Rattle.uc_flat_code.specs.CellTypes.{cell_type_of};
+ghost use Rattle.uc_flat_design.specs.Names.{StandsAlone, names_over_cells, flat_constants};
 ghost use Rattle.uc_flat_design.specs.Design.{is_built};
 ghost use Rattle.uc_flat_making.specs.Made.{IsMade, made_over, made_with, made_typed, made, made_whole};
 
 use crate::parts::are_built;
 use crate::pieces::made_over;
 use crate::types::are_cell_types;
+use crate::{cell_types_of, constant_types_of, constants_of, names_table, own_cells};
 use std::alloc::{AllocError, Global};
 use uc_flat::Flat;
 use uc_flat_expressions::FlatError;
-use uc_flat_table::{cell_types_of, constant_types_of, constants_of, names_table, own_cells};
 use uc_syntax::Module;
 use uc_type_reader::Tables;
 

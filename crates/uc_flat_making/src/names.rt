@@ -1,7 +1,7 @@
 //! What names stand for between two states, and where there are no cells.
 
 ghost use Rattle.std.specs.Prelude.{◌≡◌, ◌+◌, Some, None, map, IfOk};
-ghost use Rattle.uc_flat_names.specs.Names.{without_cell};
+ghost use Rattle.uc_flat_design.specs.Names.{without_cell};
 ghost use Rattle.uc_flat_design.specs.Next.{with_new, names_between};
 
 use std::alloc::{AllocError, Global};

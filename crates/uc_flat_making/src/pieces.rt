@@ -2,20 +2,19 @@
 
 ghost use Rattle.std.specs.Prelude.{◌≡◌, ◌++◌, [], Some, map, length, IfOk};
 ghost use Rattle.uc_flat_expressions.specs.Answers.{IsAnswer};
-ghost use Rattle.uc_flat_init.specs.CellTypes.{cell_type_of};
+ghost use Rattle.uc_flat_code.specs.CellTypes.{cell_type_of};
 ghost use Rattle.uc_flat_design.specs.Next.{inputs_from, step_code};
 ghost use Rattle.uc_flat_design.specs.Design.{flat_cell};
 ghost use Rattle.uc_flat_making.specs.Made.{full, flat_over, next_once, made_over};
 
+use crate::OwnCell;
 use crate::blocks::{made_init, next_code};
 use crate::names::names_between;
 use crate::parts::{Conditions, all_conditions, inputs};
 use std::alloc::{AllocError, Global};
 use uc_flat::{Cell, Flat, Statement};
-use uc_flat_code::Writing;
+use uc_flat_code::{MadeCode, Writing};
 use uc_flat_expressions::{FlatError, Meant};
-use uc_flat_init::MadeCode;
-use uc_flat_table::OwnCell;
 use uc_items::Items;
 use uc_syntax::{Module, VariableKind};
 use uc_type_reader::Tables;

@@ -2,9 +2,9 @@
 
 ghost use Rattle.std.specs.Prelude.{◌≡◌};
 ghost use Rattle.std.specs.List.{list_all};
-ghost use Rattle.uc_flat_init.specs.CellTypes.{is_cell_type};
+ghost use Rattle.uc_flat_code.specs.CellTypes.{is_cell_type};
 
-use uc_flat_init::is_cell_type;
+use uc_flat_code::is_cell_type;
 use uc_values::Ty;
 
 /// Whether cells may have all these types.

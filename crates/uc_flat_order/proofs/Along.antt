@@ -10,8 +10,8 @@ use Rattle.uc_flat_expressions.specs.declared.typed.FlatError.{FlatError}
 use Rattle.uc_flat_expressions.specs.Answers.{IsAnswer}
 use Rattle.uc_flat_code.specs.declared.writing.Writing.{Writing}
 use Rattle.uc_flat_code.specs.Code.{MayBe, in_order, statement_of, code_of}
-use Rattle.uc_flat_once.specs.Once.{code_once}
-use Rattle.uc_guarded.specs.Slices.{all_slices}
+use Rattle.uc_flat_code.specs.Once.{code_once}
+use Rattle.uc_flat_order.specs.Slices.{all_slices}
 use Rattle.uc_flat_order.specs.Arranged.{in_turn, code_arranged}
 use Rattle.uc_flat_order.specs.Uses.{code_at, IsOrder}
 use Rattle.uc_flat_order.proofs.Pairs.{block_whole, block_apart}

@@ -8,8 +8,8 @@ use Rattle.uc_flat.specs.declared.statement.Statement.{Statement}
 use Rattle.uc_flat_expressions.specs.declared.typed.Meant.{Meant}
 use Rattle.uc_flat_code.specs.declared.writing.Writing.{Writing}
 use Rattle.uc_flat_code.specs.Code.{MayBe, statement_of, code_of}
-use Rattle.uc_first_free.specs.Arranged.{IsReordered}
-use Rattle.uc_first_free.proofs.Arranged.{all_reordered}
+use Rattle.uc_graph.specs.Arranged.{IsReordered}
+use Rattle.uc_graph.proofs.Arranged.{all_reordered}
 
 module _ (names : List Meant) (w : Writing) where
   abbrev pub is_coded : Stmt → Bool

@@ -7,10 +7,10 @@ use Rattle.std.proofs.lemmas.Bool.Decides.{nat_tests}
 use Rattle.std.proofs.lemmas.List.{length-set, length-replicate, take_more, take_all}
 use Rattle.std.proofs.lemmas.List.Folds.{list_any-append, list_all-append}
 use Rattle.uc_meaning.specs.Steps.{is_prefix}
-use Rattle.uc_needed_first.specs.Order.{has}
-use Rattle.uc_first_free.proofs.Arranged.{and_true, true_and}
-use Rattle.uc_flat_once.specs.declared.once.Part.{Part}
-use Rattle.uc_flat_once.specs.Once.{overlaps, touched}
+use Rattle.uc_graph.specs.Order.{has}
+use Rattle.uc_graph.proofs.Arranged.{and_true, true_and}
+use Rattle.uc_flat_code.specs.declared.once.Part.{Part}
+use Rattle.uc_flat_code.specs.Once.{overlaps, touched}
 use Rattle.uc_flat_order.specs.declared.uses.Uses.{Uses}
 use Rattle.uc_flat_order.specs.Uses.{spared}
 use Rattle.uc_flat_order.specs.Writers.{is_listed, AreListed, Grown, over, writes_over}

@@ -1,3 +1,8 @@
+pub mod Lists
+pub mod Leaves
+pub mod Asked
+pub mod Forms
+pub mod Kept
 pub mod Pairs
 pub mod Coded
 pub mod PlainCode

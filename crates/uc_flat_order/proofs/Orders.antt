@@ -7,11 +7,11 @@ use Rattle.std.proofs.lemmas.List.{length-map}
 use Rattle.uc_syntax.specs.declared.statement.Stmt.{Stmt}
 use Rattle.uc_flat_expressions.specs.declared.typed.Meant.{Meant}
 use Rattle.uc_flat_expressions.specs.Expressions.{all_of}
-use Rattle.uc_needed_first.specs.Order.{has, needs}
-use Rattle.uc_first_free.specs.Arranged.{arranged_in, arranged, in_order}
-use Rattle.uc_first_free.specs.Places.{numbers_from, Follows, IsPlaced}
-use Rattle.uc_first_free.proofs.Arranged.{and_true, true_and, all_reordered, keeps_items, arranged_mapped, order_mapped}
-use Rattle.uc_flat_once.specs.Once.{each_writes, written_by}
+use Rattle.uc_graph.specs.Order.{has, needs}
+use Rattle.uc_graph.specs.Arranged.{arranged_in, arranged, in_order}
+use Rattle.uc_graph.specs.Places.{numbers_from, Follows, IsPlaced}
+use Rattle.uc_graph.proofs.Arranged.{and_true, true_and, all_reordered, keeps_items, arranged_mapped, order_mapped}
+use Rattle.uc_flat_code.specs.Once.{each_writes, written_by}
 use Rattle.uc_flat_order.specs.declared.uses.Uses.{Uses}
 use Rattle.uc_flat_order.specs.Arranged.{may_go, in_turn}
 use Rattle.uc_flat_order.specs.Uses.{spared, use_of, AreNeeds, IsOrder}

@@ -6,13 +6,13 @@ use Rattle.std.specs.List.{flat_map, list_all}
 use Rattle.std.proofs.lemmas.List.Folds.{list_all-append}
 use Rattle.uc_syntax.specs.declared.statement.Stmt.{Stmt}
 use Rattle.uc_flat_expressions.specs.declared.typed.Meant.{Meant}
-use Rattle.uc_first_free.specs.Arranged.{in_order, IsReordered}
-use Rattle.uc_first_free.proofs.Arranged.{and_true, true_and, all_reordered, keeps_items, in_order_stays, ordered_if_any}
-use Rattle.uc_flat_once.specs.declared.once.Part.{Part}
-use Rattle.uc_flat_once.specs.Once.{touched, each_writes, writer, written_by}
-use Rattle.uc_flat_once.specs.Written.{written_parts}
-use Rattle.uc_flat_once.proofs.Shapes.{as_writer, Shape, spared_none, one_more_is, statement_shape}
-use Rattle.uc_guarded.specs.Slices.{all_slices}
+use Rattle.uc_graph.specs.Arranged.{in_order, IsReordered}
+use Rattle.uc_graph.proofs.Arranged.{and_true, true_and, all_reordered, keeps_items, in_order_stays, ordered_if_any}
+use Rattle.uc_flat_code.specs.declared.once.Part.{Part}
+use Rattle.uc_flat_code.specs.Once.{touched, each_writes, writer, written_by}
+use Rattle.uc_flat_code.specs.Written.{written_parts}
+use Rattle.uc_flat_code.proofs.Shapes.{as_writer, Shape, spared_none, one_more_is, statement_shape}
+use Rattle.uc_flat_order.specs.Slices.{all_slices}
 use Rattle.uc_flat_order.specs.Arranged.{may_go, in_turn, is_once, block_arranged, IsTakenFrom}
 use Rattle.uc_flat_order.specs.Laws.{OrderLaw}
 use Rattle.uc_flat_order.specs.Uses.{spared}

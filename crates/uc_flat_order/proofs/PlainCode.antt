@@ -19,11 +19,11 @@ use Rattle.uc_flat_expressions.specs.Expressions.{flat_of, all_of}
 use Rattle.uc_flat_code.specs.declared.writing.Writing.{Writing}
 use Rattle.uc_flat_code.specs.declared.writing.FlatArm.{FlatArm}
 use Rattle.uc_flat_code.specs.Code.{MayBe, in_order as code_in_order, arm_with, arm_of, joined_arms, else_of, if_of, code_form, statement_of, code_of}
-use Rattle.uc_first_free.proofs.Arranged.{and_true, true_and, all_reordered}
-use Rattle.uc_guarded.specs.Slices.{all_slices}
-use Rattle.uc_guarded.specs.Laws.{all_true, plain_form, is_plain}
-use Rattle.uc_guarded.proofs.Asked.{plain_sliced}
-use Rattle.uc_guarded.proofs.Leaves.{arms_in, else_in}
+use Rattle.uc_graph.proofs.Arranged.{and_true, true_and, all_reordered}
+use Rattle.uc_flat_order.specs.Slices.{all_slices}
+use Rattle.uc_flat_order.specs.GuardedLaws.{all_true, plain_form, is_plain}
+use Rattle.uc_flat_order.proofs.Asked.{plain_sliced}
+use Rattle.uc_flat_order.proofs.Leaves.{arms_in, else_in}
 use Rattle.uc_flat_order.specs.Arranged.{IsTakenFrom}
 use Rattle.uc_flat_order.proofs.Coded.{is_coded, coded}
 

@@ -7,10 +7,10 @@ use Rattle.std.proofs.lemmas.Bool.Decides.{nat_tests}
 use Rattle.uc_syntax.specs.declared.statement.Stmt.{Stmt}
 use Rattle.uc_flat_expressions.specs.declared.typed.Meant.{Meant}
 use Rattle.uc_flat_expressions.specs.Expressions.{all_of}
-use Rattle.uc_needed_first.specs.Order.{has, needs}
-use Rattle.uc_flat_once.specs.declared.once.Part.{Part}
-use Rattle.uc_flat_once.specs.Once.{writer}
-use Rattle.uc_flat_once.specs.Written.{written_parts}
+use Rattle.uc_graph.specs.Order.{has, needs}
+use Rattle.uc_flat_code.specs.declared.once.Part.{Part}
+use Rattle.uc_flat_code.specs.Once.{writer}
+use Rattle.uc_flat_code.specs.Written.{written_parts}
 use Rattle.uc_flat_order.specs.declared.uses.Uses.{Uses}
 use Rattle.uc_flat_order.specs.Uses.{spared, use_of, AreNeeds}
 use Rattle.uc_flat_order.proofs.Pairs.{fine, parts, writes, fine_is, parts_are}

@@ -5,9 +5,9 @@ use Rattle.uc_syntax.specs.declared.statement.Stmt.{Stmt}
 use Rattle.uc_flat.specs.declared.statement.Statement.{Statement}
 use Rattle.uc_flat_expressions.specs.declared.typed.Meant.{Meant}
 use Rattle.uc_flat_code.specs.declared.writing.Writing.{Writing}
-use Rattle.uc_first_free.specs.Arranged.{arranged, IsReordered}
-use Rattle.uc_guarded.specs.Slices.{all_slices}
-use Rattle.uc_flat_once.specs.Once.{written_by, code_once}
+use Rattle.uc_graph.specs.Arranged.{arranged, IsReordered}
+use Rattle.uc_flat_order.specs.Slices.{all_slices}
+use Rattle.uc_flat_code.specs.Once.{written_by, code_once}
 
 -- a statement may be run before another
 abbrev pub may_go : List Meant → ℕ → Stmt → Stmt → Bool

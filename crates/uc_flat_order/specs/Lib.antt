@@ -1,3 +1,5 @@
+pub mod Slices
+pub mod GuardedLaws
 pub mod Arranged
 pub mod Laws
 pub mod Uses

@@ -6,10 +6,10 @@ use Rattle.uc_syntax.specs.declared.statement.Stmt.{Stmt}
 use Rattle.uc_flat_expressions.specs.declared.typed.Meant.{Meant}
 use Rattle.uc_flat_code.specs.declared.writing.Writing.{Writing}
 use Rattle.uc_flat_code.specs.Code.{MayBe, code_of}
-use Rattle.uc_needed_first.specs.Order.{has, needs}
-use Rattle.uc_flat_once.specs.declared.once.Part.{Part}
-use Rattle.uc_flat_once.specs.Once.{touched, writer, written_by}
-use Rattle.uc_flat_once.specs.Written.{written_parts}
+use Rattle.uc_graph.specs.Order.{has, needs}
+use Rattle.uc_flat_code.specs.declared.once.Part.{Part}
+use Rattle.uc_flat_code.specs.Once.{touched, writer, written_by}
+use Rattle.uc_flat_code.specs.Written.{written_parts}
 use Rattle.uc_flat_order.specs.declared.uses.Uses.{Uses}
 use Rattle.uc_flat_order.specs.Arranged.{in_turn}
 

@@ -1,9 +1,9 @@
 -- The statements that write parts of cells, listed by the numbers of the cells.
 use Rattle.std.specs.Prelude.{◌≡◌, ℕ, ◌+◌, ◌%◌, Bool, true, false, List, [], length, Option, Some, None, slice_get, slice_index_or}
 use Rattle.std.specs.List.{list_all}
-use Rattle.uc_needed_first.specs.Order.{has}
-use Rattle.uc_flat_once.specs.declared.once.Part.{Part}
-use Rattle.uc_flat_once.specs.Once.{touched}
+use Rattle.uc_graph.specs.Order.{has}
+use Rattle.uc_flat_code.specs.declared.once.Part.{Part}
+use Rattle.uc_flat_code.specs.Once.{touched}
 use Rattle.uc_flat_order.specs.declared.uses.Uses.{Uses}
 
 -- a place is listed for each of these parts, where there are so many lists

@@ -4,17 +4,17 @@ ghost use Rattle.std.specs.Prelude.{◌≡◌, map, slice_get};
 ghost use Rattle.std.specs.Option.{option_to_list};
 ghost use Rattle.uc_flat_expressions.specs.Answers.{IsAnswer};
 ghost use Rattle.uc_flat_code.specs.Code.{in_order};
-ghost use Rattle.uc_flat_once.specs.Once.{code_once};
-ghost use Rattle.uc_guarded.specs.Slices.{all_slices};
+ghost use Rattle.uc_flat_code.specs.Once.{code_once};
+ghost use Rattle.uc_flat_order.specs.Slices.{all_slices};
 ghost use Rattle.uc_flat_order.specs.Arranged.{in_turn, code_arranged};
 ghost use Rattle.uc_flat_order.specs.Uses.{code_at};
 
+use crate::all_slices;
 use crate::uses::order_of;
 use std::alloc::Global;
 use uc_flat::Statement;
 use uc_flat_code::{Writing, flat_code};
 use uc_flat_expressions::{FlatError, Meant};
-use uc_guarded::all_slices;
 use uc_items::Items;
 use uc_syntax::Stmt;
 

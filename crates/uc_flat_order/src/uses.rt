@@ -6,9 +6,9 @@ ghost use Rattle.uc_flat_order.specs.Uses.{use_of, AreNeeds, IsOrder};
 
 use crate::writers::{needs_of, writers_of};
 use std::alloc::{AllocError, Global};
-use uc_first_free::first_free_order;
+use uc_flat_code::{Part, statement_parts, written_parts};
 use uc_flat_expressions::Meant;
-use uc_flat_once::{Part, statement_parts, written_parts};
+use uc_graph::first_free_order;
 use uc_items::{Items, beside};
 use uc_syntax::Stmt;
 

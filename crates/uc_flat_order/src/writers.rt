@@ -1,16 +1,16 @@
 //! Which statements write what overlaps some parts. They are listed by the numbers of the cells, so that few are asked.
 
 ghost use Rattle.std.specs.Prelude.{◌≡◌, ℕ, ◌<◌, ◌&&◌, ◌||◌, not, Some, length, slice_get, IfOk, OnOk};
-ghost use Rattle.uc_needed_first.specs.Order.{has};
+ghost use Rattle.uc_graph.specs.Order.{has};
 ghost use Rattle.uc_flat_order.specs.declared.uses.Uses.{Uses};
 ghost use Rattle.uc_flat_order.specs.Uses.{spared};
 ghost use Rattle.uc_flat_order.specs.Writers.{writes_over, AreListed, Grown};
 
 use crate::uses::Uses;
 use std::alloc::{AllocError, Global};
-use uc_flat_once::{Part, touched};
+use uc_flat_code::{Part, touched};
+use uc_graph::Lists;
 use uc_items::{Items, at};
-use uc_number_lists::Lists;
 
 /// The places of the statements that write parts of cells, each listed under the remainder of the cell's number by the number of lists.
 pub(crate) fn writers_of(alloc: Global, uses: &[Uses]) -> Result<Lists, AllocError>

@@ -19,3 +19,11 @@ pub mod Endings
 pub mod Counting
 pub mod Steps
 pub mod Whole
+pub mod Joined
+pub mod CountedLevels
+pub mod Advances
+pub mod CountedTurns
+pub mod Links
+pub mod CountedEndings
+pub mod Shapes
+pub mod CountedWhole

@@ -8,3 +8,6 @@ pub mod Answer
 pub mod Law
 pub mod Gives
 pub mod Tally
+pub mod Counted
+pub mod CountedGives
+pub mod CountedLaw

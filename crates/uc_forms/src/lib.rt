@@ -36,14 +36,26 @@
 //! `proofs/Counting.antt`); a form that declares none needs no clause (`proofs/Silent.antt`). The public call then
 //! answers `IsAnswer` by one lemma for each way to end (`proofs/Whole.antt`). `proofs/Spelled.antt` serves printers.
 //! The parser of the language does all of this, in `uc_words`, `uc_parse_expressions` and `uc_parser`.
+//!
+//! Reading words and counting declared names in one go, for every grammar.
+//!
+//! A parser whose state is the words that are left and the count of declared names proves one clause for each function:
+//! it gives what `count` gives from the state before. `count` (in `specs/Counted.antt`) is reading with the count beside the
+//! words. The law of this crate says that it reads exactly what `read` of `uc_forms` reads, and counts exactly the names that
+//! `noted` lists, so the laws of `uc_forms` hold of it.
+//!
+//! The lemmas for a parser's functions stand in `proofs`: a nested form (`Levels.antt`), turns of a loop (`Turns.antt`), turns
+//! up to an end (`Endings.antt`), small forms (`Shapes.antt`) and the whole text (`Whole.antt`).
 #![tactic(auto)]
 
 mod fault;
+mod law;
 mod laws;
 mod stop;
 mod tally;
 
 pub use fault::Fault;
+pub use law::counting_is_reading;
 pub use laws::{
     Language, answers_right, deep_is_refused, depths_bound_levels, fault_comes_again,
     fault_completes, levels_bound_depths, one_answer, one_value, read_is_spelled, spelled_is_read,

@@ -3,8 +3,8 @@ use Rattle.std.proofs.Common.{◌≡◌, ℕ, ◌+◌, ◌≤◌, List, [], ◌�
 use Rattle.uc_syntax.specs.declared.declaration.Module.{Module}
 use Rattle.uc_words.proofs.Below.{names_below, files_below}
 use Rattle.uc_words.proofs.Places.{files_are}
-use Rattle.uc_mentions.specs.Below.{ModulesBelow}
-use Rattle.uc_mentions.proofs.Laws.{answer_names, answer_files, joined_modules, no_modules}
+use Rattle.uc_words.specs.Below.{ModulesBelow}
+use Rattle.uc_words.proofs.Laws.{answer_names, answer_files, joined_modules, no_modules}
 use Rattle.uc_front.specs.declared.lexing.Source.{Source}
 use Rattle.uc_front.specs.Sources.{AreLexed}
 use Rattle.uc_front.specs.Denotes.{AreSpelled}

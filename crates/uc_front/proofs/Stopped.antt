@@ -8,7 +8,7 @@ use Rattle.uc_syntax.specs.Contents.{Contents}
 use Rattle.uc_meaning.specs.Lookup.{System, system_of}
 use Rattle.uc_runnable.specs.Unfit.{unfit_of}
 use Rattle.uc_runnable.specs.Runnable.{IsRunnable}
-use Rattle.uc_outside.specs.Outside.{outside_in}
+use Rattle.uc_runnable.specs.Outside.{outside_in}
 use Rattle.uc_front.specs.declared.refusal.Refusal.TheVariants.{NotBuilt}
 use Rattle.uc_front.specs.Refusals.{front}
 use Rattle.uc_front.specs.Denotes.{RunsToday}

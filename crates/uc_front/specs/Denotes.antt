@@ -14,7 +14,7 @@ use Rattle.uc_rules.specs.declared.fault.Fault.{Fault}
 use Rattle.uc_rules.specs.Declarations.{KeepsRules, IsFirstFault}
 use Rattle.uc_order_rules.specs.Order.{KeepsOrder, IsFirstOrderFault}
 use Rattle.uc_runnable.specs.Runnable.{IsRunnable}
-use Rattle.uc_outside.specs.Outside.{outside_in}
+use Rattle.uc_runnable.specs.Outside.{outside_in}
 use Rattle.uc_front.specs.declared.lexing.Source.{Source}
 use Rattle.uc_front.specs.Sources.{AreSources}
 

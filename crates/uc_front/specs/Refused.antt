@@ -13,7 +13,7 @@ use Rattle.uc_forms.specs.Answer.{Answer, spelled, wrong, too_deep, too_many}
 use Rattle.uc_grammar.specs.declared.word.Word.{Word}
 use Rattle.uc_meaning.specs.Lookup.{System}
 use Rattle.uc_runnable.specs.Unfit.{unfit_of}
-use Rattle.uc_outside.specs.Outside.{outside_in}
+use Rattle.uc_runnable.specs.Outside.{outside_in}
 use Rattle.uc_front.specs.declared.lexing.Source.{Source}
 use Rattle.uc_front.specs.declared.refusal.Refusal.{Refusal}
 use Rattle.uc_front.specs.declared.refusal.Refusal.TheVariants.{NoFile, TooLong, BadByte, BadNumber, OpenComment, Syntax, TooDeep, TooManyNames, NoMain, BreaksRule, NotBuilt}

@@ -20,8 +20,7 @@ use crate::refusal::{Refusal, front};
 use std::alloc::Global;
 use uc_lexer::MAX_TEXT;
 use uc_order::{OrderError, order};
-use uc_outside::outside_in;
-use uc_runnable::{NotRunnable, Runnable};
+use uc_runnable::{NotRunnable, Runnable, outside_in};
 use uc_syntax::{Design, Module, Names};
 use uc_types::{TypeError, TypedDesign, check};
 

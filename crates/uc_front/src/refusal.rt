@@ -31,7 +31,7 @@ pub enum Refusal {
     /// least number.
     BreaksRule(Fault),
     /// The design keeps the rules and is none of those that run today: this is the first form, in the order of the texts, that never runs today
-    /// (`outside_in` of uc_outside). Where there is none, it is the first declaration or statement that has no form over cells, or else the front of
+    /// (`outside_in` of uc_runnable). Where there is none, it is the first declaration or statement that has no form over cells, or else the front of
     /// the first file.
     NotBuilt(Place),
 }

@@ -1,0 +1,9 @@
+pub mod Regroup
+pub mod Spelled
+pub mod Types
+pub mod Expressions
+pub mod Lists
+pub mod Labels
+pub mod Statements
+pub mod Declarations
+pub mod Commands

@@ -17,11 +17,11 @@ use Rattle.uc_meaning.specs.Cells.{ConstantParts, cells_of, constants_in, consta
 use Rattle.uc_flat.specs.declared.flat.Flat.{Flat}
 use Rattle.uc_flat.specs.declared.flat.Cell.{Cell as FlatCell}
 use Rattle.uc_flat.specs.declared.flat.Constant.{Constant as FlatConstant}
-use Rattle.uc_flat_names.specs.Names.{StandsAlone}
+use Rattle.uc_flat_design.specs.Names.{StandsAlone}
 use Rattle.uc_flat_design.specs.Design.{IsFlatOf}
 use Rattle.uc_flat_design.proofs.Laws.{alone_of}
 use Rattle.uc_runnable.specs.Runnable.{RunsOver}
-use Rattle.uc_trace.specs.Tables.{AreConstants, listed, name_of_main}
+use Rattle.uc_report.specs.TraceTables.{AreConstants, listed, name_of_main}
 
 module _ (system : System) (code : Module) where
   -- a constant of the module

@@ -8,9 +8,9 @@ use Rattle.uc_meaning.specs.Lookup.{System, init_of}
 use Rattle.uc_meaning.specs.Cells.{cells_of}
 use Rattle.uc_flat.specs.declared.flat.Flat.{Flat}
 use Rattle.uc_flat_code.specs.Code.{code_of}
-use Rattle.uc_flat_init.specs.CellTypes.{cell_type_of}
-use Rattle.uc_flat_init.specs.Init.{init_code}
-use Rattle.uc_flat_names.specs.Names.{names_over_cells, names_of_constants}
+use Rattle.uc_flat_code.specs.CellTypes.{cell_type_of}
+use Rattle.uc_flat_code.specs.Init.{init_code}
+use Rattle.uc_flat_design.specs.Names.{names_over_cells, names_of_constants}
 use Rattle.uc_flat_design.specs.Next.{primed_behind}
 use Rattle.uc_flat_design.specs.Design.{next_names, next_arranged, invariant_in, axiom_in, formulas_from, flat_with, IsFlatOf}
 use Rattle.uc_flat_lines.specs.declared.line.FlatLine.{FlatLine}
@@ -18,8 +18,8 @@ use Rattle.uc_flat_lines.specs.declared.line.FlatVerdict.{FlatVerdict}
 use Rattle.uc_flat_lines.specs.declared.line.FlatVerdict.TheVariants.{Passed, Failed, Undef}
 use Rattle.uc_flat_lines.specs.declared.line.FlatWhy.TheVariants.{Budget, Memory}
 use Rattle.uc_flat_lines.specs.Lines.{lines_below, free_bits, IsHonestVerdict, IsHonestLine as IsHonestFlat, AreFlatJudged}
-use Rattle.uc_control.specs.declared.report.LineResult.{LineResult}
-use Rattle.uc_control.specs.Verdicts.{IsHonest}
+use Rattle.uc_report.specs.declared.report.LineResult.{LineResult}
+use Rattle.uc_report.specs.Verdicts.{IsHonest}
 use Rattle.uc_judge.specs.Lines.{verdict_as, line_as}
 use Rattle.uc_judge.specs.Reports.{IsHonestLine}
 

@@ -19,10 +19,10 @@ use Rattle.uc_flat_lines.specs.declared.line.FlatVerdict.{FlatVerdict}
 use Rattle.uc_flat_lines.specs.declared.line.FlatVerdict.TheVariants.{Passed, Failed, Undef}
 use Rattle.uc_flat_lines.specs.declared.line.FlatWhy.TheVariants.{Budget, Memory}
 use Rattle.uc_flat_lines.specs.Lines.{speaks_of_one, singles_below, lines_of, step_lines, lines_below, IsRightLine, is_out_of_budget as is_flat_out, AreFlatJudged}
-use Rattle.uc_flat_verdicts.specs.Laws.{design_line, IsRightOf}
-use Rattle.uc_flat_verdicts.proofs.Judged.{order_holds, verdict_holds}
-use Rattle.uc_control.specs.declared.report.LineResult.{LineResult}
-use Rattle.uc_control.specs.Verdicts.{IsRightVerdict, is_out_of_budget, out_of_budget}
+use Rattle.uc_flat_laws.specs.FlatVerdictsLaws.{design_line, IsRightOf}
+use Rattle.uc_flat_laws.proofs.Judged.{order_holds, verdict_holds}
+use Rattle.uc_report.specs.declared.report.LineResult.{LineResult}
+use Rattle.uc_report.specs.Verdicts.{IsRightVerdict, is_out_of_budget, out_of_budget}
 use Rattle.uc_judge.specs.Lines.{verdict_as, line_as}
 
 from_map : {A B : Type 0} (P : B → Type 0) (g : A → B) (xs : List A) → All P (map g xs) → All (λ x. P (g x)) xs

@@ -13,26 +13,26 @@ use Rattle.uc_syntax.specs.declared.declaration.Module.{Module}
 use Rattle.uc_meaning.specs.declared.line.At.TheVariants.{Exactly}
 use Rattle.uc_meaning.specs.Lookup.{System}
 use Rattle.uc_meaning.specs.Lines.{lines_from, lines_checked, all_lines, commands_of, main_declarations, is_check}
-use Rattle.uc_control.specs.declared.report.LineResult.{LineResult}
-use Rattle.uc_control.specs.declared.report.Print.{Print}
-use Rattle.uc_control.specs.declared.report.Report.{Report}
-use Rattle.uc_control.specs.Prints.{prints_from, prints_of}
-use Rattle.uc_control.specs.Verdicts.{IsRightVerdict, out_of_budget}
+use Rattle.uc_report.specs.declared.report.LineResult.{LineResult}
+use Rattle.uc_report.specs.declared.report.Print.{Print}
+use Rattle.uc_report.specs.declared.report.Report.{Report}
+use Rattle.uc_report.specs.Prints.{prints_from, prints_of}
+use Rattle.uc_report.specs.Verdicts.{IsRightVerdict, out_of_budget}
 use Rattle.uc_flat.specs.declared.flat.Flat.{Flat}
 use Rattle.uc_flat_lines.specs.declared.line.FlatLine.{FlatLine}
 use Rattle.uc_flat_lines.specs.Lines.{lines_below, is_out_of_budget as is_flat_out, AreFlatJudged}
-use Rattle.uc_flat_names.specs.Names.{StandsAlone}
+use Rattle.uc_flat_design.specs.Names.{StandsAlone}
 use Rattle.uc_flat_making.proofs.Answered.{stands_alone}
-use Rattle.uc_fragment.specs.Plain.{is_print}
+use Rattle.uc_runnable.specs.Plain.{is_print}
 use Rattle.uc_runnable.specs.Runnable.{RunsOver}
 use Rattle.uc_judge.specs.Lines.{line_as}
 use Rattle.uc_judge.specs.Reports.{IsHonestLine, IsReport}
-use Rattle.uc_prints.specs.Prints.{print_as}
-use Rattle.uc_prints.specs.Unrolling.{Unrolls}
+use Rattle.uc_judge.specs.Prints.{print_as}
+use Rattle.uc_judge.specs.Unrolling.{Unrolls}
 use Rattle.uc_judge.proofs.Lined.{lines_are, commands_are, verdicts_are, out_are}
 use Rattle.uc_judge.proofs.Honest.{honest_are}
-use Rattle.uc_prints.proofs.Controls.{only_declarations}
-use Rattle.uc_prints.proofs.Printed.{AreFirst, prints_there}
+use Rattle.uc_judge.proofs.Controls.{only_declarations}
+use Rattle.uc_judge.proofs.Printed.{AreFirst, prints_there}
 
 abbrev RightLine : System → LineResult → Type 0
 RightLine system l = IsRightVerdict system l.line l.verdict

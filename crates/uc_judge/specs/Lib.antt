@@ -1,2 +1,4 @@
+pub mod Unrolling
+pub mod Prints
 pub mod Reports
 pub mod Lines

@@ -1,18 +1,18 @@
 -- Lines over numbered cells as lines of the report.
 use Rattle.std.specs.Prelude.{ℕ}
 use Rattle.uc_flat.specs.declared.flat.Flat.{Flat}
-use Rattle.uc_flat_refutations.specs.Laws.{trace_of}
+use Rattle.uc_flat_laws.specs.FlatRefutationsLaws.{trace_of}
 use Rattle.uc_flat_lines.specs.declared.line.FlatLine.{FlatLine}
 use Rattle.uc_flat_lines.specs.declared.line.FlatVerdict.{FlatVerdict}
 use Rattle.uc_flat_lines.specs.declared.line.FlatVerdict.TheVariants.{Passed as FlatPassed, Failed as FlatFailed, Undef as FlatUndef}
 use Rattle.uc_flat_lines.specs.declared.line.FlatWhy.{FlatWhy}
 use Rattle.uc_flat_lines.specs.declared.line.FlatWhy.TheVariants.{Budget as FlatBudget, Memory as FlatMemory}
-use Rattle.uc_flat_verdicts.specs.Laws.{design_line}
-use Rattle.uc_control.specs.declared.report.Why.{Why}
-use Rattle.uc_control.specs.declared.report.Why.TheVariants.{Budget, Memory}
-use Rattle.uc_control.specs.declared.report.Verdict.{Verdict}
-use Rattle.uc_control.specs.declared.report.Verdict.TheVariants.{Passed, Failed, Undef}
-use Rattle.uc_control.specs.declared.report.LineResult.{LineResult}
+use Rattle.uc_flat_laws.specs.FlatVerdictsLaws.{design_line}
+use Rattle.uc_report.specs.declared.report.Why.{Why}
+use Rattle.uc_report.specs.declared.report.Why.TheVariants.{Budget, Memory}
+use Rattle.uc_report.specs.declared.report.Verdict.{Verdict}
+use Rattle.uc_report.specs.declared.report.Verdict.TheVariants.{Passed, Failed, Undef}
+use Rattle.uc_report.specs.declared.report.LineResult.{LineResult}
 
 -- the cause of a verdict as one of a report
 abbrev pub why_as : ℕ → FlatWhy → Why

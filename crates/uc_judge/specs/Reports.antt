@@ -9,10 +9,10 @@ use Rattle.uc_meaning.specs.Lines.{all_lines}
 use Rattle.uc_flat.specs.declared.flat.Flat.{Flat}
 use Rattle.uc_flat_lines.specs.Lines.{free_bits}
 use Rattle.uc_flat_design.specs.Design.{IsFlatOf}
-use Rattle.uc_control.specs.declared.report.LineResult.{LineResult}
-use Rattle.uc_control.specs.declared.report.Report.{Report}
-use Rattle.uc_control.specs.Prints.{prints_of}
-use Rattle.uc_control.specs.Verdicts.{IsRightVerdict, IsHonest}
+use Rattle.uc_report.specs.declared.report.LineResult.{LineResult}
+use Rattle.uc_report.specs.declared.report.Report.{Report}
+use Rattle.uc_report.specs.Prints.{prints_of}
+use Rattle.uc_report.specs.Verdicts.{IsRightVerdict, IsHonest}
 
 -- the free bits of a line: those of the constants, of the cells, of what the init code draws, and of what each step draws with its inputs
 abbrev pub line_bits : Flat → At → ℕ

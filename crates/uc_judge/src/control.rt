@@ -1,16 +1,16 @@
 //! The commands of a control block.
 
 ghost use Rattle.std.specs.Prelude.{◌+◌, ◌*◌, ◌≤◌, ◌<◌, ◌^◌, length, IfOk};
-ghost use Rattle.uc_control.specs.Verdicts.{out_of_budget};
+ghost use Rattle.uc_report.specs.Verdicts.{out_of_budget};
 ghost use Rattle.uc_judge.specs.Reports.{IsReport};
 
 use crate::lines::lines_as;
+use crate::{planned, prints_as};
 use std::alloc::{AllocError, Global};
-use uc_control::Report;
 use uc_flat_lines::judge_flat;
 use uc_items::Items;
 use uc_log::Meter;
-use uc_prints::{planned, prints_as};
+use uc_report::Report;
 use uc_runnable::Runnable;
 
 /// The report of the design's control block, with this budget of log entries for each line. Want of memory is answered too where a

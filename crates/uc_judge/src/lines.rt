@@ -2,17 +2,16 @@
 
 ghost use Rattle.std.specs.Prelude.{◌≡◌, map, slice_get, IfOk};
 ghost use Rattle.uc_meaning.specs.Steps.{state_of};
-ghost use Rattle.uc_flat_refutations.specs.Laws.{trace_of};
-ghost use Rattle.uc_flat_verdicts.specs.Laws.{decl_of};
+ghost use Rattle.uc_flat_laws.specs.FlatRefutationsLaws.{trace_of};
+ghost use Rattle.uc_flat_laws.specs.FlatVerdictsLaws.{decl_of};
 ghost use Rattle.uc_judge.specs.Lines.{why_as, verdict_as, line_as};
 
 use std::alloc::{AllocError, Global};
-use uc_control::{LineResult, Verdict, Why};
-use uc_flat::Flat;
+use uc_flat::{Flat, FlatPosition, FlatTrace};
 use uc_flat_lines::{FlatLine, FlatVerdict, FlatWhy};
-use uc_flat_traces::{FlatPosition, FlatTrace};
 use uc_items::{Items, at};
 use uc_meaning::{At, Choices, Interp, Line, Path, State, Trace, What};
+use uc_report::{LineResult, Verdict, Why};
 
 /// The states, each with the choices that led to it.
 fn states_of(

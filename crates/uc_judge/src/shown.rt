@@ -1,12 +1,11 @@
 //! A design as its report shows it.
 
 ghost use Rattle.std.specs.Prelude.{◌≡◌};
-ghost use Rattle.uc_heads.specs.Described.{described};
-ghost use Rattle.uc_trace.specs.Tables.{IsShown};
+ghost use Rattle.uc_report.specs.Described.{described};
+ghost use Rattle.uc_report.specs.TraceTables.{IsShown};
 
-use uc_heads::DesignView;
+use uc_report::{DesignView, ShownDesign};
 use uc_runnable::Runnable;
-use uc_trace::ShownDesign;
 
 /// The design with its labels, its constants and its cells, by reference.
 pub fn shown_design(d: &Runnable) -> ShownDesign<'_>

@@ -4,14 +4,13 @@ use crate::texts::modules_of;
 use std::alloc::{AllocError, Global};
 use std::process::Abort;
 use std::test::Fail;
-use uc_lone_faults::{note_large_enums, note_long_loops, note_named_twice};
 use uc_lookup::SystemRef;
-use uc_module_names::DesignNames;
+use uc_names::DesignNames;
 use uc_rules::Fault;
 use uc_sizes::is_too_large;
-use uc_stepped_once::note_stepped_twice;
 use uc_syntax::{Module, Names};
-use uc_use_rules::{has_long_uses, note_use_cycles};
+use uc_uses::{has_long_uses, note_use_cycles};
+use uc_written_once::{note_large_enums, note_long_loops, note_named_twice, note_stepped_twice};
 
 /// What the modules of a text are judged to be.
 #[derive(Clone, Copy, Debug, PartialEq, Eq)]

@@ -14,7 +14,7 @@ use Rattle.uc_meaning.specs.Lookup.{System}
 use Rattle.uc_meaning.specs.Types.{type_of_written}
 use Rattle.uc_meaning.proofs.Equations.{map-map}
 use Rattle.uc_meaning.specs.Cells.{InstanceAt, ConstantParts, FunctionParts, is_cell, is_symbol, same_path, cells_in, cells_of, cell_of, instances, modules_in_use, constants_in, constants_of, constant_number, functions_in, functions_of, function_number}
-use Rattle.uc_layout.specs.declared.cells.CellName.{CellName}
+use Rattle.uc_layout.specs.declared.layout_cells.CellName.{CellName}
 use Rattle.uc_layout.specs.declared.symbols.SymbolName.{SymbolName}
 use Rattle.uc_layout.specs.declared.symbols.SymbolKind.{SymbolKind}
 use Rattle.uc_layout.specs.declared.symbols.SymbolKind.TheVariants.{Constant, Function}

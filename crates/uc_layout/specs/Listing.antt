@@ -8,7 +8,7 @@ use Rattle.uc_syntax.specs.declared.declaration.Decl.TheVariants.{Variables}
 use Rattle.uc_syntax.specs.declared.declaration.Module.{Module}
 use Rattle.uc_meaning.specs.Lookup.{System, InstanceParts, first_some, some_if, is_named, instance_in, module_named, main_module, bound_to}
 use Rattle.uc_meaning.specs.Cells.{InstanceAt, Cell, is_cell, instances_from, instances, longest_chain}
-use Rattle.uc_layout.specs.declared.cells.CellName.{CellName}
+use Rattle.uc_layout.specs.declared.layout_cells.CellName.{CellName}
 use Rattle.uc_layout.specs.declared.listing.Here.{Here}
 
 abbrev pub instance_at : Here → InstanceAt

@@ -2,7 +2,7 @@
 use Rattle.std.specs.Prelude.{◌≡◌, List, map}
 use Rattle.uc_meaning.specs.Lookup.{System}
 use Rattle.uc_meaning.specs.Cells.{cells_of, constants_of, functions_of}
-use Rattle.uc_layout.specs.declared.cells.CellName.{CellName}
+use Rattle.uc_layout.specs.declared.layout_cells.CellName.{CellName}
 use Rattle.uc_layout.specs.declared.symbols.SymbolName.{SymbolName}
 use Rattle.uc_layout.specs.Listing.{cell_name}
 use Rattle.uc_layout.specs.Symbols.{symbol_name}

@@ -5,7 +5,7 @@ ghost use Rattle.uc_meaning.specs.Lookup.{system_of};
 ghost use Rattle.uc_meaning.specs.Cells.{cell_of, constant_number, function_number};
 ghost use Rattle.uc_lookup.specs.Parts.{system_in};
 
-use crate::cells::{self, CellName};
+use crate::layout_cells::{self, CellName};
 use crate::listing::list;
 use crate::symbols::{self, SymbolKind, SymbolName, list_symbols};
 use std::alloc::{AllocError, Global};
@@ -78,7 +78,7 @@ impl Layout {
     pub fn cell_of(&self, path: &[u32], name: u32) -> Option<usize>
         ensures { result ≡ cell_of self.now path.now name }
     {
-        cells::place_of(self.cells.as_slice(), path, name)
+        layout_cells::place_of(self.cells.as_slice(), path, name)
     }
 
     /// The number of a module's constant in an interpretation, and 0 for another name.

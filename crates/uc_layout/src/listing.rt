@@ -7,7 +7,7 @@ ghost use Rattle.uc_meaning.specs.Cells.{longest_chain, main_instance};
 ghost use Rattle.uc_lookup.specs.Parts.{system_in, instance_parts};
 ghost use Rattle.uc_layout.specs.Listing.{instance_at, cells_at, code_at, walk, walk_instance, below, listed};
 
-use crate::cells::{CellName, add_cells_at};
+use crate::layout_cells::{CellName, add_cells_at};
 use std::alloc::{AllocError, Global};
 use uc_items::Items;
 use uc_lookup::{InstanceParts, SystemRef};

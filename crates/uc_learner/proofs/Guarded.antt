@@ -4,8 +4,8 @@ use Rattle.std.proofs.lemmas.Bool.{cases_lt}
 use Rattle.std.proofs.lemmas.List.{get_or_append_left, get_or_push, get_or-take, length_push, length-take-le, take-append-le, take-take, take_at}
 use Rattle.uc_circuit.specs.declared.literal.Lit.{Lit}
 use Rattle.uc_circuit.specs.Values.{IsFalse}
-use Rattle.uc_watches.specs.Watched.{AllGuard}
-use Rattle.uc_watches.proofs.Linking.{guards_more}
+use Rattle.uc_rings.specs.Watched.{AllGuard}
+use Rattle.uc_rings.proofs.Linking.{guards_more}
 use Rattle.uc_learner.specs.declared.state.Step.{Step}
 use Rattle.uc_learner.specs.declared.state.State.{State}
 use Rattle.uc_learner.specs.Trail.{values_after, values_at}

@@ -6,8 +6,8 @@ use Rattle.uc_log.specs.Refutes.{AllWithin}
 use Rattle.uc_rings.specs.Lists.{place_of}
 use Rattle.uc_learner.specs.Rewatched.{AreWatchedTo}
 use Rattle.uc_circuit.specs.declared.literal.Lit.{Lit}
-use Rattle.uc_watches.specs.declared.watches.Watches.{Watches}
-use Rattle.uc_watches.specs.Watched.{Linked}
+use Rattle.uc_rings.specs.declared.watches.Watches.{Watches}
+use Rattle.uc_rings.specs.Watched.{Linked}
 use Rattle.uc_learner.specs.declared.state.State.{State}
 use Rattle.uc_learner.specs.Sound.{AreWatched}
 

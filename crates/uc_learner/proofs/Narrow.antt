@@ -4,9 +4,9 @@ use Rattle.std.specs.Prelude.{All, Contains, MatchOption}
 use Rattle.std.proofs.lemmas.List.{take_all, get_or_read}
 use Rattle.std.proofs.lemmas.List.Elements.{All-more, All-nil, All-weaker, Contains-get_or}
 use Rattle.uc_circuit.specs.declared.literal.Lit.{Lit}
-use Rattle.uc_watches.specs.declared.watches.Watches.{Watches}
-use Rattle.uc_watches.specs.Pairs.{HasTrue}
-use Rattle.uc_watches.proofs.Guarding.{true_later}
+use Rattle.uc_rings.specs.declared.watches.Watches.{Watches}
+use Rattle.uc_rings.specs.Pairs.{HasTrue}
+use Rattle.uc_rings.proofs.Guarding.{true_later}
 use Rattle.uc_learner.specs.declared.state.State.{State}
 use Rattle.uc_learner.specs.Propagated.{Gone, AreTrue, IsConflict, NarrowEnds}
 

@@ -16,8 +16,8 @@ use Rattle.uc_learner.specs.Sound.{Sound}
 use Rattle.uc_learner.specs.Moves.{Pushed, Cut, Ready, Onward, NoDecision, SettledOnce, left_of, unset_count}
 use Rattle.uc_circuit.specs.Values.{IsSettled}
 use Rattle.uc_learner.specs.ClauseStates.{AllSettled, ConflictIs}
-use Rattle.uc_watches.specs.declared.watches.Watches.{Watches}
-use Rattle.uc_watches.specs.Watched.{AllGuard}
+use Rattle.uc_rings.specs.declared.watches.Watches.{Watches}
+use Rattle.uc_rings.specs.Watched.{AllGuard}
 use Rattle.uc_learner.specs.Guarded.{DecisionsAreGuarded, IsGuarded}
 use Rattle.uc_learner.proofs.Guarded.{guarded_made, guarded_implied, guarded_decided}
 use Rattle.uc_learner.proofs.Linked.{watched_made}

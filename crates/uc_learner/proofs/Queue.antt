@@ -8,12 +8,12 @@ use Rattle.uc_circuit.specs.declared.literal.Lit.{Lit}
 use Rattle.uc_circuit.specs.Values.{assign, IsFalse, IsFalsified, HasNoValue, Forces}
 use Rattle.uc_log.proofs.Deny.{no_value}
 use Rattle.uc_rings.specs.Lists.{Lists, AreApart, place_of, slots_of, with_front, without}
-use Rattle.uc_watches.specs.declared.watches.Watches.{Watches}
-use Rattle.uc_watches.specs.Pairs.{IsTrueIn, HasTrue, partner}
-use Rattle.uc_watches.specs.Watched.{Linked, Guards, AllGuard, Below}
-use Rattle.uc_watches.proofs.Slots.{front_other, without_between}
-use Rattle.uc_watches.proofs.Linking.{SlotOf, slot_of, linked_moved, value_inside}
-use Rattle.uc_watches.proofs.Guarding.{guard_later, guard_moved, guard_true, other_not}
+use Rattle.uc_rings.specs.declared.watches.Watches.{Watches}
+use Rattle.uc_rings.specs.Pairs.{IsTrueIn, HasTrue, partner}
+use Rattle.uc_rings.specs.Watched.{Linked, Guards, AllGuard, Below}
+use Rattle.uc_rings.proofs.WatchesSlots.{front_other, without_between}
+use Rattle.uc_rings.proofs.Linking.{SlotOf, slot_of, linked_moved, value_inside}
+use Rattle.uc_rings.proofs.Guarding.{guard_later, guard_moved, guard_true, other_not}
 use Rattle.uc_learner.specs.declared.state.Step.{Step}
 use Rattle.uc_learner.specs.declared.state.State.{State}
 use Rattle.uc_learner.specs.Trail.{values_after, values_at}

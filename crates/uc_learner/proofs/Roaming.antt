@@ -6,7 +6,7 @@ use Rattle.uc_circuit.specs.declared.literal.Lit.{Lit}
 use Rattle.uc_log.specs.Refutes.{AllWithin}
 use Rattle.uc_log.specs.Entries.{Known}
 use Rattle.uc_log.specs.declared.entry.Entry.{Entry}
-use Rattle.uc_watches.specs.Watched.{Linked}
+use Rattle.uc_rings.specs.Watched.{Linked}
 use Rattle.uc_learner.specs.Learners.{input_flags}
 use Rattle.uc_learner.specs.declared.state.Step.{Step}
 use Rattle.uc_learner.specs.declared.state.State.{State}

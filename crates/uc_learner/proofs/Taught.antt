@@ -6,11 +6,11 @@ use Rattle.std.proofs.lemmas.List.Elements.{All-push, All-cons, All-head, All-we
 use Rattle.uc_circuit.specs.declared.literal.Lit.{Lit}
 use Rattle.uc_circuit.specs.Values.{assign, IsFalse, HasNoValue, Forces}
 use Rattle.uc_rings.specs.Lists.{place_of}
-use Rattle.uc_watches.specs.declared.watches.Watches.{Watches}
-use Rattle.uc_watches.specs.Pairs.{IsTrueIn}
-use Rattle.uc_watches.specs.Watched.{Linked, IsLinked, WatchesFirst, HasAdded, OtherIsTrue, AllGuard}
-use Rattle.uc_watches.proofs.Linking.{guards_more}
-use Rattle.uc_watches.proofs.Guarding.{guard_later}
+use Rattle.uc_rings.specs.declared.watches.Watches.{Watches}
+use Rattle.uc_rings.specs.Pairs.{IsTrueIn}
+use Rattle.uc_rings.specs.Watched.{Linked, IsLinked, WatchesFirst, HasAdded, OtherIsTrue, AllGuard}
+use Rattle.uc_rings.proofs.Linking.{guards_more}
+use Rattle.uc_rings.proofs.Guarding.{guard_later}
 use Rattle.uc_learner.specs.declared.state.Step.{Step}
 use Rattle.uc_learner.specs.declared.state.State.{State}
 use Rattle.uc_learner.specs.Trail.{values_after, values_at, IsImplied, IsInput, StepFits, TrailFits, NoneFalsified, DecisionsAreOpen, left}

@@ -10,12 +10,12 @@ use Rattle.uc_circuit.specs.Values.{assign, IsFalse}
 use Rattle.uc_rings.specs.Lists.{AreApart, InAList, first_of, place_of, slots_of}
 use Rattle.uc_rings.specs.Links.{NoneTwice}
 use Rattle.uc_rings.proofs.Slots.{apart_out, Contains-cons_cases, Contains-here}
-use Rattle.uc_watches.specs.declared.watches.Watches.{Watches}
-use Rattle.uc_watches.specs.Pairs.{HasTrue, partner}
-use Rattle.uc_watches.specs.Watched.{Guards, AllGuard, Below}
-use Rattle.uc_watches.proofs.Slots.{in_a_list, none_twice_in, not_in_nothing, rest_from, rest_first}
-use Rattle.uc_watches.proofs.Linking.{SlotOf, slot_of}
-use Rattle.uc_watches.proofs.Guarding.{guard_later, guard_passed, false_before, other_not, true_later, all_settled}
+use Rattle.uc_rings.specs.declared.watches.Watches.{Watches}
+use Rattle.uc_rings.specs.Pairs.{HasTrue, partner}
+use Rattle.uc_rings.specs.Watched.{Guards, AllGuard, Below}
+use Rattle.uc_rings.proofs.WatchesSlots.{in_a_list, none_twice_in, not_in_nothing, rest_from, rest_first}
+use Rattle.uc_rings.proofs.Linking.{SlotOf, slot_of}
+use Rattle.uc_rings.proofs.Guarding.{guard_later, guard_passed, false_before, other_not, true_later, all_settled}
 use Rattle.uc_learner.specs.declared.state.Step.{Step}
 use Rattle.uc_learner.specs.declared.state.State.{State}
 use Rattle.uc_learner.specs.Trail.{values_at}

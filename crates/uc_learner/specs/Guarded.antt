@@ -1,7 +1,7 @@
 -- Propagation was complete before each decision.
 use Rattle.std.specs.Prelude.{ℕ, List, Option}
 use Rattle.uc_circuit.specs.declared.literal.Lit.{Lit}
-use Rattle.uc_watches.specs.Watched.{AllGuard}
+use Rattle.uc_rings.specs.Watched.{AllGuard}
 use Rattle.uc_learner.specs.declared.state.State.{State}
 use Rattle.uc_learner.specs.declared.state.Step.{Step}
 use Rattle.uc_learner.specs.Trail.{values_at}

@@ -4,8 +4,8 @@ use Rattle.uc_circuit.specs.declared.literal.Lit.{Lit}
 use Rattle.uc_circuit.specs.Literals.{negate}
 use Rattle.uc_circuit.specs.Values.{IsFalse, IsFalsified}
 use Rattle.uc_rings.specs.Lists.{AreApart, slots_of}
-use Rattle.uc_watches.specs.Pairs.{HasTrue, partner}
-use Rattle.uc_watches.specs.Watched.{Guards, AllGuard, Below}
+use Rattle.uc_rings.specs.Pairs.{HasTrue, partner}
+use Rattle.uc_rings.specs.Watched.{Guards, AllGuard, Below}
 use Rattle.uc_learner.specs.declared.state.State.{State}
 use Rattle.uc_learner.specs.declared.state.Step.{Step}
 use Rattle.uc_learner.specs.Trail.{values_at}

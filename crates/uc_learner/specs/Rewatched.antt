@@ -2,7 +2,7 @@
 use Rattle.std.specs.Prelude.{◌≡◌, ◌≤◌, ℕ, length, take, vec_capacity}
 use Rattle.uc_learner.specs.declared.state.State.{State}
 use Rattle.uc_learner.specs.Sound.{AreWatched}
-use Rattle.uc_watches.specs.Watched.{Linked}
+use Rattle.uc_rings.specs.Watched.{Linked}
 
 -- the first clauses are watched, over some of the variables
 pub record AreWatchedTo (s : State) (first : ℕ) : Type 0 where

@@ -3,7 +3,7 @@ use Rattle.std.specs.Prelude.{◌≡◌, ◌<◌, ◌^◌, ◌≤◌, None, leng
 use Rattle.uc_log.specs.Refutes.{AllWithin}
 use Rattle.uc_learner.specs.declared.state.State.{State}
 use Rattle.uc_learner.specs.Trail.{values_after, TrailFits}
-use Rattle.uc_watches.specs.Watched.{Linked}
+use Rattle.uc_rings.specs.Watched.{Linked}
 
 -- the values are those of the steps, each step was right when it was made, and numbers of 32 bits serve
 pub record Sound (s : State) : Type 0 where

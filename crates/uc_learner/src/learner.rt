@@ -2,7 +2,7 @@
 
 ghost use Rattle.std.specs.Prelude.{◌≡◌, ◌≢◌, ◌+◌, ◌^◌, ◌<◌, ◌≤◌, ℕ, [], length, take, slice_get, slice_index_or, Some, Ok, Err, IfOk};
 ghost use Rattle.uc_circuit.specs.Circuits.{inputs_of};
-ghost use Rattle.uc_watches.specs.Watched.{IsWatched};
+ghost use Rattle.uc_rings.specs.Watched.{IsWatched};
 ghost use Rattle.uc_circuit.specs.Clauses.{Satisfies};
 ghost use Rattle.uc_circuit.specs.Literals.{literal_value};
 ghost use Rattle.uc_log.specs.Problems.{Question};

@@ -1,7 +1,7 @@
 //! Unit propagation: a literal that became false is looked up in the clauses that watch it.
 
 ghost use Rattle.std.specs.Prelude.{◌≡◌, [], None, true, false, slice_index_or, Contains, IsTrue, IfSome};
-ghost use Rattle.uc_watches.specs.Pairs.{HasTrue};
+ghost use Rattle.uc_rings.specs.Pairs.{HasTrue};
 ghost use Rattle.uc_learner.specs.Sound.{Sound};
 ghost use Rattle.uc_learner.specs.Guarded.{IsGuarded};
 ghost use Rattle.uc_learner.specs.ClauseStates.{ConflictIs};
@@ -10,7 +10,7 @@ ghost use Rattle.uc_learner.specs.Propagated.{Waiting, Gone, IsConflict, NarrowE
 
 use crate::state::{State, Step};
 use uc_circuit::{ClauseState, Lit, state_of};
-use uc_watches::{Fate, fate_of, partner};
+use uc_rings::{Fate, fate_of, partner};
 
 impl State {
     /// Makes every forced literal true, until a clause is false or nothing is forced. Takes no memory.

@@ -11,7 +11,7 @@ use crate::preferences::Preferences;
 use std::alloc::{AllocError, Global};
 use uc_circuit::{Circuit, Clause, Lit};
 use uc_log::{Entry, Problem};
-use uc_watches::Watches;
+use uc_rings::Watches;
 
 /// One literal that was made true: decided, or implied by the clause of that number.
 #[derive(Clone, Copy)]

@@ -9,9 +9,9 @@ use Rattle.uc_log.specs.Entries.{clauses_of, known_of, known_after}
 use Rattle.uc_log.proofs.Growth.{clauses_stay}
 use Rattle.uc_rings.specs.Lists.{Lists, InAList, first_of, place_of, slots_of}
 use Rattle.uc_rings.proofs.Slots.{Split, split, Contains-here, Contains-later}
-use Rattle.uc_watches.specs.Pairs.{HasTwo}
-use Rattle.uc_watches.specs.Watched.{IsWatched, StandsInTwo}
-use Rattle.uc_watches.proofs.Slots.{place_inside, in_a_list}
+use Rattle.uc_rings.specs.Pairs.{HasTwo}
+use Rattle.uc_rings.specs.Watched.{IsWatched, StandsInTwo}
+use Rattle.uc_rings.proofs.WatchesSlots.{place_inside, in_a_list}
 use Rattle.uc_learner.specs.Learners.{Learning, HasTaken, HasTakenFor}
 
 -- the place, if there is one, is a slot of the list

@@ -2,7 +2,7 @@
 
 ghost use Rattle.std.specs.Prelude.{◌≡◌, ℕ, ◌+◌, ◌*◌, ◌<◌, ◌≤◌, ◌^◌, [], length, slice_index_or};
 ghost use Rattle.uc_rings.specs.Lists.{Lists, place_of};
-ghost use Rattle.uc_watches.specs.Watched.{IsWatched};
+ghost use Rattle.uc_rings.specs.Watched.{IsWatched};
 ghost use Rattle.uc_learner.specs.Learners.{HasTaken, HasTakenFor};
 
 use crate::entries::take_over;

@@ -16,11 +16,11 @@ use Rattle.uc_meaning.specs.Code.{name_form}
 use Rattle.uc_meaning.specs.Lookup.{InstanceParts, System, first_some, instance_in, instances_of, is_named, or_else, some_if}
 use Rattle.uc_rules.specs.Names.{names_one_of}
 use Rattle.uc_rules.proofs.Lists.{take_turn}
-use Rattle.uc_way_laws.specs.AliasLaw.{IsAmong}
-use Rattle.uc_way_laws.proofs.Along.{or_left, or_right}
-use Rattle.uc_way_laws.proofs.Among.{among_split}
-use Rattle.uc_pair_laws.specs.Pairs.{SameThings}
-use Rattle.uc_pair_laws.proofs.Chosen.{added_once}
+use Rattle.uc_declared_types.specs.AliasLaw.{IsAmong}
+use Rattle.uc_declared_types.proofs.Along.{or_left, or_right}
+use Rattle.uc_declared_types.proofs.Among.{among_split}
+use Rattle.uc_order_rules.specs.Pairs.{SameThings}
+use Rattle.uc_order_rules.proofs.Chosen.{added_once}
 use Rattle.uc_module_writes.specs.Bound.{BindsApart, all_bound, bound_by, bound_in, declared_bindings, seen_in}
 use Rattle.uc_module_writes.specs.Stepped.{MeetsAmong, MeetsOutside}
 use Rattle.uc_module_writes.proofs.Outside.{apart_outside, bound_outside}

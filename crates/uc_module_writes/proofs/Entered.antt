@@ -14,16 +14,16 @@ use Rattle.uc_rules.specs.Faults.{first_of}
 use Rattle.uc_rules.specs.Names.{only_if}
 use Rattle.uc_rules.proofs.Lists.{take_turn}
 use Rattle.uc_lookup.specs.Parts.{if_named}
-use Rattle.uc_way_laws.specs.AliasLaw.{IsAmong}
-use Rattle.uc_way_laws.proofs.Among.{find_among}
+use Rattle.uc_declared_types.specs.AliasLaw.{IsAmong}
+use Rattle.uc_declared_types.proofs.Among.{find_among}
 use Rattle.uc_order_rules.specs.Writes.{Modules, Stepping, modified_in, modified_names, overlap, stepping_as, steps_in, written_by, written_through}
-use Rattle.uc_pair_laws.specs.Pairs.{any_pair}
+use Rattle.uc_order_rules.specs.Pairs.{any_pair}
 use Rattle.uc_written_once.specs.declared.effects.Effects.{Effects}
 use Rattle.uc_written_once.specs.declared.effects.Stepped.{Stepped}
 use Rattle.uc_written_once.specs.Effects.{AreEffects, SameStep, modified_by, procedure_by, stepped_by, stepping_of}
-use Rattle.uc_written_pairs.specs.declared.steps.StepTable.{StepTable}
-use Rattle.uc_written_pairs.specs.declared.written.WrittenPairs.{WrittenPairs}
-use Rattle.uc_written_pairs.specs.Found.{FindsBlock, FindsStepAs, FindsSteps, Steps, entered_by}
+use Rattle.uc_module_writes.specs.declared.steps.StepTable.{StepTable}
+use Rattle.uc_module_writes.specs.declared.written.WrittenPairs.{WrittenPairs}
+use Rattle.uc_module_writes.specs.Found.{FindsBlock, FindsStepAs, FindsSteps, Steps, entered_by}
 use Rattle.uc_module_writes.specs.Stepped.{AreTables, MeetsAmong, EntersStep, IsReady, IsStepAs, declared_procedure}
 use Rattle.uc_module_writes.proofs.Outside.{found_as, same_as}
 

@@ -1,3 +1,7 @@
+pub mod Growing
+pub mod Going
+pub mod Forms
+pub mod StepPartsBound
 pub mod Members
 pub mod BoundNames
 pub mod Outside

@@ -2,8 +2,8 @@
 use Rattle.std.proofs.Common.{◌≡◌, ℕ, true, List, ◌∷◌, ◌++◌, ◌∙◌, sym, arith, ◌⊎◌, inl, inr, ⊎_elim}
 use Rattle.std.specs.Prelude.{nat_eq}
 use Rattle.std.proofs.lemmas.List.Folds.{list_any-append}
-use Rattle.uc_needed_first.specs.Order.{has}
-use Rattle.uc_way_laws.proofs.Along.{either, or_left, or_right}
+use Rattle.uc_graph.specs.Order.{has}
+use Rattle.uc_declared_types.proofs.Along.{either, or_left, or_right}
 
 equal : (n m : ℕ) → nat_eq n m ≡ true → n ≡ m
 equal n m h = grind (arith, h)

@@ -13,17 +13,17 @@ use Rattle.uc_rules.specs.Faults.{first_of, IsIn}
 use Rattle.uc_rules.specs.Cycles.{instance_steps, instance_steps_from}
 use Rattle.uc_rules.proofs.Chains.{first_of_append}
 use Rattle.uc_rules.proofs.Lists.{take_turn}
-use Rattle.uc_name_table.specs.Senses.{module_in}
-use Rattle.uc_needed_first.specs.Order.{EachAfter, IsNeededFirst, has, needs}
+use Rattle.uc_names.specs.Senses.{module_in}
+use Rattle.uc_graph.specs.Order.{EachAfter, IsNeededFirst, has, needs}
 use Rattle.uc_module_writes.proofs.Members.{has_cons, has_first, has_split}
-use Rattle.uc_path_laws.proofs.SameFaults.{in_either, in_left, in_right, same_first}
-use Rattle.uc_way_laws.specs.AliasLaw.{IsAmong}
-use Rattle.uc_way_laws.proofs.Aliases.{find_name}
-use Rattle.uc_way_laws.proofs.Among.{find_among}
-use Rattle.uc_way_laws.proofs.Instances.{module_names}
+use Rattle.uc_order_rules.proofs.SameFaults.{in_either, in_left, in_right, same_first}
+use Rattle.uc_declared_types.specs.AliasLaw.{IsAmong}
+use Rattle.uc_declared_types.proofs.WayLawsAliases.{find_name}
+use Rattle.uc_declared_types.proofs.Among.{find_among}
+use Rattle.uc_declared_types.proofs.Instances.{module_names}
 use Rattle.uc_order_rules.specs.Writes.{twice_in_step, written_through}
-use Rattle.uc_written_pairs.specs.declared.written.WrittenPairs.{WrittenPairs}
-use Rattle.uc_written_pairs.specs.Found.{FindsBlock}
+use Rattle.uc_module_writes.specs.declared.written.WrittenPairs.{WrittenPairs}
+use Rattle.uc_module_writes.specs.Found.{FindsBlock}
 use Rattle.uc_module_writes.specs.declared.places.ModulePlaces.{ModulePlaces}
 use Rattle.uc_module_writes.specs.declared.summaries.Summaries.{Summaries}
 use Rattle.uc_module_writes.specs.Places.{place_by, place_named, places_in}

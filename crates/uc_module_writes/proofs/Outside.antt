@@ -9,15 +9,15 @@ use Rattle.uc_meaning.specs.Lookup.{InstanceParts}
 use Rattle.uc_meaning.specs.Steps.{is_prefix}
 use Rattle.uc_rules.specs.Names.{names_one_of}
 use Rattle.uc_order_rules.specs.Writes.{Meets, Modules, Part, is_empty, is_inside, meets_as, meets_outside, met, outer_name, outer_part, overlap, part_of_name, stepped_parts, stepping}
-use Rattle.uc_pair_laws.specs.Pairs.{Only, SameThings, any_pair}
+use Rattle.uc_order_rules.specs.Pairs.{Only, SameThings, any_pair}
 use Rattle.uc_written_once.specs.declared.effects.Stepped.{Stepped}
 use Rattle.uc_written_once.specs.Effects.{SameStep, stepping_of}
-use Rattle.uc_written_pairs.specs.declared.written.WrittenPairs.{WrittenPairs}
-use Rattle.uc_written_pairs.specs.Found.{FindsBlock, FindsStep, is_kept}
-use Rattle.uc_pair_laws.proofs.Chosen.{same_filter}
-use Rattle.uc_step_parts.specs.declared.outer.OuterNames.{OuterNames}
-use Rattle.uc_step_parts.specs.Outer.{IsOuter}
-use Rattle.uc_step_parts.proofs.Bound.{outer_as}
+use Rattle.uc_module_writes.specs.declared.written.WrittenPairs.{WrittenPairs}
+use Rattle.uc_module_writes.specs.Found.{FindsBlock, FindsStep, is_kept}
+use Rattle.uc_order_rules.proofs.Chosen.{same_filter}
+use Rattle.uc_module_writes.specs.declared.outer.OuterNames.{OuterNames}
+use Rattle.uc_module_writes.specs.Outer.{IsOuter}
+use Rattle.uc_module_writes.proofs.StepPartsBound.{outer_as}
 use Rattle.uc_module_writes.specs.Bound.{BindsApart}
 use Rattle.uc_module_writes.specs.Stepped.{IsIdle, IsStep, IsStepAs, MeetsOutside, joined, outer_pair, pair_by, unless}
 

@@ -10,10 +10,10 @@ use Rattle.uc_meaning.specs.Cells.{as_list}
 use Rattle.uc_meaning.specs.Lookup.{InstanceParts, instance_in, or_else}
 use Rattle.uc_rules.specs.Names.{only_if}
 use Rattle.uc_rules.proofs.Lists.{take_turn}
-use Rattle.uc_name_table.specs.Senses.{module_in}
-use Rattle.uc_needed_first.specs.Order.{has}
+use Rattle.uc_names.specs.Senses.{module_in}
+use Rattle.uc_graph.specs.Order.{has}
 use Rattle.uc_module_writes.proofs.Members.{has_cons, has_first, has_right}
-use Rattle.uc_way_laws.specs.AliasLaw.{IsAmong}
+use Rattle.uc_declared_types.specs.AliasLaw.{IsAmong}
 use Rattle.uc_module_writes.specs.declared.places.ModulePlaces.{ModulePlaces}
 use Rattle.uc_module_writes.specs.Places.{place_by, place_named, places_in}
 

@@ -4,9 +4,9 @@ use Rattle.std.specs.Prelude.{nat_eq, ◌||◌}
 use Rattle.uc_syntax.specs.declared.declaration.Module.{Module}
 use Rattle.uc_meaning.specs.Lookup.{System}
 use Rattle.uc_rules.specs.Cycles.{instance_steps, leads_to}
-use Rattle.uc_way_laws.specs.AliasLaw.{IsAmong}
-use Rattle.uc_way_laws.proofs.Along.{any_there, or_left, or_right}
-use Rattle.uc_way_laws.proofs.Instances.{module_names, instance_followed}
+use Rattle.uc_declared_types.specs.AliasLaw.{IsAmong}
+use Rattle.uc_declared_types.proofs.Along.{any_there, or_left, or_right}
+use Rattle.uc_declared_types.proofs.Instances.{module_names, instance_followed}
 use Rattle.uc_module_writes.specs.Premise.{NoInstanceCycles}
 
 same : (n : ℕ) → nat_eq n n ≡ true

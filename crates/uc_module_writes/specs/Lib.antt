@@ -1,3 +1,5 @@
+pub mod Found
+pub mod Outer
 pub mod Bound
 pub mod Places
 pub mod Stepped

@@ -10,18 +10,18 @@ use Rattle.uc_syntax.specs.declared.declaration.Module.{Module}
 use Rattle.uc_meaning.specs.Lookup.{System, InstanceParts, first_some, instance_in, instances_of, module_named, procedure_in}
 use Rattle.uc_rules.specs.declared.fault.Fault.{Fault}
 use Rattle.uc_rules.specs.Faults.{first_of}
-use Rattle.uc_name_table.specs.Senses.{module_in}
-use Rattle.uc_way_laws.specs.AliasLaw.{IsAmong}
+use Rattle.uc_names.specs.Senses.{module_in}
+use Rattle.uc_declared_types.specs.AliasLaw.{IsAmong}
 use Rattle.uc_order_rules.specs.Writes.{Meets, Part, meets_outside, outer_part, overlap, stepped_parts, written_through}
-use Rattle.uc_pair_laws.specs.Pairs.{Only, SameThings, any_pair}
-use Rattle.uc_step_parts.specs.declared.outer.OuterNames.{OuterNames}
-use Rattle.uc_step_parts.specs.Outer.{outer_part_by}
+use Rattle.uc_order_rules.specs.Pairs.{Only, SameThings, any_pair}
+use Rattle.uc_module_writes.specs.declared.outer.OuterNames.{OuterNames}
+use Rattle.uc_module_writes.specs.Outer.{outer_part_by}
 use Rattle.uc_written_once.specs.declared.effects.Effects.{Effects}
 use Rattle.uc_written_once.specs.declared.effects.Stepped.{Stepped}
 use Rattle.uc_written_once.specs.Effects.{procedure_by, stepped_by}
-use Rattle.uc_written_pairs.specs.declared.steps.StepTable.{StepTable}
-use Rattle.uc_written_pairs.specs.declared.written.WrittenPairs.{WrittenPairs}
-use Rattle.uc_written_pairs.specs.Found.{FindsBlock, TellsKept, entered_by, is_kept}
+use Rattle.uc_module_writes.specs.declared.steps.StepTable.{StepTable}
+use Rattle.uc_module_writes.specs.declared.written.WrittenPairs.{WrittenPairs}
+use Rattle.uc_module_writes.specs.Found.{FindsBlock, TellsKept, entered_by, is_kept}
 use Rattle.uc_module_writes.specs.declared.places.ModulePlaces.{ModulePlaces}
 use Rattle.uc_module_writes.specs.declared.summaries.Summaries.{Summaries}
 use Rattle.uc_module_writes.specs.Places.{place_by}

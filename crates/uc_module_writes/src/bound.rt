@@ -5,13 +5,13 @@ ghost use Rattle.std.specs.List.{filter_map, flat_map};
 ghost use Rattle.uc_syntax.specs.declared.declaration.Module.{Module as ModuleMeant};
 ghost use Rattle.uc_meaning.specs.Cells.{as_list};
 ghost use Rattle.uc_meaning.specs.Lookup.{instance_in, instances_of, InstanceParts};
-ghost use Rattle.uc_way_laws.specs.AliasLaw.{IsAmong};
-ghost use Rattle.uc_pair_laws.specs.Pairs.{SameThings};
+ghost use Rattle.uc_declared_types.specs.AliasLaw.{IsAmong};
+ghost use Rattle.uc_order_rules.specs.Pairs.{SameThings};
 ghost use Rattle.uc_module_writes.specs.Bound.{all_bound, bound_in, declared_bindings, seen_in, BindsApart};
 ghost use Rattle.uc_module_writes.specs.Stepped.{MeetsAmong};
 
+use crate::name_in;
 use std::alloc::{AllocError, Global};
-use uc_step_parts::name_in;
 use uc_syntax::{Binding, Decl, Module};
 use uc_type_names::NameSet;
 

@@ -6,8 +6,8 @@ ghost use Rattle.uc_syntax.specs.declared.declaration.Module.{Module};
 ghost use Rattle.uc_meaning.specs.Lookup.{System};
 ghost use Rattle.uc_rules.specs.Faults.{first_of};
 ghost use Rattle.uc_order_rules.specs.Writes.{overlap, twice_in_step, written_through};
-ghost use Rattle.uc_written_pairs.specs.Found.{FindsBlock};
-ghost use Rattle.uc_way_laws.specs.AliasLaw.{IsAmong};
+ghost use Rattle.uc_module_writes.specs.Found.{FindsBlock};
+ghost use Rattle.uc_declared_types.specs.AliasLaw.{IsAmong};
 ghost use Rattle.uc_module_writes.specs.Places.{place_by, place_named};
 ghost use Rattle.uc_module_writes.specs.Premise.{NoInstanceCycles};
 ghost use Rattle.uc_module_writes.specs.Stepped.{summary_by, MeetsAmong, IsReady, NotesModule};
@@ -17,14 +17,14 @@ use crate::graph::instance_graph;
 use crate::places::ModulePlaces;
 use crate::summaries::Summaries;
 use crate::tables::enter_all;
+use crate::{StepTable, WrittenPairs, written_pairs};
 use std::alloc::{AllocError, Global};
-use uc_module_names::DesignNames;
-use uc_needed_first::needed_first;
+use uc_graph::needed_first;
+use uc_names::DesignNames;
 use uc_rules::Fault;
 use uc_syntax::Decl;
 use uc_type_names::NameSet;
 use uc_written_once::{Effects, note_written_twice};
-use uc_written_pairs::{StepTable, WrittenPairs, written_pairs};
 
 /// Notes each statement of a next block of a design that writes a part which overlaps one that was written before on some path. Each
 /// module is judged by itself, by what the modules of its instances write.

@@ -4,7 +4,7 @@ ghost use Rattle.std.specs.Prelude.{◌≡◌, ℕ, IfOk};
 ghost use Rattle.uc_module_writes.specs.Places.{place_by, place_named};
 
 use std::alloc::{AllocError, Global};
-use uc_name_table::Firsts;
+use uc_names::Firsts;
 use uc_syntax::Module;
 
 /// For each name the place of the first module of the name.

@@ -6,18 +6,17 @@ ghost use Rattle.std.specs.Option.{option_map};
 ghost use Rattle.uc_meaning.specs.Cells.{as_list};
 ghost use Rattle.uc_meaning.specs.Lookup.{InstanceParts};
 ghost use Rattle.uc_order_rules.specs.Writes.{overlap, stepped_parts};
-ghost use Rattle.uc_pair_laws.specs.Pairs.{any_pair, SameThings};
-ghost use Rattle.uc_step_parts.specs.Outer.{IsOuter};
-ghost use Rattle.uc_written_pairs.specs.Found.{is_kept};
+ghost use Rattle.uc_order_rules.specs.Pairs.{any_pair, SameThings};
+ghost use Rattle.uc_module_writes.specs.Outer.{IsOuter};
+ghost use Rattle.uc_module_writes.specs.Found.{is_kept};
 ghost use Rattle.uc_module_writes.specs.Stepped.{pair_by, IsStep};
 
+use crate::{OuterNames, WrittenPairs, outer_part, overlaps, stepped_parts};
 use std::alloc::{AllocError, Global};
 use uc_items::Items;
-use uc_step_parts::{OuterNames, outer_part, overlaps, stepped_parts};
 use uc_syntax::Binding;
 use uc_type_names::NameSet;
 use uc_written_once::Stepped;
-use uc_written_pairs::WrittenPairs;
 
 /// What stepping an instance writes in the parent's names.
 pub(crate) fn step_of(

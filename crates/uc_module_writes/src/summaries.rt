@@ -4,10 +4,10 @@ ghost use Rattle.std.specs.Prelude.{◌≡◌, ℕ, None, Some, if◌then◌else
 ghost use Rattle.std.specs.Option.{option_copied};
 ghost use Rattle.uc_module_writes.specs.Stepped.{summary_at, summary_by};
 
+use crate::WrittenPairs;
 use crate::places::ModulePlaces;
 use indexmap::IndexMap;
 use std::alloc::{AllocError, Global};
-use uc_written_pairs::WrittenPairs;
 
 /// What the next blocks of modules write, by the places of the modules.
 #[derive(Drop)]

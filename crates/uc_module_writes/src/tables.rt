@@ -6,18 +6,18 @@ ghost use Rattle.uc_syntax.specs.declared.declaration.Decl.{Decl};
 ghost use Rattle.uc_meaning.specs.Lookup.{instance_in, or_else, procedure_in, InstanceParts as InstanceMeant};
 ghost use Rattle.uc_lookup.specs.Parts.{if_named, instance_parts};
 ghost use Rattle.uc_written_once.specs.Effects.{procedure_by, stepped_by};
-ghost use Rattle.uc_written_pairs.specs.Found.{entered_by};
+ghost use Rattle.uc_module_writes.specs.Found.{entered_by};
 ghost use Rattle.uc_module_writes.specs.Stepped.{declared_procedure, summary_by, AreTables, EntersStep, IsStepAs};
 
 use crate::places::ModulePlaces;
 use crate::stepping::{step_of, stepped_from};
 use crate::summaries::Summaries;
+use crate::{StepTable, WrittenPairs};
 use std::alloc::{AllocError, Global};
 use uc_lookup::InstanceParts;
 use uc_syntax::{Decl, Procedure};
 use uc_type_names::NameSet;
 use uc_written_once::Effects;
-use uc_written_pairs::{StepTable, WrittenPairs};
 
 /// Enters the procedures and the instances among some declarations.
 pub(crate) fn enter_all<'a>(

@@ -19,12 +19,12 @@ use Rattle.uc_ops.proofs.Lists.{at_place}
 use Rattle.uc_symstep.specs.Stands.{holds, IsTruth}
 use Rattle.uc_symstep.proofs.Grown.{grows_value}
 use Rattle.uc_symstep.proofs.Runs.{last_state}
-use Rattle.uc_flat_traces.specs.declared.trace.FlatPosition.{FlatPosition}
-use Rattle.uc_flat_traces.specs.declared.trace.FlatTrace.{FlatTrace}
-use Rattle.uc_flat_traces.specs.Traces.{RefutesFlat}
-use Rattle.uc_flat_traces.specs.Laws.{after, ArePositions}
-use Rattle.uc_flat_traces.proofs.Running.{refutes}
-use Rattle.uc_flat_traces.proofs.Finding.{found}
+use Rattle.uc_flat.specs.declared.trace.FlatPosition.{FlatPosition}
+use Rattle.uc_flat.specs.declared.trace.FlatTrace.{FlatTrace}
+use Rattle.uc_flat.specs.Traces.{RefutesFlat}
+use Rattle.uc_flat.specs.FlatTracesLaws.{after, ArePositions}
+use Rattle.uc_flat.proofs.Running.{refutes}
+use Rattle.uc_flat.proofs.FlatTracesFinding.{found}
 use Rattle.uc_obligations.specs.declared.unrolling.Unrolling.{Unrolling}
 use Rattle.uc_obligations.specs.Unrolling.{IsUnrolled}
 use Rattle.uc_obligations.specs.Reading.{position_read, IsTraceOf}

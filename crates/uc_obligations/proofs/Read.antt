@@ -28,9 +28,9 @@ use Rattle.uc_symstep.specs.declared.state.SymState.{SymState}
 use Rattle.uc_symstep.specs.Stands.{choice_in, hit_in, IsChoice, IsHit}
 use Rattle.uc_symstep.specs.Designs.{AreStates}
 use Rattle.uc_symstep.proofs.States.{flat_map_push}
-use Rattle.uc_flat_traces.specs.declared.trace.FlatPosition.{FlatPosition}
-use Rattle.uc_flat_traces.specs.Traces.{constant_types}
-use Rattle.uc_flat_traces.specs.Laws.{ArePositions}
+use Rattle.uc_flat.specs.declared.trace.FlatPosition.{FlatPosition}
+use Rattle.uc_flat.specs.Traces.{constant_types}
+use Rattle.uc_flat.specs.FlatTracesLaws.{ArePositions}
 use Rattle.uc_obligations.specs.Reading.{choice_read, hit_read, position_read, IsFitting, AreRead, beginning_with, AreNumbers, AreValues, IsTraceOf}
 
 pub part_some : (values : List Value) (k : ℕ) (v : Value) → slice_get values k ≡ Some v → part values k ≡ v

@@ -20,8 +20,8 @@ use Rattle.uc_flat.specs.Flats.{IsSound}
 use Rattle.uc_symstep.specs.declared.state.SymState.{SymState}
 use Rattle.uc_symstep.specs.Known.{IsKnown}
 use Rattle.uc_symstep.proofs.Models.{Agree, same_value}
-use Rattle.uc_flat_traces.specs.declared.trace.FlatTrace.{FlatTrace}
-use Rattle.uc_flat_traces.specs.Traces.{constant_types}
+use Rattle.uc_flat.specs.declared.trace.FlatTrace.{FlatTrace}
+use Rattle.uc_flat.specs.Traces.{constant_types}
 use Rattle.uc_obligations.specs.declared.unrolling.Unrolling.{Unrolling}
 use Rattle.uc_obligations.specs.Unrolling.{IsUnrolled}
 use Rattle.uc_obligations.specs.Reading.{AreRead, beginning_with, AreNumbers, AreValues, IsToldBy}

@@ -11,9 +11,9 @@ use Rattle.uc_flat.specs.declared.flat.Formula.{Formula}
 use Rattle.uc_flat.specs.Unrolled.{is_refuted}
 use Rattle.uc_symstep.specs.Stands.{holds}
 use Rattle.uc_symstep.specs.Known.{IsKnown, supply_after}
-use Rattle.uc_flat_traces.specs.declared.trace.FlatTrace.{FlatTrace}
-use Rattle.uc_flat_traces.specs.Traces.{constant_types, HasConstants, RefutesFlat}
-use Rattle.uc_flat_traces.specs.Laws.{after}
+use Rattle.uc_flat.specs.declared.trace.FlatTrace.{FlatTrace}
+use Rattle.uc_flat.specs.Traces.{constant_types, HasConstants, RefutesFlat}
+use Rattle.uc_flat.specs.FlatTracesLaws.{after}
 
 -- A term is the goal of a formula after n steps: under each model it is true exactly where all axioms and assumptions hold on the run of the model and the formula is false at its end.
 abbrev pub IsGoal : Flat → Formula → ℕ → List Node → ℕ → Type 0

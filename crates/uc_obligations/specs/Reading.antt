@@ -20,9 +20,9 @@ use Rattle.uc_symstep.specs.declared.state.Hit.{Hit}
 use Rattle.uc_symstep.specs.declared.state.SymState.{SymState}
 use Rattle.uc_symstep.specs.Stands.{holds}
 use Rattle.uc_symstep.specs.Known.{IsKnown}
-use Rattle.uc_flat_traces.specs.declared.trace.FlatPosition.{FlatPosition}
-use Rattle.uc_flat_traces.specs.declared.trace.FlatTrace.{FlatTrace}
-use Rattle.uc_flat_traces.specs.Traces.{HasConstants, constant_types}
+use Rattle.uc_flat.specs.declared.trace.FlatPosition.{FlatPosition}
+use Rattle.uc_flat.specs.declared.trace.FlatTrace.{FlatTrace}
+use Rattle.uc_flat.specs.Traces.{HasConstants, constant_types}
 
 -- what is read of a state, where each term has its value in a list, by its number
 abbrev pub choice_read : List Value → Choice → List Value

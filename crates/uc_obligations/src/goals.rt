@@ -15,8 +15,7 @@ use crate::axioms::refuted_term;
 use crate::reading::trace_of;
 use crate::unrolling::Unrolling;
 use std::alloc::{AllocError, Global};
-use uc_flat::Flat;
-use uc_flat_traces::FlatTrace;
+use uc_flat::{Flat, FlatTrace};
 use uc_linear::LinearError;
 use uc_terms::{Model, TermId, Terms};
 

@@ -10,8 +10,7 @@ ghost use Rattle.uc_ops.specs.Meaning.{part, fitting};
 ghost use Rattle.uc_obligations.specs.Reading.{position_read, choice_read, hit_read, beginning_with, AreNumbers, IsFitting, AreConstantsOf, MeetsIn, IsToldBy};
 
 use std::alloc::{AllocError, Global};
-use uc_flat::Flat;
-use uc_flat_traces::{FlatPosition, FlatTrace};
+use uc_flat::{Flat, FlatPosition, FlatTrace};
 use uc_items::{Items, at};
 use uc_linear::LinearError;
 use uc_symstep::{Choice, Hit, SymState};

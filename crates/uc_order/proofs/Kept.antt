@@ -6,10 +6,10 @@ use Rattle.uc_rules.specs.declared.fault.Fault.{Fault}
 use Rattle.uc_rules.specs.Faults.{first_of}
 use Rattle.uc_order_rules.specs.Order.{order_faults}
 use Rattle.uc_types.specs.Typed.{Typed, KeepsTypes}
-use Rattle.uc_use_bounds.specs.BoundLaw.{InstancesEnd}
-use Rattle.uc_kept_names.proofs.Kept.{rules_keep_instances}
-use Rattle.uc_kept_modules.specs.KeptModules.{HasModules}
-use Rattle.uc_kept_modules.proofs.Kept.{rules_keep_modules}
+use Rattle.uc_uses.specs.BoundLaw.{InstancesEnd}
+use Rattle.uc_uses.proofs.KeptNamesKept.{rules_keep_instances}
+use Rattle.uc_uses.specs.KeptModules.{HasModules}
+use Rattle.uc_uses.proofs.KeptModulesKept.{rules_keep_modules}
 use Rattle.uc_order.specs.Ordered.{system_in}
 use Rattle.uc_syntax.specs.Contents.{Contents}
 

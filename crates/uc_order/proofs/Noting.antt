@@ -5,7 +5,7 @@ use Rattle.uc_meaning.specs.Lookup.{System}
 use Rattle.uc_rules.specs.declared.fault.Fault.{Fault}
 use Rattle.uc_rules.specs.Faults.{first_of}
 use Rattle.uc_rules.proofs.Chains.{first_of_append}
-use Rattle.uc_fault_order.proofs.Swaps.{any_order}
+use Rattle.uc_rules.proofs.Swaps.{any_order}
 use Rattle.uc_syntax.specs.declared.declaration.Module.{Module}
 use Rattle.uc_order_rules.specs.Stepped.{stepped_twice}
 use Rattle.uc_order_rules.specs.Writes.{twice_in_step, twice_in_code, sequential_in}

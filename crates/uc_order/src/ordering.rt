@@ -3,8 +3,8 @@
 ghost use Rattle.std.specs.Prelude.{◌≡◌, None, IfOk, IfErr, IsOk, OnOk};
 ghost use Rattle.uc_rules.specs.Faults.{first_of};
 ghost use Rattle.uc_meaning.specs.Lookup.{system_of};
-ghost use Rattle.uc_use_bounds.specs.BoundLaw.{InstancesEnd};
-ghost use Rattle.uc_kept_modules.specs.KeptModules.{HasModules};
+ghost use Rattle.uc_uses.specs.BoundLaw.{InstancesEnd};
+ghost use Rattle.uc_uses.specs.KeptModules.{HasModules};
 ghost use Rattle.uc_order_rules.specs.Order.{KeepsOrder, IsFirstOrderFault, order_faults};
 ghost use Rattle.uc_types.specs.Typed.{KeepsTypes};
 ghost use Rattle.uc_order.specs.Ordered.{system_in, IsOrderError};
@@ -15,11 +15,11 @@ use crate::sizes::note_sizes;
 use crate::steps::note_steps;
 use std::alloc::{AllocError, Global};
 use uc_lookup::SystemRef;
-use uc_module_names::DesignNames;
+use uc_names::DesignNames;
 use uc_rules::{Fault, verdict};
 use uc_syntax::Design;
 use uc_types::TypedDesign;
-use uc_use_rules::note_use_cycles;
+use uc_uses::note_use_cycles;
 
 /// The design, where no rule on order or sizes is broken. Else it is refused with the first fault.
 pub fn order(alloc: Global, typed: TypedDesign) -> Result<Ordered, OrderError>

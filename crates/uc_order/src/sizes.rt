@@ -3,19 +3,17 @@
 ghost use Rattle.std.specs.Prelude.{◌≡◌, ◌++◌, ◌||◌, ◌&&◌, None, is_none, IfOk, OnOk};
 ghost use Rattle.std.specs.List.{flat_map, list_any};
 ghost use Rattle.uc_rules.specs.Faults.{first_of};
-ghost use Rattle.uc_use_bounds.specs.BoundLaw.{InstancesEnd};
+ghost use Rattle.uc_uses.specs.BoundLaw.{InstancesEnd};
 ghost use Rattle.uc_order_rules.specs.Sizes.{label_faults, turn_faults, is_too_large};
 ghost use Rattle.uc_order_rules.specs.Order.{cycles, size_faults, whole_faults, whole_faults_if, has_large_tree, has_long_uses, roots};
 
 use std::alloc::{AllocError, Global};
-use uc_instance_counts::{has_many_cells, has_many_instances};
-use uc_instance_depth::has_deep_module;
-use uc_lone_faults::{note_large_enums, note_long_loops};
-use uc_module_names::DesignNames;
+use uc_names::DesignNames;
 use uc_rules::{Fault, Rule, note_where};
 use uc_sizes::is_too_large;
 use uc_syntax::Module;
-use uc_use_rules::has_long_uses;
+use uc_uses::{has_deep_module, has_long_uses, has_many_cells, has_many_instances};
+use uc_written_once::{note_large_enums, note_long_loops};
 
 /// Notes what is too large, behind the cycles of uses. Chains of uses are judged where no cycle is at fault, and what main expands to
 /// where no loop is either.

@@ -3,20 +3,19 @@
 ghost use Rattle.std.specs.Prelude.{◌≡◌, ◌++◌, OnOk};
 ghost use Rattle.std.specs.List.{flat_map};
 ghost use Rattle.uc_rules.specs.Faults.{first_of};
-ghost use Rattle.uc_use_bounds.specs.BoundLaw.{InstancesEnd};
-ghost use Rattle.uc_kept_modules.specs.KeptModules.{HasModules};
+ghost use Rattle.uc_uses.specs.BoundLaw.{InstancesEnd};
+ghost use Rattle.uc_uses.specs.KeptModules.{HasModules};
 ghost use Rattle.uc_order_rules.specs.Stepped.{stepped_twice};
 ghost use Rattle.uc_order_rules.specs.Writes.{twice_in_code, sequential_in};
 ghost use Rattle.uc_order_rules.specs.Order.{step_faults};
 
 use std::alloc::{AllocError, Global};
-use uc_lone_faults::note_named_twice;
-use uc_module_names::DesignNames;
 use uc_module_writes::note_twice_in_step;
+use uc_names::DesignNames;
 use uc_rules::Fault;
 use uc_step_cycles::note_cyclic_steps;
-use uc_stepped_once::note_stepped_twice;
 use uc_syntax::Module;
+use uc_written_once::{note_named_twice, note_stepped_twice};
 
 /// Notes the faults of steps of all modules.
 pub(crate) fn note_steps(

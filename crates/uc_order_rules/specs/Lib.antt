@@ -8,3 +8,7 @@ pub mod Reads
 pub mod Dependence
 pub mod Sizes
 pub mod Order
+pub mod Walks
+pub mod Pairs
+pub mod Passages
+pub mod Reading

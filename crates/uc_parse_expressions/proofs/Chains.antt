@@ -1,10 +1,10 @@
 -- Chains, and what the loops over their operands keep.
 use Rattle.std.proofs.Common.{◌≡◌, ℕ, true, false, List, [], ◌∷◌, ◌++◌, Ok, Err, refl, sym, ap, ◌∙◌, append_assoc, map}
 use Rattle.std.proofs.lemmas.List.{append-nil}
-use Rattle.uc_counted.specs.Counted.{State, Outcome, turned, paired, turns, with_front}
-use Rattle.uc_counted.specs.Gives.{StopsAt}
-use Rattle.uc_counted.proofs.Advances.{Advances}
-use Rattle.uc_counted.proofs.Turns.{goes_on, is_done, loop_fails, begins}
+use Rattle.uc_forms.specs.Counted.{State, Outcome, turned, paired, turns, with_front}
+use Rattle.uc_forms.specs.CountedGives.{StopsAt}
+use Rattle.uc_forms.proofs.Advances.{Advances}
+use Rattle.uc_forms.proofs.CountedTurns.{goes_on, is_done, loop_fails, begins}
 use Rattle.uc_forms.specs.declared.fault.Fault.{Fault}
 use Rattle.uc_forms.specs.declared.stop.Stop.{Stop}
 use Rattle.uc_forms.specs.declared.stop.Stop.TheVariants as stops
@@ -19,8 +19,8 @@ use Rattle.uc_parse_expressions.specs.Chains.{gathered, chain_form, operand_form
 use Rattle.uc_parse_expressions.specs.Signs.{minus}
 use Rattle.uc_parse_expressions.specs.declared.chain.Chain.{Chain}
 use Rattle.uc_parse_expressions.specs.declared.chain.Chain.TheVariants.{Product, Concat, BitAnd, BitXor, BitOr, And, Or, Implies, Iff}
-use Rattle.uc_reader.specs.Reading.{form}
-use Rattle.uc_reader.proofs.Here.{takes}
+use Rattle.uc_parse_expressions.specs.Reading.{form}
+use Rattle.uc_parse_expressions.proofs.Here.{takes}
 use Rattle.uc_syntax.specs.declared.expression.Expr.{Expr}
 use Rattle.uc_syntax.specs.declared.expression.Expr.TheViews as exprs
 

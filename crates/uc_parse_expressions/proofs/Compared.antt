@@ -1,8 +1,8 @@
 -- Comparisons.
 use Rattle.std.proofs.Common.{◌≡◌, ℕ, true, false, Option, Some, None, Ok, Err, refl, ap, ◌∙◌, ◌⊎◌, inl, inr}
-use Rattle.uc_counted.specs.Counted.{State, Outcome, turned, paired}
-use Rattle.uc_counted.specs.Gives.{StopsAt}
-use Rattle.uc_counted.proofs.Shapes.{first_is}
+use Rattle.uc_forms.specs.Counted.{State, Outcome, turned, paired}
+use Rattle.uc_forms.specs.CountedGives.{StopsAt}
+use Rattle.uc_forms.proofs.Shapes.{first_is}
 use Rattle.uc_forms.specs.Form.{both, made, one_of, nothing}
 use Rattle.uc_forms.specs.declared.fault.Fault.{Fault}
 use Rattle.uc_forms.specs.declared.stop.Stop.{Stop}
@@ -13,7 +13,7 @@ use Rattle.uc_grammar.specs.declared.word.Kind.TheVariants.{Equal}
 use Rattle.uc_grammar.specs.Syntax.{words, rule, opens, F, Placed, optional, bit_or, compared, compared_of, comparison}
 use Rattle.uc_parse_expressions.specs.Signs.{orders, order_codes}
 use Rattle.uc_parse_expressions.proofs.Chains.{pair_is, pair_fails}
-use Rattle.uc_reader.specs.Reading.{form}
+use Rattle.uc_parse_expressions.specs.Reading.{form}
 use Rattle.uc_syntax.specs.declared.expression.Expr.TheViews as exprs
 
 abbrev compared_with : F (Word × Placed)

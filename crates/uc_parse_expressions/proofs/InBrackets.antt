@@ -1,14 +1,14 @@
 -- Brackets with an index.
 use Rattle.std.proofs.Common.{◌≡◌, ℕ, ◌-◌, ◌<◌, false, [], Ok, Err, refl, ◌∙◌, ◌⊎◌, inl, inr}
-use Rattle.uc_counted.specs.Counted.{State, Outcome, turned, count_word}
+use Rattle.uc_forms.specs.Counted.{State, Outcome, turned, count_word}
 use Rattle.uc_forms.specs.Reading.{is_at_two}
 use Rattle.uc_grammar.specs.declared.word.Word.{Word}
 use Rattle.uc_grammar.specs.declared.word.Kind.TheVariants.{Number, Colon, LeftBracket}
 use Rattle.uc_grammar.specs.Syntax as syntax
 use Rattle.uc_grammar.specs.Syntax.{words}
 use Rattle.uc_parse_expressions.specs.Parts.{element, element_of, new_value}
-use Rattle.uc_reader.specs.Reading.{form, nested}
-use Rattle.uc_reader.proofs.Here.{one_deeper}
+use Rattle.uc_parse_expressions.specs.Reading.{form, nested}
+use Rattle.uc_parse_expressions.proofs.Here.{one_deeper}
 use Rattle.uc_syntax.specs.declared.expression.Expr.{Expr}
 use Rattle.uc_syntax.specs.declared.expression.Selection.{Selection}
 use Rattle.uc_syntax.specs.declared.expression.Selection.TheVariants as selection_kinds

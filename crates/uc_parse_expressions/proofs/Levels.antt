@@ -1,8 +1,8 @@
 -- Reading a level goes on from the level below, and changes nothing where the next word is none of its operators.
 use Rattle.std.proofs.Common.{◌≡◌, ℕ, zero, suc, ◌<◌, ◌≤◌, ◌==◌, Bool, true, false, List, [], ◌∷◌, Ok, Err, refl, sym, ap, subst, ◌∙◌, arith}
 use Rattle.std.proofs.lemmas.Bool.{eqb-true, eqb-false}
-use Rattle.uc_counted.specs.Counted.{State, Outcome, turned, paired}
-use Rattle.uc_counted.specs.Gives.{StopsAt}
+use Rattle.uc_forms.specs.Counted.{State, Outcome, turned, paired}
+use Rattle.uc_forms.specs.CountedGives.{StopsAt}
 use Rattle.uc_forms.specs.declared.fault.Fault.{Fault}
 use Rattle.uc_forms.specs.declared.stop.Stop.{Stop}
 use Rattle.uc_forms.specs.declared.stop.Stop.TheVariants as stops
@@ -22,7 +22,7 @@ use Rattle.uc_parse_expressions.specs.declared.chain.Chain.{Chain}
 use Rattle.uc_parse_expressions.specs.declared.chain.Chain.TheVariants.{Product, Concat, BitAnd, BitXor, BitOr, And, Or, Implies, Iff}
 use Rattle.uc_parse_expressions.specs.declared.level.Level.{Level}
 use Rattle.uc_parse_expressions.specs.declared.level.Level.TheVariants as level_kinds
-use Rattle.uc_reader.specs.Reading.{form}
+use Rattle.uc_parse_expressions.specs.Reading.{form}
 use Rattle.uc_syntax.specs.declared.expression.Expr.TheViews as exprs
 
 -- ---- the order of levels

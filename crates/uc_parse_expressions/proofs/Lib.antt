@@ -1,3 +1,4 @@
+pub mod Here
 mod Chains
 mod Compared
 mod InBrackets

@@ -1,6 +1,6 @@
 -- The levels of expressions.
 use Rattle.std.specs.Prelude.{ℕ, List, [], ◌∷◌}
-use Rattle.uc_counted.specs.Counted.{Outcome, turned, paired}
+use Rattle.uc_forms.specs.Counted.{Outcome, turned, paired}
 use Rattle.uc_forms.specs.Form.{both, word, one_of, many}
 use Rattle.uc_grammar.specs.Code.{code_of}
 use Rattle.uc_grammar.specs.declared.word.Word.{Word}
@@ -12,7 +12,7 @@ use Rattle.uc_parse_expressions.specs.Signs.{minus, sum_codes, orders, order_cod
 use Rattle.uc_parse_expressions.specs.declared.chain.Chain.TheVariants.{Product, Concat, BitAnd, BitXor, BitOr, And, Or, Implies, Iff}
 use Rattle.uc_parse_expressions.specs.declared.level.Level.{Level}
 use Rattle.uc_parse_expressions.specs.declared.level.Level.TheVariants as level_kinds
-use Rattle.uc_reader.specs.Reading.{form}
+use Rattle.uc_parse_expressions.specs.Reading.{form}
 
 -- how many levels bind tighter
 abbrev pub height : Level → ℕ

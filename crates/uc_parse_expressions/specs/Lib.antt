@@ -1,3 +1,5 @@
+pub mod Reading
+pub mod Tails
 pub mod Chains
 pub mod Gives
 pub mod Heads

@@ -3,9 +3,9 @@
 ghost use Rattle.std.specs.Prelude.{◌≡◌};
 ghost use Rattle.uc_parse_expressions.specs.Levels.{height, level_of, level_here};
 
+use crate::Reader;
 use crate::chain::Chain;
 use uc_grammar::Kind;
-use uc_reader::Reader;
 
 /// A level reads an operand of the level below, and goes on with operators of its own.
 #[derive(Clone, Copy, Debug)]

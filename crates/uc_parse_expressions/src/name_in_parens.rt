@@ -1,12 +1,12 @@
 //! A name in parentheses.
 
-ghost use Rattle.uc_counted.specs.Gives.{Counts};
+ghost use Rattle.uc_forms.specs.CountedGives.{Counts};
 ghost use Rattle.uc_grammar.specs.Syntax as syntax;
-ghost use Rattle.uc_reader.specs.Reading.{state, nested};
+ghost use Rattle.uc_parse_expressions.specs.Reading.{state, nested};
 
+use crate::Reader;
 use uc_forms::Stop;
 use uc_grammar::Kind;
-use uc_reader::Reader;
 use uc_syntax::Identifier;
 
 /// `( Id )`

@@ -1,8 +1,8 @@
 //! Reads expressions from words.
 
 ghost use Rattle.std.specs.Prelude.{◌≡◌, ◌∷◌, [], List, Ok};
-ghost use Rattle.uc_counted.specs.Counted.{with_front, turned, turns};
-ghost use Rattle.uc_counted.specs.Gives.{Counts, Leaves};
+ghost use Rattle.uc_forms.specs.Counted.{with_front, turned, turns};
+ghost use Rattle.uc_forms.specs.CountedGives.{Counts, Leaves};
 ghost use Rattle.uc_forms.specs.Form.{before, both, word, one_of};
 ghost use Rattle.uc_grammar.specs.Code.{code_of};
 ghost use Rattle.uc_grammar.specs.declared.word.Kind.TheVariants.{Plus};
@@ -16,7 +16,7 @@ ghost use Rattle.uc_parse_expressions.specs.declared.level.Level.TheVariants as 
 ghost use Rattle.uc_parse_expressions.specs.Parts as parts;
 ghost use Rattle.uc_parse_expressions.specs.Parts.{element_of};
 ghost use Rattle.uc_parse_expressions.specs.Signs.{minus, sum_codes};
-ghost use Rattle.uc_reader.specs.Reading.{state, form, nested};
+ghost use Rattle.uc_parse_expressions.specs.Reading.{state, form, nested};
 
 use crate::chain::Chain;
 use crate::head::Head;
@@ -26,10 +26,10 @@ use crate::signs::{
     at_bounds, at_comparison, at_sign, at_sum_sign, comparison_of, no_level_for_sign, sum_sign_of,
     take_comparison, take_sign, take_sum_sign, unary_operator_of,
 };
+use crate::{Reader, name_of, value_of, width_of};
 use uc_forms::Stop;
 use uc_grammar::{Kind, Word};
 use uc_items::{Boxed, Items, beside};
-use uc_reader::{Reader, name_of, value_of, width_of};
 use uc_syntax::{Branch, Expr, Place, Primary, Selection, SumSign};
 
 const NUMBER: Kind = Kind::Number(0);

@@ -4,17 +4,17 @@ ghost use Rattle.std.specs.Prelude.{◌≡◌, ◌∷◌, []};
 ghost use Rattle.uc_forms.specs.Form.{member, quiet};
 ghost use Rattle.uc_forms.specs.Gives.{stop_deep};
 ghost use Rattle.uc_forms.specs.Reading.{is_at, is_at_two};
-ghost use Rattle.uc_counted.specs.Counted.{count_any};
-ghost use Rattle.uc_counted.specs.Gives.{Counts};
+ghost use Rattle.uc_forms.specs.Counted.{count_any};
+ghost use Rattle.uc_forms.specs.CountedGives.{Counts};
 ghost use Rattle.uc_grammar.specs.Code.{code_of};
 ghost use Rattle.uc_grammar.specs.Syntax.{words, comparison, sum_sign, unary_operator};
 ghost use Rattle.uc_grammar.specs.declared.word.Kind.TheVariants.{Plus, Equal, Not, Number, Colon};
 ghost use Rattle.uc_parse_expressions.specs.Signs.{minus, orders, further_signs, sum_codes, order_codes, sign_codes};
-ghost use Rattle.uc_reader.specs.Reading.{state};
+ghost use Rattle.uc_parse_expressions.specs.Reading.{state};
 
+use crate::Reader;
 use uc_forms::{Fault, Stop};
 use uc_grammar::{Kind, Word};
-use uc_reader::Reader;
 use uc_syntax::{Comparison, SumSign, UnaryOperator};
 
 /// Whether `+` or `-` comes next.

@@ -3,12 +3,12 @@ use Rattle.std.proofs.Common.{◌≡◌, ℕ, List, length, Ok, Err, refl, sym, 
 use Rattle.std.specs.Prelude.{Result}
 use Rattle.std.proofs.Math.Seq.{take-length}
 use Rattle.uc_forms.specs.declared.tally.Tally.{Tally}
-use Rattle.uc_counted.specs.Counted.{Outcome}
+use Rattle.uc_forms.specs.Counted.{Outcome}
 use Rattle.uc_grammar.specs.declared.word.Word.{Word}
 use Rattle.uc_grammar.specs.Syntax.{text}
 use Rattle.uc_lexer.specs.declared.place.Place.{Place}
 use Rattle.uc_lexer.specs.declared.token.Token.{Token}
-use Rattle.uc_reader.specs.Reading.{form}
+use Rattle.uc_parse_expressions.specs.Reading.{form}
 use Rattle.uc_syntax.specs.declared.declaration.Module.{Module}
 use Rattle.uc_words.specs.Words.{AreWords, with_tokens}
 use Rattle.uc_parser.specs.declared.error.ParseError.{ParseError}

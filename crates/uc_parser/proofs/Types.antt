@@ -1,12 +1,12 @@
 -- How a declaration of a type of the module's own is read.
 use Rattle.std.proofs.Common.{◌≡◌, ℕ, true, Ok, Err, refl, ap, ◌∙◌, ◌⊎◌, inl}
-use Rattle.uc_counted.specs.Counted.{State, Outcome, turned, count_word}
-use Rattle.uc_counted.proofs.Shapes.{first_is}
+use Rattle.uc_forms.specs.Counted.{State, Outcome, turned, count_word}
+use Rattle.uc_forms.proofs.Shapes.{first_is}
 use Rattle.uc_forms.specs.Reading.{is_at}
 use Rattle.uc_grammar.specs.declared.word.Word.{Word}
 use Rattle.uc_grammar.specs.declared.word.Kind.TheVariants.{KwType}
 use Rattle.uc_grammar.specs.Syntax.{words, rule, opens, type_declaration, type_of}
-use Rattle.uc_reader.specs.Reading.{form, name_codes}
+use Rattle.uc_parse_expressions.specs.Reading.{form, name_codes}
 use Rattle.uc_syntax.specs.declared.place.Identifier.{Identifier}
 use Rattle.uc_syntax.specs.declared.type_expression.TypeExpr.{TypeExpr}
 use Rattle.uc_parser.specs.Parts.{own_type, own_type_of, imported_types}

@@ -1,3 +1,5 @@
+pub mod ParseStatementsParts
+pub mod ParseCommandsParts
 pub mod Parts
 pub mod Verdict
 pub mod Law

@@ -1,15 +1,14 @@
 //! A type with a word behind it.
 
-ghost use Rattle.uc_counted.specs.Gives.{Counts};
+ghost use Rattle.uc_forms.specs.CountedGives.{Counts};
 ghost use Rattle.uc_forms.specs.Form.{before};
 ghost use Rattle.uc_grammar.specs.Syntax as syntax;
-ghost use Rattle.uc_reader.specs.Reading.{state, form};
+ghost use Rattle.uc_parse_expressions.specs.Reading.{state, form};
 
 use uc_forms::Stop;
 use uc_grammar::Kind;
 use uc_items::beside;
-use uc_parse_types::ty;
-use uc_reader::Reader;
+use uc_parse_expressions::{Reader, ty};
 use uc_syntax::TypeExpr;
 
 /// A type, with a word of this kind behind it.

@@ -1,19 +1,17 @@
 //! Reads the clauses of procedures.
 
 ghost use Rattle.std.specs.Prelude.{◌≡◌};
-ghost use Rattle.uc_counted.specs.Gives.{Counts};
+ghost use Rattle.uc_forms.specs.CountedGives.{Counts};
 ghost use Rattle.uc_forms.specs.Form.{many};
 ghost use Rattle.uc_forms.specs.Reading.{is_at};
 ghost use Rattle.uc_grammar.specs.Syntax.{words, clause};
 ghost use Rattle.uc_parser.specs.Parts.{clause_codes};
-ghost use Rattle.uc_reader.specs.Reading.{state, form};
+ghost use Rattle.uc_parse_expressions.specs.Reading.{state, form};
 
 use uc_forms::Stop;
 use uc_grammar::Kind;
 use uc_items::Items;
-use uc_parse_expressions::expr_before;
-use uc_parse_types::ids;
-use uc_reader::Reader;
+use uc_parse_expressions::{Reader, expr_before, ids};
 use uc_syntax::Clause;
 
 /// Whether the next word begins a clause.

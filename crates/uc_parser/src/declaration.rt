@@ -1,18 +1,18 @@
 //! Reads declarations.
 
-ghost use Rattle.uc_counted.specs.Gives.{Counts};
+ghost use Rattle.uc_forms.specs.CountedGives.{Counts};
 ghost use Rattle.uc_grammar.specs.Syntax.{declaration};
 ghost use Rattle.uc_parser.specs.Parts.{behavior, property};
-ghost use Rattle.uc_reader.specs.Reading.{state, form};
+ghost use Rattle.uc_parse_expressions.specs.Reading.{state, form};
 
-use crate::block::{control, init, next, procedure_declaration};
 use crate::instance::instance;
+use crate::parser_block::{control, init, next, procedure_declaration};
 use crate::property::{axiom_declaration, hyper, invariant};
 use crate::type_declaration::type_declaration;
 use crate::variable::{define, function, is_at_variables, variables};
 use uc_forms::Stop;
 use uc_grammar::Kind;
-use uc_reader::Reader;
+use uc_parse_expressions::Reader;
 use uc_syntax::Decl;
 
 /// A declaration.

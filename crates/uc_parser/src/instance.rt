@@ -1,20 +1,19 @@
 //! Reads instances and what they bind.
 
 ghost use Rattle.std.specs.Prelude.{◌∷◌, []};
-ghost use Rattle.uc_counted.specs.Counted.{turns, with_front};
-ghost use Rattle.uc_counted.specs.Gives.{Counts, Leaves};
+ghost use Rattle.uc_forms.specs.Counted.{turns, with_front};
+ghost use Rattle.uc_forms.specs.CountedGives.{Counts, Leaves};
 ghost use Rattle.uc_forms.specs.Form.{after};
 ghost use Rattle.uc_grammar.specs.Code.{code_of};
 ghost use Rattle.uc_grammar.specs.declared.word.Kind.TheVariants.{Comma};
 ghost use Rattle.uc_grammar.specs.Syntax.{words, listed, binds, bind_value};
 ghost use Rattle.uc_parser.specs.Parts.{bind, instance};
-ghost use Rattle.uc_reader.specs.Reading.{state, form, nested};
+ghost use Rattle.uc_parse_expressions.specs.Reading.{state, form, nested};
 
 use uc_forms::Stop;
 use uc_grammar::Kind;
 use uc_items::Items;
-use uc_parse_expressions::expr_before;
-use uc_reader::Reader;
+use uc_parse_expressions::{Reader, expr_before};
 use uc_syntax::{Binding, Decl, Expr};
 
 /// `(` expression `)`

@@ -1,18 +1,18 @@
 //! Reads modules.
 
 ghost use Rattle.std.specs.Prelude.{◌∷◌, []};
-ghost use Rattle.uc_counted.specs.Counted.{turned};
-ghost use Rattle.uc_counted.specs.Gives.{Counts};
+ghost use Rattle.uc_forms.specs.Counted.{turned};
+ghost use Rattle.uc_forms.specs.CountedGives.{Counts};
 ghost use Rattle.uc_forms.specs.Form.{until, word};
 ghost use Rattle.uc_grammar.specs.declared.word.Kind.TheVariants.{RightBrace};
 ghost use Rattle.uc_grammar.specs.Syntax.{declaration, module_braces, module_form, text};
-ghost use Rattle.uc_reader.specs.Reading.{state, form, nested};
+ghost use Rattle.uc_parse_expressions.specs.Reading.{state, form, nested};
 
 use crate::declaration::declaration;
 use uc_forms::Stop;
 use uc_grammar::Kind;
 use uc_items::Items;
-use uc_reader::{Reader, name_of};
+use uc_parse_expressions::{Reader, name_of};
 use uc_syntax::{Decl, Module};
 
 /// The declarations up to the closing brace.

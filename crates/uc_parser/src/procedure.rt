@@ -1,20 +1,19 @@
 //! Reads procedures.
 
 ghost use Rattle.std.specs.Prelude.{◌≡◌};
-ghost use Rattle.uc_counted.specs.Gives.{Counts};
+ghost use Rattle.uc_forms.specs.CountedGives.{Counts};
 ghost use Rattle.uc_forms.specs.Form.{both, many};
 ghost use Rattle.uc_grammar.specs.Syntax.{clause, procedure, results_of, statements};
 ghost use Rattle.uc_parser.specs.Parts.{returned};
-ghost use Rattle.uc_reader.specs.Reading.{state, form};
+ghost use Rattle.uc_parse_expressions.specs.Reading.{state, form};
 
 use crate::clause::clauses;
+use crate::statements;
 use std::alloc::Global;
 use uc_forms::Stop;
 use uc_grammar::Kind;
 use uc_items::{Items, beside};
-use uc_parse_statements::statements;
-use uc_parse_types::{params, results};
-use uc_reader::Reader;
+use uc_parse_expressions::{Reader, params, results};
 use uc_syntax::{Clause, Parameter, Procedure, Stmt, TypeExpr};
 
 /// The parameters or the results of a procedure.

@@ -1,18 +1,17 @@
 //! Reads invariants and axioms, those over several copies included.
 
 ghost use Rattle.std.specs.Prelude.{◌≡◌, ◌∷◌, []};
-ghost use Rattle.uc_counted.specs.Counted.{count_any};
-ghost use Rattle.uc_counted.specs.Gives.{Counts};
+ghost use Rattle.uc_forms.specs.Counted.{count_any};
+ghost use Rattle.uc_forms.specs.CountedGives.{Counts};
 ghost use Rattle.uc_forms.specs.Form.{quiet};
 ghost use Rattle.uc_grammar.specs.declared.word.Kind.TheVariants.{KwHyperinvariant, KwHyperaxiom};
 ghost use Rattle.uc_grammar.specs.Syntax.{words, hyper_number, hyper_of};
 ghost use Rattle.uc_parser.specs.Parts.{axiom_declaration, hyper, invariant};
-ghost use Rattle.uc_reader.specs.Reading.{state, form, nested};
+ghost use Rattle.uc_parse_expressions.specs.Reading.{state, form, nested};
 
 use uc_forms::Stop;
 use uc_grammar::{Kind, Word};
-use uc_parse_expressions::expr_before;
-use uc_reader::{Reader, name_of, value_of};
+use uc_parse_expressions::{Reader, expr_before, name_of, value_of};
 use uc_syntax::{Decl, Expr, Identifier};
 
 /// A number of any value.

@@ -1,16 +1,16 @@
 //! Reads declarations of types.
 
-ghost use Rattle.uc_counted.specs.Counted.{turned};
-ghost use Rattle.uc_counted.specs.Gives.{Counts};
+ghost use Rattle.uc_forms.specs.Counted.{turned};
+ghost use Rattle.uc_forms.specs.CountedGives.{Counts};
 ghost use Rattle.uc_grammar.specs.Syntax.{type_declaration};
 ghost use Rattle.uc_parser.specs.Parts.{own_type, imported_types, own_type_of};
-ghost use Rattle.uc_reader.specs.Reading.{state, form};
+ghost use Rattle.uc_parse_expressions.specs.Reading.{state, form};
 
 use crate::behind::ty_before;
 use uc_forms::Stop;
 use uc_grammar::Kind;
 use uc_lexer::Place;
-use uc_reader::Reader;
+use uc_parse_expressions::Reader;
 use uc_syntax::{Decl, Identifier};
 
 /// A declared type, behind its keyword, whose place is given.

@@ -1,23 +1,21 @@
 //! Reads declarations of variables, functions and defines.
 
 ghost use Rattle.std.specs.Prelude.{◌≡◌};
-ghost use Rattle.uc_counted.specs.Counted.{count_any};
-ghost use Rattle.uc_counted.specs.Gives.{Counts};
+ghost use Rattle.uc_forms.specs.Counted.{count_any};
+ghost use Rattle.uc_forms.specs.CountedGives.{Counts};
 ghost use Rattle.uc_forms.specs.Form.{after, before, codes_of, member, quiet};
 ghost use Rattle.uc_forms.specs.Reading.{is_at};
 ghost use Rattle.uc_grammar.specs.Code.{code_of};
 ghost use Rattle.uc_grammar.specs.declared.word.Kind.TheVariants.{KwVar, Assign, Semicolon};
 ghost use Rattle.uc_grammar.specs.Syntax.{words, variable_kind, expr};
 ghost use Rattle.uc_parser.specs.Parts.{define, function, variables, variable_kinds};
-ghost use Rattle.uc_reader.specs.Reading.{state, form};
+ghost use Rattle.uc_parse_expressions.specs.Reading.{state, form};
 
 use crate::behind::ty_before;
 use uc_forms::{Fault, Stop};
 use uc_grammar::{Kind, Word};
 use uc_items::beside;
-use uc_parse_expressions::expr_before;
-use uc_parse_types::{new_ids, params, ty};
-use uc_reader::Reader;
+use uc_parse_expressions::{Reader, expr_before, new_ids, params, ty};
 use uc_syntax::{Decl, Expr, VariableKind};
 
 /// Whether words of this kind begin a declaration of variables.

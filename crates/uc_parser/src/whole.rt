@@ -13,7 +13,7 @@ use uc_forms::{Fault, Stop};
 use uc_grammar::Word;
 use uc_items::Items;
 use uc_lexer::{MAX_TEXT, Place, Token};
-use uc_reader::Reader;
+use uc_parse_expressions::Reader;
 use uc_syntax::{Module, Names};
 use uc_words::words;
 

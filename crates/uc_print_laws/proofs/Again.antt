@@ -11,12 +11,12 @@ use Rattle.uc_syntax.specs.declared.declaration.Module.{Module}
 use Rattle.uc_grammar.specs.declared.word.Word.{Word}
 use Rattle.uc_grammar.specs.Language.{grammar}
 use Rattle.uc_words.specs.Words.{with_tokens}
-use Rattle.uc_printed.specs.Piece.{Shown}
-use Rattle.uc_printed.specs.Declarations.{modules_words, erased_modules}
-use Rattle.uc_printed.specs.Law.{ModulesAreSpelled}
-use Rattle.uc_page.specs.Text.{design_text}
-use Rattle.uc_name_counts.specs.Names.{HaveFewNames}
-use Rattle.uc_name_counts.specs.Law.{NamesAreCounted, NamesWithoutPlaces}
+use Rattle.uc_print_laws.specs.Piece.{Shown}
+use Rattle.uc_print_laws.specs.Declarations.{modules_words, erased_modules}
+use Rattle.uc_print_laws.specs.PrintedLaw.{ModulesAreSpelled}
+use Rattle.uc_print_laws.specs.Text.{design_text}
+use Rattle.uc_print_laws.specs.Names.{HaveFewNames}
+use Rattle.uc_print_laws.specs.NameCountsLaw.{NamesAreCounted, NamesWithoutPlaces}
 use Rattle.uc_print_laws.specs.Spelled.{IsShaped}
 use Rattle.uc_print_laws.specs.Law.{SpellsAgain, IsReadBack}
 use Rattle.uc_print_laws.proofs.Distinct.{tokens_distinct}

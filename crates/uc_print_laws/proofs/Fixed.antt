@@ -15,8 +15,8 @@ use Rattle.uc_grammar.specs.declared.word.Kind.TheVariants as kinds
 use Rattle.uc_syntax.specs.declared.expression.BitFunction.{BitFunction}
 use Rattle.uc_syntax.specs.declared.expression.BitFunction.TheVariants.{ZeroExtend, SignExtend, ShiftLeft, ShiftRight, ShiftRightSigned}
 use Rattle.uc_words.specs.Fixed.{fixed_kind}
-use Rattle.uc_printed.specs.Piece.{Piece, name, applied, fixed}
-use Rattle.uc_page.specs.Text.{found, name_text, function_text, kind_text, spelling}
+use Rattle.uc_print_laws.specs.Piece.{Piece, name, applied, fixed}
+use Rattle.uc_print_laws.specs.Text.{found, name_text, function_text, kind_text, spelling}
 use Rattle.uc_print_laws.specs.Spelled.{IsSpelledName, IsSpelledWord, HasSpelling}
 use Rattle.uc_print_laws.specs.Law.{IsKindOf}
 use Rattle.uc_print_laws.proofs.Numerals.{decimal_spells}

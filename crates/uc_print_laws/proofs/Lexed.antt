@@ -11,9 +11,9 @@ use Rattle.uc_lexer.specs.Text.{IsNextToken, Reads, ends, goes_on, Tokens}
 use Rattle.uc_lexer.proofs.Fronts.{append-take, append-drop}
 use Rattle.uc_lexer.proofs.Spellings.{spelled_some}
 use Rattle.uc_syntax.specs.declared.declaration.Module.{Module}
-use Rattle.uc_printed.specs.Piece.{Piece}
-use Rattle.uc_printed.specs.Declarations.{modules_words}
-use Rattle.uc_page.specs.Text.{spelling, design_text}
+use Rattle.uc_print_laws.specs.Piece.{Piece}
+use Rattle.uc_print_laws.specs.Declarations.{modules_words}
+use Rattle.uc_print_laws.specs.Text.{spelling, design_text}
 use Rattle.uc_print_laws.specs.Spelled.{HaveSpellings}
 use Rattle.uc_print_laws.specs.Law.{AreTokensOf}
 use Rattle.uc_print_laws.proofs.Blanks.{is_token, skips}

@@ -3,10 +3,10 @@ use Rattle.std.proofs.Common.{◌≡◌, ℕ, true, List, [], ◌∷◌, ◌++�
 use Rattle.std.proofs.lemmas.Bool.{false≢true}
 use Rattle.uc_lexer.specs.Bytes.{is_blank}
 use Rattle.uc_syntax.specs.declared.declaration.Module.{Module}
-use Rattle.uc_printed.specs.Piece.{Piece}
-use Rattle.uc_printed.specs.Printed.{each, has_one}
-use Rattle.uc_printed.specs.Declarations.{module_words, modules_words}
-use Rattle.uc_page.specs.Text.{spelling, with_word, written, spaced, design_text}
+use Rattle.uc_print_laws.specs.Piece.{Piece}
+use Rattle.uc_print_laws.specs.Printed.{each, has_one}
+use Rattle.uc_print_laws.specs.Declarations.{module_words, modules_words}
+use Rattle.uc_print_laws.specs.Text.{spelling, with_word, written, spaced, design_text}
 
 -- a word, and the byte behind it
 abbrev pub Ended : Type 0

@@ -12,9 +12,9 @@ use Rattle.uc_syntax.specs.declared.declaration.Module.{Module}
 use Rattle.uc_grammar.specs.declared.word.Kind.{Kind}
 use Rattle.uc_words.specs.Fixed.{fixed_kind}
 use Rattle.uc_words.specs.Words.{bytes_of, with_kind, with_token, with_tokens}
-use Rattle.uc_printed.specs.Piece.{Piece, name, applied, fixed, is_name}
-use Rattle.uc_printed.specs.Declarations.{modules_words}
-use Rattle.uc_page.specs.Text.{found, name_text, design_text}
+use Rattle.uc_print_laws.specs.Piece.{Piece, name, applied, fixed, is_name}
+use Rattle.uc_print_laws.specs.Declarations.{modules_words}
+use Rattle.uc_print_laws.specs.Text.{found, name_text, design_text}
 use Rattle.uc_print_laws.specs.Spelled.{IsSpelledName, HasSpelling, HaveSpellings, IsNumbered, AreNumbered}
 use Rattle.uc_print_laws.specs.Law.{IsWordKind, IsTokenOf, AreTokensOf}
 use Rattle.uc_print_laws.proofs.Lexed.{text_lexed}

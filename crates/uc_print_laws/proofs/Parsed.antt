@@ -4,8 +4,8 @@ use Rattle.std.specs.Str.{bytes_eq}
 use Rattle.std.proofs.lemmas.Slice.Eq.{bytes_eq-Decides}
 use Rattle.uc_syntax.specs.Numbering.{has_text, AreDistinct}
 use Rattle.uc_syntax.proofs.Numbering.{keep_same}
-use Rattle.uc_name_counts.specs.Names.{HaveFewNames}
-use Rattle.uc_name_counts.specs.Law.{NamesAreCounted}
+use Rattle.uc_print_laws.specs.Names.{HaveFewNames}
+use Rattle.uc_print_laws.specs.NameCountsLaw.{NamesAreCounted}
 use Rattle.std.proofs.Common.{◌≡◌, inl, inr, ℕ, ◌≤◌, Bool, true, false, not, List, [], ◌∷◌, slice_get, Option, Some, None, refl, sym, ap, ◌∙◌, subst, arith}
 use Rattle.std.proofs.lemmas.Bool.{false≢true}
 use Rattle.uc_forms.specs.Answer.{Answer, IsAnswer}
@@ -27,11 +27,11 @@ use Rattle.uc_grammar.specs.Language.{grammar}
 use Rattle.uc_words.specs.Fixed.{fixed_kind}
 use Rattle.uc_words.specs.Known.{Entry, known_names, kind_in}
 use Rattle.uc_words.specs.Words.{bytes_of, IsKind, AreWords, IsText}
-use Rattle.uc_printed.specs.Piece.{Piece, name, applied, fixed, is_name, is_on_bits, numbered}
-use Rattle.uc_printed.specs.Declarations.{modules_words}
-use Rattle.uc_page.specs.Text.{found, name_text, kind_text, design_text}
-use Rattle.uc_shaped.specs.Kept.{is_own, Reprints, IsAmong, AreAll}
-use Rattle.uc_shaped.specs.Law.{SpelledIsShaped}
+use Rattle.uc_print_laws.specs.Piece.{Piece, name, applied, fixed, is_name, is_on_bits, numbered}
+use Rattle.uc_print_laws.specs.Declarations.{modules_words}
+use Rattle.uc_print_laws.specs.Text.{found, name_text, kind_text, design_text}
+use Rattle.uc_print_laws.specs.Kept.{is_own, Reprints, IsAmong, AreAll}
+use Rattle.uc_print_laws.specs.ShapedLaw.{SpelledIsShaped}
 use Rattle.uc_print_laws.specs.Spelled.{IsSpelledName, IsSpelledWord, HasSpelling, HaveSpellings, IsShaped, IsNumbered, AreNumbered}
 use Rattle.uc_print_laws.specs.Law.{TextIsReadBack, ParsedIsShaped, IsReadBack, IsSpelledAgain}
 use Rattle.uc_print_laws.proofs.Numbered.{number_has_text}

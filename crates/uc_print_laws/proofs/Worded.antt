@@ -20,9 +20,9 @@ use Rattle.uc_words.specs.Known.{Entry, known_names, kind_in}
 use Rattle.uc_words.specs.Words.{bytes_of, IsNamed, IsKind, IsWord, AreWords, IsText, with_kind, with_token, with_tokens}
 use Rattle.uc_words.proofs.Names.{name_stays, kept_twice}
 use Rattle.uc_words.proofs.TokenByToken.{words_stay}
-use Rattle.uc_printed.specs.Piece.{Piece, name, applied, fixed, is_name, is_on_bits, Shows, Shown}
-use Rattle.uc_printed.specs.Declarations.{modules_words}
-use Rattle.uc_page.specs.Text.{found, name_text, function_text, kind_text, design_text}
+use Rattle.uc_print_laws.specs.Piece.{Piece, name, applied, fixed, is_name, is_on_bits, Shows, Shown}
+use Rattle.uc_print_laws.specs.Declarations.{modules_words}
+use Rattle.uc_print_laws.specs.Text.{found, name_text, function_text, kind_text, design_text}
 use Rattle.uc_print_laws.specs.Spelled.{IsSpelledName, IsSpelledWord, HasSpelling, HaveSpellings}
 use Rattle.uc_print_laws.specs.Law.{IsKindOf, IsTokenOf, AreTokensOf}
 use Rattle.uc_print_laws.proofs.Lexed.{text_lexed}

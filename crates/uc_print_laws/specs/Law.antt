@@ -13,10 +13,10 @@ use Rattle.uc_grammar.specs.declared.word.Word.{Word}
 use Rattle.uc_grammar.specs.Language.{grammar}
 use Rattle.uc_words.specs.Fixed.{fixed_kind}
 use Rattle.uc_words.specs.Words.{bytes_of, with_tokens, AreWords, IsText}
-use Rattle.uc_printed.specs.Piece.{Piece, name, applied, fixed, is_name, Shown}
-use Rattle.uc_printed.specs.Declarations.{modules_words, erased_modules}
-use Rattle.uc_page.specs.Text.{spelling, design_text}
-use Rattle.uc_name_counts.specs.Names.{HaveFewNames}
+use Rattle.uc_print_laws.specs.Piece.{Piece, name, applied, fixed, is_name, Shown}
+use Rattle.uc_print_laws.specs.Declarations.{modules_words, erased_modules}
+use Rattle.uc_print_laws.specs.Text.{spelling, design_text}
+use Rattle.uc_print_laws.specs.Names.{HaveFewNames}
 use Rattle.uc_print_laws.specs.Spelled.{HaveSpellings, IsShaped, AreNumbered}
 
 -- ---- tokens

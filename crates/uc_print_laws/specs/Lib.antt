@@ -1,2 +1,14 @@
+pub mod Piece
+pub mod Printed
+pub mod Types
+pub mod Expressions
+pub mod Statements
+pub mod Declarations
+pub mod PrintedLaw
+pub mod Text
+pub mod Kept
+pub mod ShapedLaw
+pub mod Names
+pub mod NameCountsLaw
 pub mod Spelled
 pub mod Law

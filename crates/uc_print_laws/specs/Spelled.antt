@@ -7,9 +7,9 @@ use Rattle.uc_syntax.specs.declared.declaration.Module.{Module}
 use Rattle.uc_grammar.specs.declared.word.Kind.{Kind}
 use Rattle.uc_grammar.specs.declared.word.Kind.TheVariants.{Name, Number, BvType, BvLit}
 use Rattle.uc_words.specs.Known.{known_names, kind_in}
-use Rattle.uc_printed.specs.Piece.{Piece, name, applied, fixed, is_name, is_on_bits}
-use Rattle.uc_printed.specs.Declarations.{modules_words}
-use Rattle.uc_page.specs.Text.{name_text, kind_text}
+use Rattle.uc_print_laws.specs.Piece.{Piece, name, applied, fixed, is_name, is_on_bits}
+use Rattle.uc_print_laws.specs.Declarations.{modules_words}
+use Rattle.uc_print_laws.specs.Text.{name_text, kind_text}
 
 -- The number is that of a name, and its text is an identifier: a letter or `_`, then letters, digits and `_`, and neither a keyword
 -- nor a type of bits.

@@ -18,7 +18,7 @@ pub fn text_shows_words()
 pub fn text_is_spelled()
     ensures { TextIsSpelled }
 {
-    uc_printed::modules_are_spelled();
+    crate::modules_are_spelled();
 }
 
 /// A law of the definitions: what is read of a printed text is what was printed, places and files aside.
@@ -28,9 +28,9 @@ pub fn text_is_read_back()
     uc_grammar::spells_one_list();
     uc_grammar::stands_alike();
     uc_forms::levels_bound_depths::<Modules>();
-    uc_printed::modules_are_spelled();
-    uc_name_counts::names_are_counted();
-    uc_name_counts::names_without_places();
+    crate::modules_are_spelled();
+    crate::names_are_counted();
+    crate::names_without_places();
 }
 
 /// A law of the definitions: reading a printed text adds no names where those that the grammar knows are there.
@@ -42,7 +42,7 @@ pub fn text_keeps_names()
 pub fn parsed_is_shaped()
     ensures { ParsedIsShaped }
 {
-    uc_shaped::spelled_is_shaped();
+    crate::spelled_is_shaped();
 }
 
 /// A law of the definitions: what is to be read of a text is to be read again of the text that is printed of it.
@@ -52,5 +52,5 @@ pub fn read_is_printed_back()
     text_is_read_back();
     parsed_is_shaped();
     uc_forms::depths_bound_levels::<Modules>();
-    uc_name_counts::names_are_counted();
+    crate::names_are_counted();
 }

@@ -16,14 +16,14 @@ use Rattle.uc_syntax.specs.declared.declaration.Command.{Command}
 use Rattle.uc_syntax.specs.declared.declaration.Command.TheVariants.{Run}
 use Rattle.uc_syntax.specs.declared.declaration.Decl.TheVariants.{TypeAlias, Function, Define, Instance, Control}
 use Rattle.uc_syntax.specs.declared.declaration.Module.{Module}
-use Rattle.uc_printed.specs.Piece.{Piece, name, fixed}
-use Rattle.uc_printed.specs.Printed.{Printed, sign, identifier, ◌<+>◌, each, joined}
-use Rattle.uc_printed.specs.Types.{printed_type}
-use Rattle.uc_printed.specs.Expressions.{printed_expr, enclosed}
-use Rattle.uc_printed.specs.Declarations.{run_words, path_words, counterexample_words, command_words, parameter_words, code_words, clause_words, results_words, procedure_words, binding_words, decl_words, module_words}
-use Rattle.uc_page.specs.Text.{name_text, kind_text, with_word, spelling, written, spaced, design_text}
-use Rattle.uc_page.proofs.Written.{written_both, drop_more}
-use Rattle.uc_print_statements.proofs.StatementWords.{parens_and}
+use Rattle.uc_print_laws.specs.Piece.{Piece, name, fixed}
+use Rattle.uc_print_laws.specs.Printed.{Printed, sign, identifier, ◌<+>◌, each, joined}
+use Rattle.uc_print_laws.specs.Types.{printed_type}
+use Rattle.uc_print_laws.specs.Expressions.{printed_expr, enclosed}
+use Rattle.uc_print_laws.specs.Declarations.{run_words, path_words, counterexample_words, command_words, parameter_words, code_words, clause_words, results_words, procedure_words, binding_words, decl_words, module_words}
+use Rattle.uc_print_laws.specs.Text.{name_text, kind_text, with_word, spelling, written, spaced, design_text}
+use Rattle.uc_print_laws.proofs.Written.{written_both, drop_more}
+use Rattle.uc_printer.proofs.StatementWords.{parens_and}
 use Rattle.uc_printer.specs.Parts.{function_head, formula}
 
 -- ---- commands

@@ -1,1 +1,3 @@
+pub mod ExpressionWords
+pub mod StatementWords
 pub mod DeclarationWords

@@ -5,10 +5,10 @@ use Rattle.uc_syntax.specs.declared.place.Identifier.{Identifier}
 use Rattle.uc_syntax.specs.declared.type_expression.Parameter.{Parameter}
 use Rattle.uc_syntax.specs.declared.type_expression.TypeExpr.{TypeExpr}
 use Rattle.uc_syntax.specs.declared.expression.Expr.{Expr}
-use Rattle.uc_printed.specs.Printed.{Printed, sign, identifier, ◌<+>◌, nested}
-use Rattle.uc_printed.specs.Types.{printed_type}
-use Rattle.uc_printed.specs.Expressions.{enclosed, printed_expr}
-use Rattle.uc_printed.specs.Declarations.{parameter_words}
+use Rattle.uc_print_laws.specs.Printed.{Printed, sign, identifier, ◌<+>◌, nested}
+use Rattle.uc_print_laws.specs.Types.{printed_type}
+use Rattle.uc_print_laws.specs.Expressions.{enclosed, printed_expr}
+use Rattle.uc_print_laws.specs.Declarations.{parameter_words}
 
 -- a name with its parameters and its type
 abbrev pub function_head : Identifier → List (Parameter TypeExpr) → TypeExpr → Printed

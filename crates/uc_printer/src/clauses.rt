@@ -2,15 +2,14 @@
 
 ghost use Rattle.std.specs.Prelude.{◌≡◌, OnOk};
 ghost use Rattle.uc_grammar.specs.declared.word.Kind.TheVariants as kinds;
-ghost use Rattle.uc_page.specs.Text.{written};
-ghost use Rattle.uc_printed.specs.Printed.{each, joined};
-ghost use Rattle.uc_printed.specs.Declarations.{binding_words, clause_words, procedure_words, results_words};
+ghost use Rattle.uc_print_laws.specs.Text.{written};
+ghost use Rattle.uc_print_laws.specs.Printed.{each, joined};
+ghost use Rattle.uc_print_laws.specs.Declarations.{binding_words, clause_words, procedure_words, results_words};
 
+use crate::{put_block, put_expression};
 use std::alloc::AllocError;
 use uc_grammar::Kind;
-use uc_page::{Page, put_identifiers, put_name, put_parameters, put_sign};
-use uc_print_expressions::put_expression;
-use uc_print_statements::put_block;
+use uc_print_laws::{Page, put_identifiers, put_name, put_parameters, put_sign};
 use uc_syntax::{Binding, Clause, Names, Parameter, Procedure, TypeExpr};
 
 fn put_clause(page: &mut Page, names: &Names, clause: &Clause) -> Result<(), AllocError>

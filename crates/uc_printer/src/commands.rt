@@ -2,14 +2,14 @@
 
 ghost use Rattle.std.specs.Prelude.{◌≡◌, OnOk};
 ghost use Rattle.uc_grammar.specs.declared.word.Kind.TheVariants as kinds;
-ghost use Rattle.uc_page.specs.Text.{written};
-ghost use Rattle.uc_printed.specs.Printed.{each, joined};
-ghost use Rattle.uc_printed.specs.Declarations.{command_words, counterexample_words, path_words, run_words};
+ghost use Rattle.uc_print_laws.specs.Text.{written};
+ghost use Rattle.uc_print_laws.specs.Printed.{each, joined};
+ghost use Rattle.uc_print_laws.specs.Declarations.{command_words, counterexample_words, path_words, run_words};
 
 use std::alloc::AllocError;
 use uc_grammar::Kind;
 use uc_items::Items;
-use uc_page::{Page, put_identifiers, put_name, put_sign};
+use uc_print_laws::{Page, put_identifiers, put_name, put_sign};
 use uc_syntax::{Command, Identifier, Names, WrittenRun};
 
 fn put_run(page: &mut Page, names: &Names, run: WrittenRun) -> Result<(), AllocError>

@@ -1,19 +1,18 @@
 //! The words of declarations.
 
 ghost use Rattle.std.specs.Prelude.{◌≡◌, OnOk};
-ghost use Rattle.uc_page.specs.Text.{written};
-ghost use Rattle.uc_printed.specs.Printed.{each, nowhere};
-ghost use Rattle.uc_printed.specs.Declarations.{decl_words, variable_kind};
+ghost use Rattle.uc_print_laws.specs.Text.{written};
+ghost use Rattle.uc_print_laws.specs.Printed.{each, nowhere};
+ghost use Rattle.uc_print_laws.specs.Declarations.{decl_words, variable_kind};
 ghost use Rattle.uc_printer.specs.Parts.{formula, function_head, hyper_formula};
 ghost use Rattle.uc_syntax.specs.declared.declaration.Decl.TheVariants as decls;
 
 use crate::clauses::{put_bindings, put_procedure};
 use crate::commands::put_commands;
+use crate::{put_block, put_expression, put_labelled, put_typed_names};
 use std::alloc::AllocError;
 use uc_grammar::Kind;
-use uc_page::{Page, put_name, put_parameters, put_sign, put_type};
-use uc_print_expressions::put_expression;
-use uc_print_statements::{put_block, put_labelled, put_typed_names};
+use uc_print_laws::{Page, put_name, put_parameters, put_sign, put_type};
 use uc_syntax::{
     Binding, Command, Decl, Expr, Identifier, Names, Parameter, TypeExpr, VariableKind,
 };

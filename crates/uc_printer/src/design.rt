@@ -1,16 +1,15 @@
 //! The text of a design.
 
 ghost use Rattle.std.specs.Prelude.{◌≡◌, ◌++◌, ◌∷◌, [], ℕ, IfOk, OnOk};
-ghost use Rattle.uc_page.specs.Text.{design_text, spaced};
-ghost use Rattle.uc_printed.specs.Declarations.{module_words};
+ghost use Rattle.uc_print_laws.specs.Text.{design_text, spaced};
+ghost use Rattle.uc_print_laws.specs.Declarations.{module_words};
 ghost use Rattle.uc_print_laws.specs.Law.{SpellsAgain};
 ghost use Rattle.uc_print_laws.specs.Spelled.{IsShaped};
 
 use crate::declarations::put_declarations;
 use std::alloc::{AllocError, Global};
 use uc_grammar::Kind;
-use uc_page::{Page, put_name, put_sign};
-use uc_print_laws::text_is_spelled;
+use uc_print_laws::{Page, put_name, put_sign, text_is_spelled};
 use uc_syntax::{Design, Module, Names};
 
 /// Puts a module, and a line feed behind it.

@@ -5,7 +5,7 @@ use Rattle.uc_meaning.specs.Lookup.{System}
 use Rattle.uc_rules.specs.Expressions.{Standing as Meant, ValueOf, StateOf, Inside as InsideMeant, Wrong as WrongMeant, Broken as BrokenMeant}
 use Rattle.uc_rules.specs.Names.{names_one_of}
 use Rattle.uc_rules.specs.Reads.{define_reads}
-use Rattle.uc_name_table.specs.Senses.{module_in}
+use Rattle.uc_names.specs.Senses.{module_in}
 use Rattle.uc_read_names.specs.declared.standing.Standing.{Standing}
 use Rattle.uc_read_names.specs.declared.standing.Standing.TheVariants.{Value, State, Inside, Wrong, Broken}
 

@@ -12,10 +12,10 @@ ghost use Rattle.uc_rules.specs.Types.{parameter_types, type_of};
 use crate::scope::Scope;
 use std::alloc::{AllocError, Global};
 use uc_items::Items;
-use uc_name_table::Called;
+use uc_names::Called;
 use uc_rules::{Outcome, Rule};
 use uc_syntax::{Parameter, TypeExpr};
-use uc_type_forms::applied;
+use uc_type_names::applied;
 use uc_values::Ty;
 
 impl<'a, 'd> Scope<'a, 'd> {

@@ -1,7 +1,7 @@
 //! Names of instances.
 
 ghost use Rattle.std.specs.Prelude.{◌≡◌, IfOk};
-ghost use Rattle.uc_name_table.specs.Senses.{module_in};
+ghost use Rattle.uc_names.specs.Senses.{module_in};
 ghost use Rattle.uc_rules.specs.Expressions.{member, member_variable};
 ghost use Rattle.uc_rules.specs.Types.{type_of};
 ghost use Rattle.uc_read_names.specs.Reading.{standing_meant};
@@ -10,7 +10,7 @@ use crate::scope::Scope;
 use crate::standing::{Standing, wrong};
 use std::alloc::{AllocError, Global};
 use uc_lookup::Variable;
-use uc_name_table::Value;
+use uc_names::Value;
 use uc_rules::Rule;
 use uc_syntax::{Place, VariableKind};
 

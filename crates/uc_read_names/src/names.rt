@@ -4,7 +4,7 @@ ghost use Rattle.std.specs.Prelude.{◌≡◌, Some, IfOk};
 ghost use Rattle.std.specs.Option.{option_map};
 ghost use Rattle.uc_lookup.specs.Parts.{instance_parts};
 ghost use Rattle.uc_meaning.specs.Lookup.{module_named};
-ghost use Rattle.uc_name_table.specs.Senses.{value_meant};
+ghost use Rattle.uc_names.specs.Senses.{value_meant};
 ghost use Rattle.uc_rules.specs.Expressions.{ValueOf, enum_of, inside, instance_or_nothing, instance_standing, module_standing, name_standing, old_instance, old_standing, old_valued, old_variable, unprimed, valued_standing, variable_standing};
 ghost use Rattle.uc_rules.specs.Names.{instance_named, value_named};
 ghost use Rattle.uc_rules.specs.Types.{type_of};
@@ -14,7 +14,7 @@ use crate::scope::Scope;
 use crate::standing::{Standing, copy_type, wrong};
 use std::alloc::{AllocError, Global};
 use uc_lookup::{InstanceParts, Variable};
-use uc_name_table::Value;
+use uc_names::Value;
 use uc_rules::{Known, Rule};
 use uc_syntax::{Identifier, Place, VariableKind};
 

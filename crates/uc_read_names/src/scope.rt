@@ -4,7 +4,7 @@ ghost use Rattle.std.specs.Prelude.{◌≡◌, ◌-◌, ◌∷◌, true, false, 
 ghost use Rattle.std.specs.Option.{is_some, option_copied, option_map};
 ghost use Rattle.uc_lookup.specs.Parts.{instance_parts};
 ghost use Rattle.uc_meaning.specs.Lookup.{module_named};
-ghost use Rattle.uc_name_table.specs.Senses.{called_meant, module_in, value_meant};
+ghost use Rattle.uc_names.specs.Senses.{called_meant, module_in, value_meant};
 ghost use Rattle.uc_rules.specs.Declarations.{in_module};
 ghost use Rattle.uc_rules.specs.Expressions.{bound_named, enum_of};
 ghost use Rattle.uc_rules.specs.Faults.{first_of};
@@ -21,7 +21,7 @@ use std::alloc::{AllocError, Global};
 use std::marker::Model;
 use uc_declared_types::KnownTypes;
 use uc_lookup::InstanceParts;
-use uc_name_table::{Called, Value};
+use uc_names::{Called, Value};
 use uc_rules::{Fault, Known};
 use uc_syntax::{Procedure, TypeExpr};
 use uc_type_names::NameSet;
@@ -44,7 +44,7 @@ pub struct Scope<'a, 'd> {
 
 impl<'a, 'd> Model for Scope<'a, 'd> {
     ghost use Rattle.uc_rules.specs.Expressions.{Context};
-    ghost use Rattle.uc_name_table.specs.Senses.{module_in};
+    ghost use Rattle.uc_names.specs.Senses.{module_in};
     ghost use Rattle.uc_read_names.specs.Reading.{KnowsReads};
     ghost use Rattle.std.specs.Coded.{codes};
     ghost use Rattle.uc_syntax.specs.contracts.type_expression.TypeExpr as types_row;

@@ -1,1 +1,3 @@
+pub mod Scopes
 pub mod Readings
+pub mod Sources

@@ -7,7 +7,7 @@ ghost use Rattle.uc_meaning.specs.Expressions.{reads, reads_truth};
 ghost use Rattle.uc_meaning.specs.Overflow.{operations_of_sum, operations_of_product, unary_operations};
 ghost use Rattle.uc_operators.specs.Bits.{combined};
 ghost use Rattle.uc_operators.specs.Overflows.{first_wide, TellsWide};
-ghost use Rattle.uc_shapes.specs.Shapes.{first_of, widths};
+ghost use Rattle.uc_meaning.specs.Shapes.{first_of, widths};
 ghost use Rattle.uc_readings.specs.Readings.{reading_of};
 
 use crate::said::{Said, truth};

@@ -4,7 +4,7 @@ ghost use Rattle.std.specs.Prelude.{◌≡◌, ◌≤◌, ◌<◌, ◌^◌, ◌�
 ghost use Rattle.uc_values.specs.Values.{width_in};
 ghost use Rattle.uc_meaning.specs.Expressions.{width};
 ghost use Rattle.uc_operators.specs.Words.{IsWord, total_width};
-ghost use Rattle.uc_shapes.specs.Shapes.{widths};
+ghost use Rattle.uc_meaning.specs.Shapes.{widths};
 
 use std::alloc::AllocError;
 use uc_values::{Ty, Value};
@@ -75,7 +75,7 @@ pub(crate) fn width_in(value: &Value) -> u8
 }
 
 /// How many bits some types have together. More than 255 are want of memory.
-#[tactic(auto, unfolding(uc_shapes::specs::Shapes::widths))]
+#[tactic(auto, unfolding(uc_meaning::specs::Shapes::widths))]
 pub(crate) fn widths(types: &[Ty]) -> Result<u8, AllocError>
     ensures { IfOk result (λ n. n ≡ widths types.now) }
 {

@@ -5,3 +5,8 @@ pub mod Fronts
 pub mod Outs
 pub mod Growing
 pub mod Parts
+pub mod WatchesSlots
+pub mod Linking
+pub mod Guarding
+pub mod Adding
+pub mod Fates

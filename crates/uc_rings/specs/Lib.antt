@@ -1,2 +1,4 @@
 pub mod Lists
 pub mod Links
+pub mod Pairs
+pub mod Watched

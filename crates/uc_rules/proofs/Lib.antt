@@ -2,3 +2,4 @@ mod Sames
 mod Orders
 pub mod Lists
 pub mod Chains
+pub mod Swaps

@@ -9,3 +9,4 @@ pub mod Expressions
 pub mod Statements
 pub mod Cycles
 pub mod Declarations
+pub mod AnyOrder

@@ -6,6 +6,7 @@
 
 mod chain;
 mod fault;
+mod fault_order;
 mod known;
 mod literal;
 mod outcome;
@@ -16,6 +17,7 @@ mod selection;
 
 pub use chain::judge_chain;
 pub use fault::{Fault, note, note_where, verdict};
+pub use fault_order::{faults_in_any_order, faults_noted_again};
 pub use known::{Known, Role};
 pub use literal::{bits_literal, extended_type, number_literal, width_outcome};
 pub use outcome::{Outcome, settle};

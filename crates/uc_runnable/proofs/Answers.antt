@@ -18,11 +18,11 @@ use Rattle.uc_meaning.specs.Cells.{cells_of}
 use Rattle.uc_flat.specs.declared.statement.Statement.{Statement}
 use Rattle.uc_flat_code.specs.declared.writing.Writing.{Writing}
 use Rattle.uc_flat_code.specs.Code.{code_of}
-use Rattle.uc_flat_names.specs.Names.{StandsAlone}
+use Rattle.uc_flat_design.specs.Names.{StandsAlone}
 use Rattle.uc_flat_design.specs.Design.{is_built}
-use Rattle.uc_flat_table.specs.declared.cells.OwnCell.{OwnCell}
-use Rattle.uc_flat_table.specs.Cells.{own_cells}
-use Rattle.uc_flat_table.proofs.Declared.{cells_full}
+use Rattle.uc_flat_making.specs.declared.cells.OwnCell.{OwnCell}
+use Rattle.uc_flat_making.specs.Cells.{own_cells}
+use Rattle.uc_flat_making.proofs.Declared.{cells_full}
 use Rattle.uc_flat_making.specs.Made.{full}
 use Rattle.uc_flat_making.proofs.Answered.{stands_alone, one_item}
 use Rattle.uc_runnable.specs.Unfit.{begins_at, unless_there, unfit_statement, unfit_condition}

@@ -5,10 +5,10 @@ use Rattle.uc_lexer.specs.declared.place.Place.{Place}
 use Rattle.uc_syntax.specs.declared.statement.Stmt.{Stmt}
 use Rattle.uc_flat_expressions.specs.declared.typed.Meant.{Meant}
 use Rattle.uc_flat_expressions.specs.declared.typed.FlatError.{FlatError}
-use Rattle.uc_flat_init.specs.CellTypes.{Types}
-use Rattle.uc_flat_init.specs.declared.made.MadeCode.{MadeCode}
-use Rattle.uc_flat_init.specs.Init.{Made, making_of}
-use Rattle.uc_flat_init.specs.Walk.{with_names, IsWalked}
+use Rattle.uc_flat_code.specs.CellTypes.{Types}
+use Rattle.uc_flat_code.specs.declared.made.MadeCode.{MadeCode}
+use Rattle.uc_flat_code.specs.Init.{Made, making_of}
+use Rattle.uc_flat_code.specs.FlatInitWalk.{with_names, IsWalked}
 use Rattle.uc_runnable.specs.Unfit.{begins_at, or_behind, unfit_init, IsBehind}
 
 pub behind_made : (o : Option Made) (names : List Meant) (r : Result MadeCode FlatError) (made : MadeCode) (n k : ℕ) → IsWalked o names r → r ≡ Ok made → n + length made.further ≡ k → IsBehind o names n (Some k)

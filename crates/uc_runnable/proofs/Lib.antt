@@ -1,4 +1,10 @@
+pub mod Once
+pub mod FragmentTypeForms
 pub mod Begins
 pub mod Answers
 pub mod Ready
 pub mod Beginnings
+pub mod Firsts
+pub mod NumberForms
+pub mod OutsideTypeForms
+pub mod StatementForms

@@ -10,7 +10,7 @@ use Rattle.uc_flat_expressions.specs.declared.typed.FlatError.{FlatError}
 use Rattle.uc_flat_expressions.specs.declared.typed.FlatError.TheVariants.{NotBuilt as not_built}
 use Rattle.uc_flat_design.specs.Design.{IsFlatOf}
 use Rattle.uc_flat_making.specs.Made.{IsMade}
-use Rattle.uc_fragment.specs.Plain.{is_plain}
+use Rattle.uc_runnable.specs.Plain.{is_plain}
 use Rattle.uc_runnable.specs.Runnable.{RunsOver, IsRunnable, IsNoneFor}
 use Rattle.uc_runnable.specs.Only.{IsOnlyPlain, IsFault}
 

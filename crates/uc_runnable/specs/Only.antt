@@ -2,7 +2,7 @@
 use Rattle.std.specs.Prelude.{◌≡◌, ℕ, true, List, [], ◌∷◌}
 use Rattle.uc_syntax.specs.declared.declaration.Module.{Module}
 use Rattle.uc_meaning.specs.Lookup.{System}
-use Rattle.uc_fragment.specs.Plain.{is_plain}
+use Rattle.uc_runnable.specs.Plain.{is_plain}
 use Rattle.uc_runnable.specs.Unfit.{unfit_of}
 use Rattle.uc_runnable.specs.declared.runnable.NotRunnable.{NotRunnable}
 use Rattle.uc_runnable.specs.declared.runnable.NotRunnable.TheVariants.{NoMemory, NotBuilt}

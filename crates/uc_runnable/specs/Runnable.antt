@@ -4,7 +4,7 @@ use Rattle.uc_syntax.specs.declared.declaration.Module.{Module}
 use Rattle.uc_meaning.specs.Lookup.{System}
 use Rattle.uc_flat.specs.declared.flat.Flat.{Flat}
 use Rattle.uc_flat_design.specs.Design.{IsFlatOf}
-use Rattle.uc_fragment.specs.Plain.{is_plain}
+use Rattle.uc_runnable.specs.Plain.{is_plain}
 use Rattle.uc_runnable.specs.Unfit.{unfit_of}
 use Rattle.uc_runnable.specs.declared.runnable.NotRunnable.{NotRunnable}
 use Rattle.uc_runnable.specs.declared.runnable.NotRunnable.TheVariants.{NoMemory, NotBuilt}

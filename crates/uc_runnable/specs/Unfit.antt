@@ -20,9 +20,9 @@ use Rattle.uc_flat_expressions.specs.Expressions.{flat_of}
 use Rattle.uc_flat_code.specs.declared.writing.Writing.{Writing}
 use Rattle.uc_flat_code.specs.Code.{code_of}
 use Rattle.uc_flat_order.specs.Arranged.{code_arranged}
-use Rattle.uc_flat_names.specs.Names.{names_over_cells, without_cell}
-use Rattle.uc_flat_init.specs.CellTypes.{Types, is_cell_type, cell_type_of}
-use Rattle.uc_flat_init.specs.Init.{Made, making_of}
+use Rattle.uc_flat_design.specs.Names.{names_over_cells, without_cell}
+use Rattle.uc_flat_code.specs.CellTypes.{Types, is_cell_type, cell_type_of}
+use Rattle.uc_flat_code.specs.Init.{Made, making_of}
 use Rattle.uc_flat_design.specs.Next.{primed_behind, names_between}
 use Rattle.uc_flat_design.specs.Design.{is_built, condition_of}
 

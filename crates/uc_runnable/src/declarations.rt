@@ -6,7 +6,7 @@ ghost use Rattle.std.specs.List.{list_all};
 ghost use Rattle.uc_meaning.specs.Cells.{cells_of};
 ghost use Rattle.uc_meaning.specs.Lookup.{first_some};
 ghost use Rattle.uc_flat_expressions.specs.Expressions.{flat_of};
-ghost use Rattle.uc_flat_names.specs.Names.{StandsAlone, names_over_cells};
+ghost use Rattle.uc_flat_design.specs.Names.{StandsAlone, names_over_cells};
 ghost use Rattle.uc_flat_design.specs.Design.{is_built, condition_of};
 ghost use Rattle.uc_runnable.specs.Unfit.{unfit_condition, unfit, unfit_in, unfit_only, unfit_of};
 
@@ -15,8 +15,7 @@ use crate::types::unfit_type;
 use std::alloc::{AllocError, Global};
 use uc_flat_code::Writing;
 use uc_flat_expressions::{FlatError, Meant, flat_expression, is_boolean};
-use uc_flat_making::{are_built, names_between, without_cells};
-use uc_flat_table::{names_table, own_cells};
+use uc_flat_making::{are_built, names_between, names_table, own_cells, without_cells};
 use uc_syntax::{Decl, Expr, Module, Place};
 use uc_type_reader::Tables;
 

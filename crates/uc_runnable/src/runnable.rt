@@ -10,12 +10,12 @@ ghost use Rattle.uc_runnable.specs.Runnable.{RunsOver, IsRunnable, IsNoneFor};
 ghost use Rattle.uc_runnable.specs.Only.{IsOnlyPlain, IsFault};
 
 use crate::declarations::unfit_place;
+use crate::is_plain;
 use std::alloc::{AllocError, Global};
 use std::marker::Model;
 use uc_flat::Flat;
 use uc_flat_expressions::FlatError;
 use uc_flat_making::flat_design;
-use uc_fragment::is_plain;
 use uc_items::Items;
 use uc_lookup::SystemRef;
 use uc_syntax::{Decl, Design, Module, Place};

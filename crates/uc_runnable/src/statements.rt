@@ -3,15 +3,14 @@
 ghost use Rattle.std.specs.Prelude.{◌≡◌, ◌+◌, ◌∷◌, [], IfOk, IfSome};
 ghost use Rattle.std.specs.Option.{is_some};
 ghost use Rattle.uc_flat_code.specs.Code.{code_of};
-ghost use Rattle.uc_flat_init.specs.CellTypes.{cell_type_of};
-ghost use Rattle.uc_flat_init.specs.Init.{making_of};
+ghost use Rattle.uc_flat_code.specs.CellTypes.{cell_type_of};
+ghost use Rattle.uc_flat_code.specs.Init.{making_of};
 ghost use Rattle.uc_flat_order.specs.Arranged.{code_arranged};
 ghost use Rattle.uc_runnable.specs.Unfit.{begins_at, unless_there, unfit_statement, unfit_block, unfit_next, unfit_init, IsBehind};
 
 use std::alloc::{AllocError, Global};
-use uc_flat_code::{Writing, flat_code};
+use uc_flat_code::{Writing, copy_names, flat_code, statement_code};
 use uc_flat_expressions::{FlatError, Meant};
-use uc_flat_init::{copy_names, statement_code};
 use uc_flat_order::code_arranged;
 use uc_items::Items;
 use uc_syntax::{Module, Place, Stmt};

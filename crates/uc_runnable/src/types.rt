@@ -4,7 +4,7 @@ ghost use Rattle.std.specs.Prelude.{◌≡◌, IfOk};
 ghost use Rattle.uc_runnable.specs.Unfit.{unfit_type};
 
 use std::alloc::{AllocError, Global};
-use uc_flat_init::is_cell_type;
+use uc_flat_code::is_cell_type;
 use uc_syntax::{Module, Place, TypeExpr};
 use uc_type_reader::{Tables, type_of_written};
 

@@ -8,7 +8,7 @@ use Rattle.uc_syntax.specs.declared.declaration.Decl.{Decl}
 use Rattle.uc_syntax.specs.declared.declaration.Decl.TheVariants.{Procedure}
 use Rattle.uc_syntax.specs.declared.declaration.Module.{Module}
 use Rattle.uc_meaning.specs.Lookup.{System, InstanceParts, first_some, or_else, some_if, is_named, instance_of, module_named, module_from, module_at, main_module, procedure_in, procedure_of}
-use Rattle.uc_shapes.specs.Shapes.{total}
+use Rattle.uc_meaning.specs.Shapes.{total}
 use Rattle.uc_evaluator.proofs.Bodies.{weight, weighed}
 use Rattle.uc_runs.proofs.Sizes.{sizes}
 

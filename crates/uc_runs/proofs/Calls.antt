@@ -16,12 +16,12 @@ use Rattle.uc_meaning.specs.declared.scope.Local.{Local}
 use Rattle.uc_meaning.specs.declared.overflow.Wide.{Wide}
 use Rattle.uc_meaning.specs.Lookup.{System, module_at, procedure_of}
 use Rattle.uc_meaning.specs.Code.{Running, Execution, Ending as HowItEnds, Goes as GoesOn, Stopped as IsStopped, then_run, in_scope, declare, judge_requires, requires_of, names_with_types, results, write_all, run_through, call, call_at, call_in}
-use Rattle.uc_overflows.specs.Runs.{RunMet, met_after, run_met_through, all_met_in, targets_met, call_met, call_met_at, call_met_in}
-use Rattle.uc_run_parts.specs.Writes.{has_local}
-use Rattle.uc_run_forms.specs.declared.run.Ending.{Ending}
-use Rattle.uc_run_forms.specs.declared.run.Ending.TheVariants.{Goes, Stopped, BadChoice}
-use Rattle.uc_run_forms.specs.Runs.{ending_of, entry_of, with_locals, LeavesLocals}
-use Rattle.uc_run_forms.proofs.Places.{in_turn, met_in_turn, same_behind, same_met_behind}
+use Rattle.uc_meaning.specs.OverflowsRuns.{RunMet, met_after, run_met_through, all_met_in, targets_met, call_met, call_met_at, call_met_in}
+use Rattle.uc_runs.specs.Writes.{has_local}
+use Rattle.uc_runs.specs.declared.run.Ending.{Ending}
+use Rattle.uc_runs.specs.declared.run.Ending.TheVariants.{Goes, Stopped, BadChoice}
+use Rattle.uc_runs.specs.Runs.{ending_of, entry_of, with_locals, LeavesLocals}
+use Rattle.uc_runs.proofs.Places.{in_turn, met_in_turn, same_behind, same_met_behind}
 use Rattle.uc_runs.proofs.Frames.{EndsIn, AllLocal, EndsLocal, ends_then, ends_local_then, body_stays, begun_in, gone_in, declares_locals, has_name}
 
 module _ (n : ℕ) (system : System) (place : Place) (targets : List Target) (arguments : List Expr) (m : Module) (p : Procedure) (r : Running) where

@@ -5,10 +5,10 @@ use Rattle.uc_values.specs.declared.value.Value.{Value}
 use Rattle.uc_meaning.specs.declared.code.CodeEnd.{CodeEnd}
 use Rattle.uc_meaning.specs.declared.code.CodeEnd.TheVariants.{Ended, Stopped as AnsweredStopped, BadChoice as AnsweredBadChoice}
 use Rattle.uc_meaning.specs.Ends.{IsEnd}
-use Rattle.uc_run_forms.specs.declared.run.Run.{Run}
-use Rattle.uc_run_forms.specs.declared.run.Ending.{Ending}
-use Rattle.uc_run_forms.specs.declared.run.Ending.TheVariants.{Goes, Stopped, BadChoice}
-use Rattle.uc_run_forms.specs.Runs.{ending_of}
+use Rattle.uc_runs.specs.declared.run.Run.{Run}
+use Rattle.uc_runs.specs.declared.run.Ending.{Ending}
+use Rattle.uc_runs.specs.declared.run.Ending.TheVariants.{Goes, Stopped, BadChoice}
+use Rattle.uc_runs.specs.Runs.{ending_of}
 
 as_many : {A : Type 0} (xs : List A) (n count : ℕ) → length xs ≡ count → drop (min n count) xs ≡ drop n xs
 as_many xs n count is = ap (λ m. drop (min n m) xs) (sym is) ∙ drop_min n xs

@@ -26,7 +26,7 @@ use Rattle.uc_meaning.specs.Lookup.{System, module_at, procedure_of}
 use Rattle.uc_meaning.specs.Types.{type_of_written}
 use Rattle.uc_meaning.specs.Expressions.{is_true, local_of}
 use Rattle.uc_meaning.specs.Code.{Running, Execution, Ending, Goes, Stopped, Unfit, Bodies, then_run, run_each, run_block, run_form, run_statement, run_by, run_through, run_turns, in_scope, keep_locals, push_local, site_unless, take_choice, declare, declare_at, name_now, set_local, set_found, set_name, write, write_all, taken, call, call_at, call_in, judge_requires, names_with_types, results, turns, turn_type}
-use Rattle.uc_run_parts.proofs.Layers.{arms_in, else_in}
+use Rattle.uc_runs.proofs.Layers.{arms_in, else_in}
 
 abbrev pub names_of : Scope → List ℕ
 names_of s = map (λ l. l.name) s.locals

@@ -3,8 +3,8 @@ use Rattle.std.proofs.Common.{◌≡◌, ℕ, zero, suc, ◌+◌, ◌-◌, ◌*�
 use Rattle.uc_syntax.specs.declared.statement.Stmt.{Stmt}
 use Rattle.uc_meaning.specs.Lookup.{System}
 use Rattle.uc_meaning.specs.Code.{Running, Stopped, run_through}
-use Rattle.uc_overflows.specs.Runs.{run_met_through}
-use Rattle.uc_run_parts.specs.Levels.{run_at, run_met_at}
+use Rattle.uc_meaning.specs.OverflowsRuns.{run_met_through}
+use Rattle.uc_runs.specs.Levels.{run_at, run_met_at}
 
 unfoldable pub levels : ℕ → ℕ → ℕ
 levels zero most = 0

@@ -1,3 +1,17 @@
+pub mod Listing
+pub mod Counting
+pub mod Followed
+pub mod Naming
+pub mod Layers
+pub mod Forms
+pub mod Replacing
+pub mod Writing
+pub mod Held
+pub mod Places
+pub mod Loops
+pub mod RunFormsChoices
+pub mod Sites
+pub mod RunFormsCalls
 pub mod Frames
 pub mod Sizes
 pub mod Bodies

@@ -18,8 +18,8 @@ use Rattle.uc_meaning.specs.declared.scope.Scope.{Scope}
 use Rattle.uc_meaning.specs.Lookup.{System}
 use Rattle.uc_meaning.specs.Expressions.{is_true}
 use Rattle.uc_meaning.specs.Code.{taken, else_block}
-use Rattle.uc_shapes.specs.Shapes.{total}
-use Rattle.uc_run_parts.proofs.Layers.{arms_in, else_in}
+use Rattle.uc_meaning.specs.Shapes.{total}
+use Rattle.uc_runs.proofs.Layers.{arms_in, else_in}
 
 abbrev body_weight : Arm ℕ → ℕ
 body_weight a = total a.body

@@ -18,13 +18,13 @@ use Rattle.uc_meaning.specs.Lookup.{System, module_at}
 use Rattle.uc_meaning.specs.Expressions.{value, is_true}
 use Rattle.uc_meaning.specs.Overflow.{met}
 use Rattle.uc_meaning.specs.Code.{Running, Execution, Ending, Goes, Stopped, Unfit, then_run, run_turns, run_through, in_scope, keep_locals, push_local, site_unless, choose, name_now, set_name, write_all, taken, turns, turn_type, call, declare_at}
-use Rattle.uc_overflows.specs.Runs.{RunMet, met_after, turns_met, run_met_through, all_met_in, targets_met, conditions_met, call_met}
-use Rattle.uc_run_parts.specs.Levels.{run_at, run_met_at, one_at, one_met_at, turns_at, turns_met_at}
-use Rattle.uc_run_parts.proofs.Forms.{skip_does, local_does, block_does, assert_does, assume_does, havoc_does, assign_does, if_does, case_does, for_does, call_does, next_does, skip_meets, local_meets, block_meets, assert_meets, assume_meets, havoc_meets, assign_meets, if_meets, case_meets, for_meets, call_meets, next_meets, turn_does, turn_meets}
-use Rattle.uc_run_forms.specs.declared.run.Run.{Run}
-use Rattle.uc_run_forms.specs.declared.run.Ending.{Ending as CodeEnding}
-use Rattle.uc_run_forms.specs.Runs.{running, ending_of, Ends}
-use Rattle.uc_run_forms.proofs.Places.{in_turn}
+use Rattle.uc_meaning.specs.OverflowsRuns.{RunMet, met_after, turns_met, run_met_through, all_met_in, targets_met, conditions_met, call_met}
+use Rattle.uc_runs.specs.Levels.{run_at, run_met_at, one_at, one_met_at, turns_at, turns_met_at}
+use Rattle.uc_runs.proofs.Forms.{skip_does, local_does, block_does, assert_does, assume_does, havoc_does, assign_does, if_does, case_does, for_does, call_does, next_does, skip_meets, local_meets, block_meets, assert_meets, assume_meets, havoc_meets, assign_meets, if_meets, case_meets, for_meets, call_meets, next_meets, turn_does, turn_meets}
+use Rattle.uc_runs.specs.declared.run.Run.{Run}
+use Rattle.uc_runs.specs.declared.run.Ending.{Ending as CodeEnding}
+use Rattle.uc_runs.specs.Runs.{running, ending_of, Ends}
+use Rattle.uc_runs.proofs.Places.{in_turn}
 use Rattle.uc_runs.specs.Turns.{block_at, turn_at}
 
 module _ (n : ℕ) (system : System) (s : Stmt) (r : Running) where

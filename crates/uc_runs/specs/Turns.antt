@@ -5,7 +5,7 @@ use Rattle.uc_values.specs.declared.ty.Ty.{Ty}
 use Rattle.uc_values.specs.declared.value.Value.{Value}
 use Rattle.uc_meaning.specs.Lookup.{System}
 use Rattle.uc_meaning.specs.Code.{Execution, Goes, then_run, in_scope, keep_locals, push_local}
-use Rattle.uc_run_parts.specs.Levels.{run_at}
+use Rattle.uc_runs.specs.Levels.{run_at}
 
 abbrev pub block_at : ℕ → System → List Stmt → Execution
 block_at n system block r = then_run (run_at n system block r) (λ r'. Goes (in_scope r' (keep_locals (length r.scope.locals) r'.scope)))

@@ -5,17 +5,17 @@ ghost use Rattle.uc_values.specs.declared.value.Value.{Value};
 ghost use Rattle.uc_meaning.specs.declared.code.CodeEnd.TheVariants.{Ended};
 ghost use Rattle.uc_meaning.specs.Code.{run};
 ghost use Rattle.uc_meaning.specs.Ends.{IsEnd, begun};
-ghost use Rattle.uc_overflows.specs.Runs.{run_met};
+ghost use Rattle.uc_meaning.specs.OverflowsRuns.{run_met};
 ghost use Rattle.uc_operators.specs.Overflows.{first_wide, TellsWide};
-ghost use Rattle.uc_run_forms.specs.Runs.{ending_of};
+ghost use Rattle.uc_runs.specs.Runs.{ending_of};
 
 use crate::running::run_each;
+use crate::{Ending, Run};
 use std::alloc::Global;
 use uc_items::Items;
 use uc_layout::Layout;
 use uc_meaning::{CodeEnd, Scope};
 use uc_operators::EvalError;
-use uc_run_forms::{Ending, Run};
 use uc_syntax::Stmt;
 use uc_values::Value;
 

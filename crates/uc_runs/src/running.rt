@@ -2,23 +2,23 @@
 
 ghost use Rattle.std.specs.Prelude.{◌≡◌, ◌++◌, Some, IfOk};
 ghost use Rattle.uc_meaning.specs.Code.{taken, call, call_in, run_through, then_run, push_local};
-ghost use Rattle.uc_overflows.specs.Runs.{conditions_met, call_met, call_met_in, run_met_through, met_after};
+ghost use Rattle.uc_meaning.specs.OverflowsRuns.{conditions_met, call_met, call_met_in, run_met_through, met_after};
 ghost use Rattle.uc_operators.specs.Overflows.{first_wide, TellsWide};
-ghost use Rattle.uc_run_parts.specs.Levels.{run_at, run_met_at, one_at, one_met_at, turns_at, turns_met_at};
-ghost use Rattle.uc_run_forms.specs.Runs.{running, ending_of};
+ghost use Rattle.uc_runs.specs.Levels.{run_at, run_met_at, one_at, one_met_at, turns_at, turns_met_at};
+ghost use Rattle.uc_runs.specs.Runs.{running, ending_of};
 ghost use Rattle.uc_runs.specs.Turns.{block_at, turn_at};
 
-use crate::turns::{turn_local, turns_between};
+use crate::runs_turns::{turn_local, turns_between};
+use crate::{
+    Ending, Entry, Run, assigned, assumed, declared, ended_block, entered, havoc, judged, returned,
+    taken, with_local,
+};
 use std::alloc::Global;
 use uc_items::{Items, beside};
 use uc_layout::Layout;
 use uc_lookup::procedure_of;
 use uc_meaning::Local;
 use uc_operators::EvalError;
-use uc_run_forms::{
-    Ending, Entry, Run, assigned, assumed, declared, ended_block, entered, havoc, judged, returned,
-    taken, with_local,
-};
 use uc_syntax::{Arm, Expr, Module, Place, Procedure, Stmt, Target};
 use uc_values::{Ty, Value};
 

@@ -25,8 +25,8 @@ use Rattle.uc_terms.specs.Tables.{WellTyped}
 use Rattle.uc_terms.specs.Values.{values_at}
 use Rattle.uc_terms.specs.Subterms.{itself}
 use Rattle.uc_terms.proofs.Grown.{type-node}
-use Rattle.uc_simplify_sums.specs.Forms.{IsFormOf, number_at, numbers_at}
-use Rattle.uc_simplify_sums.proofs.Forms.{numbers-append}
+use Rattle.uc_simplify.specs.Forms.{IsFormOf, number_at, numbers_at}
+use Rattle.uc_simplify.proofs.Forms.{numbers-append}
 use Rattle.uc_simplify_steps.specs.Features.{Feature, symbol, function, integer, array, difference, integer_form, holds_integer, is_array, Shows, Brings, OneBrings}
 use Rattle.uc_simplify_steps.proofs.Features.{brings-below}
 use Rattle.uc_simplify_steps.proofs.Steps.{IsPlain}

@@ -1,3 +1,5 @@
+pub mod Opened
+pub mod Forms
 pub mod Features
 pub mod Standing
 pub mod Rebuilding

@@ -25,7 +25,7 @@ use Rattle.uc_ops.specs.Meaning.{apply}
 use Rattle.uc_terms.specs.Tables.{WellTyped}
 use Rattle.uc_terms.specs.Values.{value, values_at}
 use Rattle.uc_terms.proofs.Fitting.{value-fits}
-use Rattle.uc_simplify_sums.specs.Forms.{IsFormOf, number_at}
+use Rattle.uc_simplify.specs.Forms.{IsFormOf, number_at}
 use Rattle.uc_simplify_steps.specs.Features.{Feature, Brings, OneBrings}
 use Rattle.uc_simplify_steps.proofs.Steps.{IsPlain, plain-shows}
 use Rattle.uc_simplify_steps.proofs.Alike.{equal_truths}

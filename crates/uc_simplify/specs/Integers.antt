@@ -11,7 +11,7 @@ use Rattle.uc_ops.specs.declared.node.Node.{Node}
 use Rattle.uc_ops.specs.Typing.{type_at}
 use Rattle.uc_terms.specs.Tables.{WellTyped}
 use Rattle.uc_terms.specs.Values.{value}
-use Rattle.uc_simplify_sums.specs.Forms.{number_at, numbers_at}
+use Rattle.uc_simplify.specs.Forms.{number_at, numbers_at}
 use Rattle.uc_simplify_steps.specs.Features.{Feature, integer, Brings, OneBrings}
 use Rattle.uc_simplify.specs.Simplified.{Grows}
 

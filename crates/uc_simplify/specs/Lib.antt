@@ -1,3 +1,4 @@
+pub mod Forms
 pub mod Features
 pub mod Simplified
 pub mod Records

@@ -43,12 +43,21 @@
 //! | records | field `i` of a record that is made | its part `i` |
 //! | arrays | what `a` with `x` stored at `i` holds at `i` | `x` |
 //! | | at a constant that is not the constant `i` | what `a` holds there |
+//!
+//! Linear forms of terms of integers, for the simplifier.
+//!
+//! A term of integers has a form: a constant, and a coefficient for each of the terms that it is a sum of multiples of, by their
+//! numbers, where those of one term are gathered. A part that is a sum of at most 8 parts, or a multiple of one, is opened. Where a
+//! coefficient or a constant leaves 128 bits, there is no form.
 #![tactic(auto)]
 
 mod building;
+mod gathering;
 mod linear;
+mod opening;
 mod rebuild;
 mod records;
 mod simplifier;
 
+pub use gathering::{difference_form, multiple_form, sum_form};
 pub use simplifier::{simplify, simplify_from};

@@ -6,17 +6,17 @@ ghost use Rattle.uc_linear.specs.Linear.{sum_at};
 ghost use Rattle.uc_ops.specs.declared.op.Op.TheVariants.{Eq as Equal, Add, Scale};
 ghost use Rattle.uc_ops.specs.Typing.{Suits, types_at, type_at};
 ghost use Rattle.uc_terms.specs.Tables.{WellTyped};
-ghost use Rattle.uc_simplify_sums.specs.Forms.{number_at};
+ghost use Rattle.uc_simplify.specs.Forms.{number_at};
 ghost use Rattle.uc_simplify_steps.specs.Features.{integer};
 ghost use Rattle.uc_simplify.specs.Simplified.{Rebuilds, Grows};
 ghost use Rattle.uc_simplify.specs.Integers.{AreIntegers, IsInteger, IsTimes, IsSumOf, Adding, PairBrings, AreSides, compares};
 
 use crate::building::put;
+use crate::{difference_form, multiple_form, sum_form};
 use std::alloc::{AllocError, Global};
 use uc_items::Items;
 use uc_linear::difference;
 use uc_ops::copy_op;
-use uc_simplify_sums::{difference_form, multiple_form, sum_form};
 use uc_terms::{Op, TermId, Terms};
 use uc_values::{Ty, Value};
 

@@ -18,14 +18,14 @@ use Rattle.uc_meaning.specs.Steps.{main_next}
 use Rattle.uc_order_rules.specs.Roots.{instances_in}
 use Rattle.uc_order_rules.specs.Sizes.{Size, axiom_nodes, code_size, expansion, formula_in, instance_size, nodes, plus, procedure_size, size, size_through, sum, total}
 use Rattle.uc_order_rules.specs.Uses.{clause_expressions}
-use Rattle.uc_spent_nodes.specs.declared.spent.Halt.{Halt}
-use Rattle.uc_spent_nodes.specs.declared.spent.Halt.TheVariants.{TooLarge}
-use Rattle.uc_spent_nodes.specs.Spending.{Outcome, Spends, exceeds}
-use Rattle.uc_instance_counts.specs.Counting.{inside, instances_by, instances_of_main, instances_with}
-use Rattle.uc_instance_counts.proofs.Counting.{total_join}
-use Rattle.uc_instance_counts.proofs.Walks.{instances_more}
-use Rattle.uc_spent_nodes.proofs.Spending.{none_plus, plus_assoc, plus_none, sizes_of, spends_stop, spends_two}
-use Rattle.uc_spent_code.proofs.Codes.{blocks_are, sizes_are, through_none}
+use Rattle.uc_sizes.specs.declared.spent.Halt.{Halt}
+use Rattle.uc_sizes.specs.declared.spent.Halt.TheVariants.{TooLarge}
+use Rattle.uc_sizes.specs.Spending.{Outcome, Spends, exceeds}
+use Rattle.uc_uses.specs.Counting.{inside, instances_by, instances_of_main, instances_with}
+use Rattle.uc_uses.proofs.Counting.{total_join}
+use Rattle.uc_uses.proofs.InstanceCountsWalks.{instances_more}
+use Rattle.uc_sizes.proofs.Spending.{none_plus, plus_assoc, plus_none, sizes_of, spends_stop, spends_two}
+use Rattle.uc_sizes.proofs.Codes.{blocks_are, sizes_are, through_none}
 use Rattle.uc_sizes.specs.Expanding.{IsHere, declared_procedures, expression_sizes, instances_size, sizes_inside, used_axioms}
 
 sum_join : (as' bs : List Size) → sum (as' ++ bs) ≡ plus (sum as') (sum bs)

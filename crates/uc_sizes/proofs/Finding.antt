@@ -12,8 +12,8 @@ use Rattle.uc_meaning.specs.Lookup.{System, InstanceParts, axiom_in, first_some,
 use Rattle.uc_meaning.specs.Cells.{InstanceAt, as_list, instances, instances_from, longest_chain, main_instance}
 use Rattle.uc_order_rules.specs.Roots.{instances_in}
 use Rattle.uc_order_rules.specs.Sizes.{axiom_nodes, first_path, nodes, size, total}
-use Rattle.uc_instance_counts.specs.Counting.{inside, instances_by, instances_of_main, instances_with}
-use Rattle.uc_instance_counts.proofs.Walks.{instances_more}
+use Rattle.uc_uses.specs.Counting.{inside, instances_by, instances_of_main, instances_with}
+use Rattle.uc_uses.proofs.InstanceCountsWalks.{instances_more}
 use Rattle.uc_sizes.specs.Expanding.{IsHere, expression_sizes, first_place, place_inside, used_axioms}
 
 place_turn : (name : ℕ) (i : InstanceAt) (is js : List InstanceAt) (b : Bool) → first_place name (is ++ js) ≡ or_else (first_place name is) (first_place name js) →

@@ -1,2 +1,12 @@
+pub mod ExpressionNodesSums
+pub mod ExpressionNodesForms
+pub mod Cut
+pub mod CodePiecesSums
+pub mod CodePiecesForms
+pub mod Spending
+pub mod Ways
+pub mod Levels
+pub mod SpentCodePieces
+pub mod Codes
 pub mod Expanding
 pub mod Finding

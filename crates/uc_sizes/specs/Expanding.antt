@@ -7,7 +7,7 @@ use Rattle.uc_syntax.specs.declared.declaration.Module.{Module}
 use Rattle.uc_meaning.specs.Lookup.{System, instance_in, or_else}
 use Rattle.uc_meaning.specs.Cells.{InstanceAt, as_list, instances}
 use Rattle.uc_order_rules.specs.Sizes.{Size, axiom_nodes, instance_size, nodes, procedure_size, size, sum, total}
-use Rattle.uc_instance_counts.specs.Counting.{instances_by}
+use Rattle.uc_uses.specs.Counting.{instances_by}
 
 -- the nodes of expressions at a path
 abbrev pub expression_sizes : System → List ℕ → List Expr → Size

@@ -7,16 +7,16 @@ ghost use Rattle.uc_lookup.specs.Parts.{system_in};
 ghost use Rattle.uc_meaning.specs.Lookup.{axiom_in};
 ghost use Rattle.uc_meaning.specs.Cells.{InstanceAt, instances_from, longest_chain, modules_in_use};
 ghost use Rattle.uc_order_rules.specs.Sizes.{axiom_nodes, size, total};
-ghost use Rattle.uc_instance_counts.specs.Counting.{instances_of_main};
-ghost use Rattle.uc_spent_nodes.specs.Spending.{Spends, size_in};
+ghost use Rattle.uc_uses.specs.Counting.{instances_of_main};
+ghost use Rattle.uc_sizes.specs.Spending.{Spends, size_in};
 ghost use Rattle.uc_sizes.specs.Expanding.{IsHere, expression_sizes, first_place, place_inside, used_axioms};
 
 use crate::instances::{declared, path_to};
 use crate::parts::spend_expression;
+use crate::{Halt, Spent};
 use std::alloc::{AllocError, Global};
 use uc_items::Items;
 use uc_lookup::SystemRef;
-use uc_spent_nodes::{Halt, Spent};
 use uc_syntax::{Decl, Expr, Module};
 
 /// How many modules stand on one chain of instances at most.

@@ -6,16 +6,15 @@ ghost use Rattle.uc_meaning.specs.Lookup.{main_module};
 ghost use Rattle.uc_meaning.specs.Steps.{main_next};
 ghost use Rattle.uc_order_rules.specs.Roots.{instances_in};
 ghost use Rattle.uc_order_rules.specs.Sizes.{code_size, expansion, instance_size, procedure_size, sum};
-ghost use Rattle.uc_spent_nodes.specs.Spending.{Spends, size_in};
+ghost use Rattle.uc_sizes.specs.Spending.{Spends, size_in};
 ghost use Rattle.uc_sizes.specs.Expanding.{declared_procedures};
 
 use crate::axioms::spend_axioms;
 use crate::instances::spend_instances;
 use crate::parts::{CODE_LEVELS, spend_procedure};
+use crate::{Halt, Spent, spend_next};
 use std::alloc::Global;
 use uc_lookup::SystemRef;
-use uc_spent_code::spend_next;
-use uc_spent_nodes::{Halt, Spent};
 use uc_syntax::Decl;
 
 /// Counts the whole expansion.

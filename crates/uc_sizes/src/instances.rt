@@ -6,14 +6,14 @@ ghost use Rattle.uc_lookup.specs.Parts.{instance_parts, system_in};
 ghost use Rattle.uc_meaning.specs.Lookup.{instance_in};
 ghost use Rattle.uc_meaning.specs.Cells.{InstanceAt, instances_from};
 ghost use Rattle.uc_order_rules.specs.Sizes.{instance_size, sum};
-ghost use Rattle.uc_spent_nodes.specs.Spending.{Spends, size_in};
+ghost use Rattle.uc_sizes.specs.Spending.{Spends, size_in};
 ghost use Rattle.uc_sizes.specs.Expanding.{IsHere, instances_size, sizes_inside};
 
 use crate::parts::{spend_formulas, spend_init};
+use crate::{Halt, Spent};
 use std::alloc::{AllocError, Global};
 use uc_items::Items;
 use uc_lookup::{InstanceParts, SystemRef};
-use uc_spent_nodes::{Halt, Spent};
 use uc_syntax::{Decl, Module};
 
 /// Counts what an instance and those inside it have, on chains of at most so many modules.

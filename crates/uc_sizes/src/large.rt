@@ -3,13 +3,13 @@
 ghost use Rattle.std.specs.Prelude.{◌≡◌, IfOk};
 ghost use Rattle.uc_lookup.specs.Parts.{system_in};
 ghost use Rattle.uc_order_rules.specs.Sizes.{expansion, is_too_large};
-ghost use Rattle.uc_spent_nodes.specs.Spending.{exceeds};
+ghost use Rattle.uc_sizes.specs.Spending.{exceeds};
 
 use crate::expansion::spend_expansion;
+use crate::{Halt, Spent};
 use std::alloc::{AllocError, Global};
-use uc_instance_counts::{has_many_cells, has_many_instances};
 use uc_lookup::SystemRef;
-use uc_spent_nodes::{Halt, Spent};
+use uc_uses::{has_many_cells, has_many_instances};
 
 /// Whether main is too large: its instances, its cells, or the statements and nodes that it expands to. Instances and cells are counted
 /// first, so that there are few instances where what they expand to is counted.

@@ -8,13 +8,12 @@ ghost use Rattle.uc_meaning.specs.Lookup.{init_in, init_of};
 ghost use Rattle.uc_meaning.specs.Cells.{as_list};
 ghost use Rattle.uc_order_rules.specs.Uses.{clause_expressions};
 ghost use Rattle.uc_order_rules.specs.Sizes.{code_size, formula_in, procedure_size};
-ghost use Rattle.uc_spent_nodes.specs.Spending.{Spends, size_in};
+ghost use Rattle.uc_sizes.specs.Spending.{Spends, size_in};
 ghost use Rattle.uc_sizes.specs.Expanding.{expression_sizes};
 
+use crate::{Halt, Spent, spend_code, spend_nodes};
 use std::alloc::Global;
 use uc_lookup::SystemRef;
-use uc_spent_code::spend_code;
-use uc_spent_nodes::{Halt, Spent, spend_nodes};
 use uc_syntax::{Clause, Decl, Expr, Module, Stmt};
 
 /// How many levels of calls and steps code is followed through, itself being the first.

@@ -9,10 +9,10 @@ use std::alloc::{AllocError, Global};
 use std::fmt;
 use std::test::Fail;
 use uc_blast::blast;
-use uc_finite::{is_evenly_typed, is_finite_term, lowered_is_blastable};
 use uc_linear::LinearError;
 use uc_log::Problem;
 use uc_lower::lower;
+use uc_solver::{is_evenly_typed, is_finite_term, lowered_is_blastable};
 use uc_terms::{Model, TermId, Terms};
 
 /// What a term gave.

@@ -6,10 +6,9 @@ ghost use Rattle.uc_ops.specs.Typing.{type_at};
 
 use std::alloc::{AllocError, Global};
 use std::fmt;
-use uc_finite::{is_evenly_typed, is_finite_term};
 use uc_items::at;
 use uc_log::CountMeter;
-use uc_solver::{Answer, SolveError, solve};
+use uc_solver::{Answer, SolveError, is_evenly_typed, is_finite_term, solve};
 use uc_terms::{TermId, Terms};
 use uc_values::Value;
 

@@ -29,8 +29,8 @@ use Rattle.uc_lower.specs.Made.{HasBits}
 use Rattle.uc_lower.specs.Lowering.{IsFiniteTerm}
 use Rattle.uc_lower.proofs.Leaves.{AllFinite, none, boolean, word, label, fields, one_finite}
 use Rattle.uc_lower.proofs.Inner.{node_facts}
-use Rattle.uc_models.proofs.Reading.{record_bits}
-use Rattle.uc_models.proofs.Setting.{subterm_there}
+use Rattle.uc_solver.proofs.Reading.{record_bits}
+use Rattle.uc_solver.proofs.Setting.{subterm_there}
 
 -- types with a number of bits
 bool_bits : HasBits Bool

@@ -1,3 +1,13 @@
+pub mod Nodes
+pub mod Operations
+pub mod Lists
+pub mod Signatures
+pub mod Joined
+pub mod Blastable
+pub mod Giving
+pub mod Setting
+pub mod Reading
+pub mod Fitted
 pub mod Finiteness
 pub mod Reducing
 pub mod Candidates

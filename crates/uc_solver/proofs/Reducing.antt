@@ -27,10 +27,10 @@ use Rattle.uc_lower.specs.Bits.{IsSymbolBelow, HasNoMoreBits, bits_at, AreApart}
 use Rattle.uc_lower.proofs.Growing.{longer, kept_type, kept_value, kept_op, had_op, grows_on, was_subterm}
 use Rattle.uc_lower.proofs.Walking.{coded_kept}
 use Rattle.uc_lower.proofs.Bits.{bits_kept}
-use Rattle.uc_models.specs.Codes.{IsSymbolPair, GoesBack}
-use Rattle.uc_models.proofs.Giving.{one_symbol}
-use Rattle.uc_models.proofs.Setting.{subterm_there}
-use Rattle.uc_models.proofs.Fitted.{Evenly, fitted}
+use Rattle.uc_solver.specs.Codes.{IsSymbolPair, GoesBack}
+use Rattle.uc_solver.proofs.Giving.{one_symbol}
+use Rattle.uc_solver.proofs.Setting.{subterm_there}
+use Rattle.uc_solver.proofs.Fitted.{Evenly, fitted}
 use Rattle.uc_solver.specs.Stands.{mapped, Follows}
 use Rattle.uc_solver.specs.Reduced.{Match, IsReduced}
 use Rattle.uc_solver.proofs.Finiteness.{Simple, simple_finite, brought_symbol}

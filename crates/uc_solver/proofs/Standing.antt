@@ -33,8 +33,8 @@ use Rattle.uc_lower.proofs.Bits.{bits_kept}
 use Rattle.uc_blast.specs.Words.{is_bits, bit_width}
 use Rattle.uc_blast.specs.Blasting.{IsBlastable, IsOpaque, IsOpaqueBit, AreBits, AreDifferent, bits_of, HasInputs, bits, constant, constant_question, StandsFor}
 use Rattle.uc_learner.specs.Opened.{AcceptsFor}
-use Rattle.uc_models.proofs.Setting.{subterm_there, opaque_symbol}
-use Rattle.uc_models.proofs.Fitted.{Evenly, Fitted, fitted}
+use Rattle.uc_solver.proofs.Setting.{subterm_there, opaque_symbol}
+use Rattle.uc_solver.proofs.Fitted.{Evenly, Fitted, fitted}
 use Rattle.uc_solver.specs.Stands.{GoesOver, Stands, OpenedStands, HasBitsUpTo}
 use Rattle.uc_solver.specs.declared.answer.SolveError.{SolveError}
 use Rattle.uc_solver.specs.declared.answer.SolveError.TheVariants.{NoMemory, Budget}

@@ -1,3 +1,8 @@
+pub mod Nodes
+pub mod Signatures
+pub mod Symbols
+pub mod Inputs
+pub mod Codes
 pub mod Stands
 pub mod Causes
 pub mod Answers

@@ -7,7 +7,7 @@ use Rattle.uc_terms.specs.Laws.{IsModelOf, SameUnderEveryModel}
 use Rattle.uc_terms.specs.Values.{value}
 use Rattle.uc_lower.specs.Lowering.{Pair, Agree, IsMapOf, IsFiniteTerm, IsLoweredTerm}
 use Rattle.uc_lower.specs.Bits.{bits_at, AreApart, IsSymbolBelow}
-use Rattle.uc_models.specs.Codes.{IsSymbolPair, GoesBack}
+use Rattle.uc_solver.specs.Codes.{IsSymbolPair, GoesBack}
 use Rattle.uc_solver.specs.Stands.{Follows}
 
 -- a model of the goal that agrees with one of the lowered goal

@@ -10,11 +10,11 @@ ghost use Rattle.uc_solver.specs.declared.answer.SolveError.TheVariants.{Budget}
 ghost use Rattle.uc_solver.specs.Searches.{is_free, starts_free, is_true_question, IsProblemOf, FitsBudget, given_if, first_values, IsOpenCandidate, IsFound, IsSearchCause};
 
 use crate::answer::SolveError;
+use crate::model_of_inputs;
 use std::alloc::{AllocError, Global};
 use uc_circuit::{Circuit, Lit};
 use uc_learner::{Learner, Search};
 use uc_log::{Atom, Log, Meter, Problem};
-use uc_models::model_of_inputs;
 use uc_terms::{Model, TermId, Terms};
 
 /// What a search finds.

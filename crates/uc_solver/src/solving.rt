@@ -14,10 +14,10 @@ ghost use Rattle.uc_solver.specs.Answers.{IsRight, IsCause};
 use crate::answer::{Answer, SolveError};
 use crate::reduction::reduced;
 use crate::search::{Found, decided};
+use crate::through_map;
 use std::alloc::Global;
 use uc_blast::blast;
 use uc_log::Meter;
-use uc_models::through_map;
 use uc_terms::{TermId, Terms};
 
 /// A model under which a boolean goal of finitely many values is true, or an accepted log that shows that there is none. The goal's

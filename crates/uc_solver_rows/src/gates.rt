@@ -1,17 +1,16 @@
 //! Each operation on constants against plain arithmetic: gates on constants fold, so that what comes out is constant too.
 
 ghost use Rattle.std.specs.Prelude.{◌≡◌, ◌<◌, ◌≤◌, ◌^◌, length};
-ghost use Rattle.uc_gates.specs.Signals.{AllBelow};
-ghost use Rattle.uc_gates.specs.Building.{size};
+ghost use Rattle.uc_circuit.specs.Signals.{AllBelow};
+ghost use Rattle.uc_circuit.specs.Building.{size};
 
 use std::alloc::{AllocError, Global};
 use std::process::Abort;
 use std::test::Fail;
-use uc_circuit::Lit;
-use uc_gates::{
-    Gates, Shift, Signal, add, and_each, at_most, at_most_signed, choose_each, concat, constant,
-    equal, extract, less, less_signed, multiply, negate, or_each, shift_by, sign_extend, subtract,
-    turn_each, xor_each, zero_extend,
+use uc_circuit::{
+    Gates, Lit, Shift, Signal, add, and_each, at_most, at_most_signed, choose_each, concat,
+    constant, equal, extract, less, less_signed, multiply, negate, or_each, shift_by, sign_extend,
+    subtract, turn_each, xor_each, zero_extend,
 };
 
 #[derive(Clone, Copy, Debug, PartialEq, Eq)]

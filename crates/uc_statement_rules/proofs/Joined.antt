@@ -28,7 +28,7 @@ use Rattle.uc_rules.specs.Expressions.{Context, Standing, condition_faults, faul
 use Rattle.uc_rules.specs.Statements.{Found, all_judged_in, assign_faults, binds, bound_names, bound_outcome, bound_place, call_faults, called_faults, code_faults, counter_outcome, declare_faults, fit_faults, for_faults, found, instance_there, range_faults, range_outcome, stays, target_faults, target_types, written_type_faults}
 use Rattle.uc_rules.specs.Types.{parameter_types, type_faults, type_of}
 use Rattle.uc_rules.proofs.Chains.{first_of_append}
-use Rattle.uc_fault_order.proofs.Swaps.{any_order}
+use Rattle.uc_rules.proofs.Swaps.{any_order}
 use Rattle.uc_expression_rules.specs.Judging.{Finds, FindsOutcome, JudgesAll}
 use Rattle.uc_statement_rules.specs.Judging.{Declares, EntersLoop, JudgesAfter, JudgesArms, JudgesBlock, JudgesElse, JudgesStatement, JudgesTargets, arms_found, called_procedure_faults, clauses_may, counter_type, else_found, step_faults}
 use Rattle.uc_statement_rules.proofs.Noted.{NotedUpTo, append_nil, noted_both, noted_more, noted_none}

@@ -15,7 +15,7 @@ use uc_expression_rules::judge_all;
 use uc_read_names::Scope;
 use uc_rules::{Fault, Rule, note, note_where};
 use uc_syntax::{Clause, Expr, Identifier, Parameter, Place, Procedure, Target, TypeExpr};
-use uc_type_forms::note_misfit;
+use uc_type_names::note_misfit;
 use uc_values::Ty;
 
 /// Notes the faults of a call: those of its targets and arguments, a procedure that isn't there, at its name, and at the word `call` numbers

@@ -16,7 +16,7 @@ use uc_items::Items;
 use uc_read_names::Scope;
 use uc_rules::{Fault, element_on, field_on, settle};
 use uc_syntax::{Expr, Identifier, Place, Target, TargetPart};
-use uc_type_forms::note_misfit;
+use uc_type_names::note_misfit;
 use uc_values::Ty;
 
 /// The type of what stands behind a part of a target, where nothing is broken. Its faults are noted.

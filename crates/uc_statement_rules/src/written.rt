@@ -2,7 +2,7 @@
 
 ghost use Rattle.std.specs.Prelude.{◌≡◌, ◌&&◌, ◌||◌, Bool, not, if◌then◌else◌, Option, Some, IfOk};
 ghost use Rattle.uc_lexer.specs.declared.place.Place.{Place};
-ghost use Rattle.uc_name_table.specs.Senses.{value_meant};
+ghost use Rattle.uc_names.specs.Senses.{value_meant};
 ghost use Rattle.uc_rules.specs.Expressions.{Context, ValueOf, Wrong, bound_named, standing};
 ghost use Rattle.uc_rules.specs.Faults.{broken};
 ghost use Rattle.uc_rules.specs.Names.{is_name_of, value_named};
@@ -14,7 +14,7 @@ ghost use Rattle.uc_values.specs.declared.ty.Ty.{Ty};
 
 use std::alloc::{AllocError, Global};
 use uc_lookup::Variable;
-use uc_name_table::Value;
+use uc_names::Value;
 use uc_read_names::{Scope, copy_type};
 use uc_rules::{Known, Outcome, Role, Rule};
 use uc_syntax::VariableKind;

@@ -6,22 +6,22 @@ use Rattle.std.specs.Option.{option_and_then}
 use Rattle.uc_syntax.specs.declared.declaration.Module.{Module}
 use Rattle.uc_meaning.specs.Lookup.{System, InstanceParts, instance_of, instances_of, module_at, module_from, module_named}
 use Rattle.uc_rules.specs.Cycles.{instance_steps, instance_steps_from}
-use Rattle.uc_way_laws.specs.AliasLaw.{IsAmong}
-use Rattle.uc_way_laws.proofs.Along.{any_there}
-use Rattle.uc_way_laws.proofs.Among.{find_among}
+use Rattle.uc_declared_types.specs.AliasLaw.{IsAmong}
+use Rattle.uc_declared_types.proofs.Along.{any_there}
+use Rattle.uc_declared_types.proofs.Among.{find_among}
 use Rattle.uc_order_rules.specs.Roots.{rooted}
 use Rattle.uc_order_rules.specs.Uses.{UsedInput, has_way}
 use Rattle.uc_order_rules.specs.Sizes.{has_deep_chain, has_many_instances}
 use Rattle.uc_order_rules.specs.Order.{is_judged}
-use Rattle.uc_use_bounds.specs.BoundLaw.{InstancesEnd}
-use Rattle.uc_use_bounds.proofs.Followed.{uses_followed}
-use Rattle.uc_instance_tree.specs.declared.tree.InstanceTree.{InstanceTree}
-use Rattle.uc_instance_tree.specs.Trees.{IsBelow, IsTree, code_at, node_at}
-use Rattle.uc_instance_tree.specs.PathLaw.{NodesHavePaths}
-use Rattle.uc_instance_tree.proofs.Paths.{trees_have_paths}
-use Rattle.uc_kept_modules.specs.KeptModules.{HasModules}
-use Rattle.uc_step_ties.proofs.Lists.{get_among, none_some, some_same}
-use Rattle.uc_step_ties.proofs.NodePaths.{node_code}
+use Rattle.uc_uses.specs.BoundLaw.{InstancesEnd}
+use Rattle.uc_uses.proofs.UseBoundsFollowed.{uses_followed}
+use Rattle.uc_uses.specs.declared.tree.InstanceTree.{InstanceTree}
+use Rattle.uc_uses.specs.Trees.{IsBelow, IsTree, code_at, node_at}
+use Rattle.uc_uses.specs.PathLaw.{NodesHavePaths}
+use Rattle.uc_uses.proofs.Paths.{trees_have_paths}
+use Rattle.uc_uses.specs.KeptModules.{HasModules}
+use Rattle.uc_step_cycles.proofs.Lists.{get_among, none_some, some_same}
+use Rattle.uc_step_cycles.proofs.NodePaths.{node_code}
 use Rattle.uc_step_cycles.specs.RootTree.{IsRootTree}
 
 clash : {A : Type 0} → true ≡ false → A

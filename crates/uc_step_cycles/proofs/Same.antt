@@ -9,32 +9,32 @@ use Rattle.uc_meaning.specs.Code.{written_cell}
 use Rattle.uc_rules.specs.declared.fault.Fault.{Fault}
 use Rattle.uc_rules.specs.declared.rule.Rule.TheVariants.{CyclicStep}
 use Rattle.uc_rules.specs.Faults.{breaks_where, first_of}
-use Rattle.uc_way_laws.specs.AliasLaw.{IsAmong}
-use Rattle.uc_way_laws.proofs.Among.{among_back, among_flat}
-use Rattle.uc_graph_cycles.specs.Cycles.{MarksCycles}
+use Rattle.uc_declared_types.specs.AliasLaw.{IsAmong}
+use Rattle.uc_declared_types.proofs.Among.{among_back, among_flat}
+use Rattle.uc_graph.specs.Cycles.{MarksCycles}
 use Rattle.uc_order_rules.specs.Dependence.{Writing, cyclic_steps, on_step_cycle, writings}
-use Rattle.uc_instance_tree.specs.declared.tree.InstanceTree.{InstanceTree}
-use Rattle.uc_instance_tree.specs.Trees.{node_at, step}
-use Rattle.uc_use_graph.specs.declared.graph.UseGraph.{UseGraph}
-use Rattle.uc_use_graph.specs.Tables.{KnowsUses}
-use Rattle.uc_use_graph.specs.Resolving.{IsGraph}
-use Rattle.uc_use_rules.proofs.Same.{same_first}
-use Rattle.uc_cell_table.specs.declared.table.CellTable.{CellTable}
-use Rattle.uc_cell_table.specs.Tables.{KnowsCells, written_by}
-use Rattle.uc_cell_numbers.specs.Numbers.{AreCellsOf, IsNumbered, number_of}
-use Rattle.uc_writing_statements.specs.declared.acts.Act.{Act}
-use Rattle.uc_writing_statements.specs.declared.acts.Act.TheVariants.{Writes, Steps}
-use Rattle.uc_writing_statements.specs.declared.acts.Acts.{Acts}
-use Rattle.uc_step_ways.specs.Stepping.{IsStepped, written_at}
-use Rattle.uc_step_ways.proofs.Reading.{writings_are_reached}
-use Rattle.uc_stepped_blocks.specs.declared.blocks.Block.{Block}
-use Rattle.uc_stepped_blocks.specs.Blocks.{KnowsTree}
-use Rattle.uc_stepped_blocks.specs.StepLaw.{FollowsSteps, acts_at}
-use Rattle.uc_step_edges.specs.declared.numbers.Names.{Names}
-use Rattle.uc_step_ties.specs.Ties.{IsRootGraph}
-use Rattle.uc_step_ties.proofs.Lists.{each_back, each_there, none_among}
-use Rattle.uc_step_ties.proofs.ReadCells.{numbers}
-use Rattle.uc_step_ties.proofs.Tied.{acts_is, cycles_are_numbered, follows, here, there}
+use Rattle.uc_uses.specs.declared.tree.InstanceTree.{InstanceTree}
+use Rattle.uc_uses.specs.Trees.{node_at, step}
+use Rattle.uc_uses.specs.declared.use_graph_graph.UseGraph.{UseGraph}
+use Rattle.uc_uses.specs.Tables.{KnowsUses}
+use Rattle.uc_uses.specs.Resolving.{IsGraph}
+use Rattle.uc_uses.proofs.Same.{same_first}
+use Rattle.uc_step_cycles.specs.declared.table.CellTable.{CellTable}
+use Rattle.uc_step_cycles.specs.Tables.{KnowsCells, written_by}
+use Rattle.uc_step_cycles.specs.CellNumbersNumbers.{AreCellsOf, IsNumbered, number_of}
+use Rattle.uc_step_cycles.specs.declared.acts.Act.{Act}
+use Rattle.uc_step_cycles.specs.declared.acts.Act.TheVariants.{Writes, Steps}
+use Rattle.uc_step_cycles.specs.declared.acts.Acts.{Acts}
+use Rattle.uc_step_cycles.specs.Stepping.{IsStepped, written_at}
+use Rattle.uc_step_cycles.proofs.Reading.{writings_are_reached}
+use Rattle.uc_step_cycles.specs.declared.stepped_blocks.Block.{Block}
+use Rattle.uc_step_cycles.specs.Blocks.{KnowsTree}
+use Rattle.uc_step_cycles.specs.StepLaw.{FollowsSteps, acts_at}
+use Rattle.uc_step_cycles.specs.declared.numbers.Names.{Names}
+use Rattle.uc_step_cycles.specs.Ties.{IsRootGraph}
+use Rattle.uc_step_cycles.proofs.Lists.{each_back, each_there, none_among}
+use Rattle.uc_step_cycles.proofs.ReadCells.{numbers}
+use Rattle.uc_step_cycles.proofs.Tied.{acts_is, cycles_are_numbered, follows, here, there}
 use Rattle.uc_step_cycles.specs.RootTree.{IsRootTree, MarksSteps}
 use Rattle.uc_step_cycles.specs.Noted.{flag_of, is_flagged, noted_act, noted_all, noted_block}
 

@@ -6,7 +6,7 @@ use Rattle.uc_rules.specs.declared.fault.Fault.{Fault}
 use Rattle.uc_rules.specs.Faults.{first_of}
 use Rattle.uc_rules.proofs.Chains.{first_of_append}
 use Rattle.uc_rules.proofs.Lists.{take_turn}
-use Rattle.uc_step_edges.specs.Edges.{each_at}
+use Rattle.uc_step_cycles.specs.Edges.{each_at}
 
 each_push : {X B : Type 0} (f : ℕ → X → List B) (k : ℕ) (xs : List X) (x : X) → each_at f k (xs ++ x ∷ []) ≡ each_at f k xs ++ f (k + length xs) x
 unfolding each_at

@@ -4,13 +4,13 @@ use Rattle.std.specs.List.{flat_map, list_any}
 use Rattle.uc_rules.specs.declared.fault.Fault.{Fault}
 use Rattle.uc_rules.specs.declared.rule.Rule.TheVariants.{CyclicStep}
 use Rattle.uc_rules.specs.Faults.{breaks_where}
-use Rattle.uc_instance_tree.specs.Trees.{step}
-use Rattle.uc_writing_statements.specs.declared.acts.Act.{Act}
-use Rattle.uc_writing_statements.specs.declared.acts.Act.TheVariants.{Writes, Steps}
-use Rattle.uc_stepped_blocks.specs.declared.blocks.Block.{Block}
-use Rattle.uc_step_edges.specs.declared.numbers.Names.{Names}
-use Rattle.uc_step_edges.specs.Edges.{each_at}
-use Rattle.uc_step_edges.specs.Numbers.{cell_at}
+use Rattle.uc_uses.specs.Trees.{step}
+use Rattle.uc_step_cycles.specs.declared.acts.Act.{Act}
+use Rattle.uc_step_cycles.specs.declared.acts.Act.TheVariants.{Writes, Steps}
+use Rattle.uc_step_cycles.specs.declared.stepped_blocks.Block.{Block}
+use Rattle.uc_step_cycles.specs.declared.numbers.Names.{Names}
+use Rattle.uc_step_cycles.specs.Edges.{each_at}
+use Rattle.uc_step_cycles.specs.StepEdgesNumbers.{cell_at}
 
 abbrev pub flag_of : List Bool → Option ℕ → Bool
 flag_of flags None = false

@@ -2,18 +2,18 @@
 use Rattle.std.specs.Prelude.{◌≡◌, ℕ, Bool, List, Some}
 use Rattle.uc_syntax.specs.declared.declaration.Module.{Module}
 use Rattle.uc_meaning.specs.Lookup.{System, InstanceParts, instance_of, instances_of, main_module}
-use Rattle.uc_way_laws.specs.AliasLaw.{IsAmong}
-use Rattle.uc_graph_cycles.specs.Cycles.{MarksCycles}
-use Rattle.uc_read_laws.specs.Reading.{UsesEnd}
-use Rattle.uc_instance_tree.specs.declared.tree.InstanceTree.{InstanceTree}
-use Rattle.uc_instance_tree.specs.Trees.{IsTree, code_at}
-use Rattle.uc_use_graph.specs.declared.graph.UseGraph.{UseGraph}
-use Rattle.uc_input_ways.specs.InputWays.{IsWhole}
-use Rattle.uc_stepped_blocks.specs.declared.blocks.Block.{Block}
-use Rattle.uc_stepped_blocks.specs.StepLaw.{IsShallow}
-use Rattle.uc_step_edges.specs.declared.numbers.Names.{Names}
-use Rattle.uc_step_edges.specs.declared.graph.StepGraph.{StepGraph}
-use Rattle.uc_step_edges.specs.Building.{HasAllEdges}
+use Rattle.uc_declared_types.specs.AliasLaw.{IsAmong}
+use Rattle.uc_graph.specs.Cycles.{MarksCycles}
+use Rattle.uc_order_rules.specs.Reading.{UsesEnd}
+use Rattle.uc_uses.specs.declared.tree.InstanceTree.{InstanceTree}
+use Rattle.uc_uses.specs.Trees.{IsTree, code_at}
+use Rattle.uc_uses.specs.declared.use_graph_graph.UseGraph.{UseGraph}
+use Rattle.uc_step_cycles.specs.InputWays.{IsWhole}
+use Rattle.uc_step_cycles.specs.declared.stepped_blocks.Block.{Block}
+use Rattle.uc_step_cycles.specs.StepLaw.{IsShallow}
+use Rattle.uc_step_cycles.specs.declared.numbers.Names.{Names}
+use Rattle.uc_step_cycles.specs.declared.graph.StepGraph.{StepGraph}
+use Rattle.uc_step_cycles.specs.Building.{HasAllEdges}
 
 -- The tree of a root. Instances have names of their own and modules that are there, no chain of them is too long, and ways of uses end.
 pub record IsRootTree (system : System) (t : InstanceTree) : Type 0 where

@@ -7,18 +7,17 @@ ghost use Rattle.uc_rules.specs.Faults.{first_of};
 ghost use Rattle.uc_order_rules.specs.Roots.{rooted};
 ghost use Rattle.uc_order_rules.specs.Dependence.{cyclic_steps};
 ghost use Rattle.uc_order_rules.specs.Order.{dependence_in, is_judged, roots};
-ghost use Rattle.uc_instance_tree.specs.Modules.{KnowsModules};
-ghost use Rattle.uc_use_bounds.specs.BoundLaw.{InstancesEnd};
-ghost use Rattle.uc_kept_modules.specs.KeptModules.{HasModules};
+ghost use Rattle.uc_uses.specs.Modules.{KnowsModules};
+ghost use Rattle.uc_uses.specs.BoundLaw.{InstancesEnd};
+ghost use Rattle.uc_uses.specs.KeptModules.{HasModules};
 
 use crate::noting::flag_at;
 use crate::root::note_tree;
 use std::alloc::{AllocError, Global};
-use uc_instance_depth::judged_roots;
-use uc_instance_tree::{ModuleTable, instance_tree};
-use uc_module_names::DesignNames;
+use uc_names::DesignNames;
 use uc_rules::Fault;
 use uc_syntax::Module;
+use uc_uses::{ModuleTable, instance_tree, judged_roots};
 
 /// Notes each statement that may write a cell that depends on itself in a step, in all roots that are judged.
 pub fn note_cyclic_steps(

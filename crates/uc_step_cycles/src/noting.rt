@@ -5,11 +5,9 @@ ghost use Rattle.std.specs.List.{flat_map, list_any};
 ghost use Rattle.uc_rules.specs.Faults.{first_of};
 ghost use Rattle.uc_step_cycles.specs.Noted.{is_flagged, noted_act, noted_all, noted_block};
 
-use uc_instance_tree::Step;
+use crate::{Act, Block, Names};
 use uc_rules::{Fault, Rule, note_where};
-use uc_step_edges::Names;
-use uc_stepped_blocks::Block;
-use uc_writing_statements::Act;
+use uc_uses::Step;
 
 /// Notes the statements that may write a cell with a flag, in all blocks that are stepped.
 pub(crate) fn note_blocks(

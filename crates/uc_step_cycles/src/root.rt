@@ -4,22 +4,19 @@ ghost use Rattle.std.specs.Prelude.{◌≡◌, IfOk, OnOk};
 ghost use Rattle.uc_meaning.specs.Lookup.{System};
 ghost use Rattle.uc_rules.specs.Faults.{first_of};
 ghost use Rattle.uc_order_rules.specs.Dependence.{cyclic_steps};
-ghost use Rattle.uc_use_graph.specs.Resolving.{IsGraph};
-ghost use Rattle.uc_use_graph.specs.Tables.{KnowsUses};
-ghost use Rattle.uc_cell_table.specs.Tables.{KnowsCells};
-ghost use Rattle.uc_stepped_blocks.specs.Blocks.{KnowsTree};
+ghost use Rattle.uc_uses.specs.Resolving.{IsGraph};
+ghost use Rattle.uc_uses.specs.Tables.{KnowsUses};
+ghost use Rattle.uc_step_cycles.specs.Tables.{KnowsCells};
+ghost use Rattle.uc_step_cycles.specs.Blocks.{KnowsTree};
 ghost use Rattle.uc_step_cycles.specs.RootTree.{IsRootTree, MarksSteps};
 
 use crate::noting::note_blocks;
+use crate::{Block, Blocks, CellTable, Names, step_graph};
 use std::alloc::{AllocError, Global};
-use uc_cell_table::CellTable;
-use uc_graph_cycles::on_cycles;
-use uc_instance_tree::InstanceTree;
+use uc_graph::on_cycles;
 use uc_items::Items;
 use uc_rules::Fault;
-use uc_step_edges::{Names, step_graph};
-use uc_stepped_blocks::{Block, Blocks};
-use uc_use_graph::{UseGraph, UseTable, use_graph};
+use uc_uses::{InstanceTree, UseGraph, UseTable, use_graph};
 
 /// Notes the statements of a tree that may write a cell that depends on itself.
 pub(crate) fn note_tree(

@@ -1,2 +1,6 @@
+mod Forms
+mod EnumForms
 mod Repeats
 mod BlockTurns
+mod Calls
+mod Products

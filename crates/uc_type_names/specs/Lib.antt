@@ -1,2 +1,5 @@
+pub mod Lent
 pub mod NameSets
 pub mod Blocks
+pub mod Fits
+pub mod Numbers

@@ -11,7 +11,7 @@ use Rattle.uc_rules.specs.Cycles.{cycle_faults}
 use Rattle.uc_rules.specs.Reads.{define_reads}
 use Rattle.uc_rules.specs.Expressions.{Context}
 use Rattle.uc_rules.specs.Declarations.{declaration_faults, in_module, module_faults, naming_faults}
-use Rattle.uc_define_reads.specs.Reading.{KnowsReads as ReadsFound}
+use Rattle.uc_cycles.specs.Reading.{KnowsReads as ReadsFound}
 use Rattle.uc_read_names.specs.Reading.{KnowsReads}
 use Rattle.uc_rules.proofs.Chains.{first_of_append}
 

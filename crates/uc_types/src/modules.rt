@@ -7,11 +7,9 @@ ghost use Rattle.uc_rules.specs.Declarations.{declaration_faults, module_faults}
 ghost use Rattle.uc_rules.specs.Faults.{first_of};
 
 use std::alloc::{AllocError, Global};
-use uc_cycles::{DesignCycles, cycles_of, note_cycles};
-use uc_declaration_rules::{Home, judge_declaration};
+use uc_cycles::{DesignCycles, cycles_of, note_cycles, reading_defines};
+use uc_declaration_rules::{Home, judge_declaration, note_names};
 use uc_declared_types::KnownTypes;
-use uc_define_reads::reading_defines;
-use uc_naming_rules::note_names;
 use uc_rules::Fault;
 use uc_syntax::{Decl, Module};
 

@@ -8,3 +8,4 @@ pub mod Counting
 pub mod Numbered
 pub mod Everywhere
 pub mod Widths
+pub mod SameValuesSame

@@ -5,3 +5,11 @@ pub mod Below
 pub mod Places
 pub mod Coded
 pub mod Told
+pub mod Yields
+pub mod Passing
+pub mod Types
+pub mod Expressions
+pub mod Statements
+pub mod Declarations
+pub mod Texts
+pub mod Laws

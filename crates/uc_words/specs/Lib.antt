@@ -3,3 +3,5 @@ pub mod Known
 pub mod Words
 pub mod Mentions
 pub mod Laws
+pub mod Below
+pub mod Law

@@ -19,9 +19,9 @@ use Rattle.uc_rules.specs.declared.fault.Fault.{Fault}
 use Rattle.uc_rules.specs.Faults.{first_of}
 use Rattle.uc_rules.proofs.Chains.{first_of_append}
 use Rattle.uc_order_rules.specs.Writes.{Part, Stepping}
-use Rattle.uc_path_laws.specs.Walks.{Parted, Passed, Walk, joined, parted, parted_after, passed, walk_arms, walk_each, walk_turns}
+use Rattle.uc_order_rules.specs.Walks.{Parted, Passed, Walk, joined, parted, parted_after, passed, walk_arms, walk_each, walk_turns}
 use Rattle.uc_written_once.specs.Walks.{one_name, one_target, walk_arm, walk_block, walk_form, walk_of, walk_step, walk_targets, Went, WentAside}
-use Rattle.uc_written_once.proofs.Turns.{went_as, went_nothing}
+use Rattle.uc_written_once.proofs.WrittenOnceTurns.{went_as, went_nothing}
 
 or_true : (b : Bool) → (b || true) ≡ true
 or_true true = refl

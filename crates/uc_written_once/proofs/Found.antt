@@ -20,10 +20,10 @@ use Rattle.uc_rules.specs.declared.rule.Rule.TheVariants.{TwiceAssigned}
 use Rattle.uc_rules.specs.Faults.{breaks_where, first_of}
 use Rattle.uc_order_rules.specs.Paths.{Stretch, in_turn, last_arm}
 use Rattle.uc_order_rules.specs.Writes.{Part, Stepping, clash, is_empty, met, overlap, part_of_name, part_of_target, stepped_at, written_by, writes_at, writes_form}
-use Rattle.uc_path_laws.specs.Walks.{Walk, last_walk, walk_each}
-use Rattle.uc_path_laws.proofs.SameFaults.{SameFaults, breaks_grow, in_either, in_left, same_both, same_equal, same_first, same_then}
-use Rattle.uc_path_laws.proofs.Walked.{AllFind, Finds, choice_finds, each_finds, find_append, finds_as, finds_nothing, turns_find}
-use Rattle.uc_part_table.proofs.Overlaps.{front_self}
+use Rattle.uc_order_rules.specs.Walks.{Walk, last_walk, walk_each}
+use Rattle.uc_order_rules.proofs.SameFaults.{SameFaults, breaks_grow, in_either, in_left, same_both, same_equal, same_first, same_then}
+use Rattle.uc_order_rules.proofs.Walked.{AllFind, Finds, choice_finds, each_finds, find_append, finds_as, finds_nothing, turns_find}
+use Rattle.uc_written_once.proofs.Overlaps.{front_self}
 use Rattle.uc_written_once.specs.declared.effects.Effects.{Effects}
 use Rattle.uc_written_once.specs.Effects.{AreEffects, OverlapAlike, SameStep, modified_by, step_by}
 use Rattle.uc_written_once.specs.Walks.{is_stepped_twice, one_name, one_part, one_target, walk_block, walk_form, walk_of, walk_step, Went}

@@ -17,9 +17,9 @@ use Rattle.uc_rules.specs.declared.fault.Fault.{Fault}
 use Rattle.uc_rules.specs.declared.rule.Rule.TheVariants.{TwiceAssigned}
 use Rattle.uc_rules.specs.Faults.{breaks_where, first_of}
 use Rattle.uc_order_rules.specs.Writes.{Part, Stepping, is_empty, no_step}
-use Rattle.uc_path_laws.specs.Walks.{Walk, after, walk_each}
+use Rattle.uc_order_rules.specs.Walks.{Walk, after, walk_each}
 use Rattle.uc_written_once.specs.Walks.{is_stepped_twice, one_clause, one_name, walk_step, Went}
-use Rattle.uc_written_once.proofs.Turns.{each_join, went_as, went_join}
+use Rattle.uc_written_once.proofs.WrittenOnceTurns.{each_join, went_as, went_join}
 use Rattle.std.proofs.lemmas.List.{map-append}
 
 each_turn : {A : Type 0} (w : Walk A) (ws : List (Walk A)) (again : Bool) (seen : List A) → walk_each (w ∷ ws) again seen ≡ after (w again seen).faults (walk_each ws again (w again seen).seen)

@@ -14,7 +14,7 @@ use Rattle.uc_rules.specs.declared.fault.Fault.{Fault}
 use Rattle.uc_rules.specs.declared.rule.Rule.TheVariants.{TwiceAssigned}
 use Rattle.uc_rules.specs.Faults.{breaks_where, first_of}
 use Rattle.uc_order_rules.specs.Writes.{Part, Stepping, is_empty, met, overlap, part_of_name, part_of_target}
-use Rattle.uc_path_laws.specs.Walks.{Parted, Passed, Walk, passed, walk_choice, walk_each, walk_turns}
+use Rattle.uc_order_rules.specs.Walks.{Parted, Passed, Walk, passed, walk_choice, walk_each, walk_turns}
 
 -- a part that is written at a place
 abbrev pub one_part : Place → Part → Walk Part

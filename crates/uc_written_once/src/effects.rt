@@ -9,7 +9,7 @@ ghost use Rattle.uc_written_once.specs.Effects.{procedure_by, stepped_by};
 use indexmap::IndexMap;
 use std::alloc::{AllocError, Global};
 use uc_items::Items;
-use uc_name_table::Firsts;
+use uc_names::Firsts;
 use uc_syntax::Procedure;
 
 /// What it is to step an instance: the parts that are written, and whether some of them, written on one path inside, meet.

@@ -6,19 +6,19 @@ ghost use Rattle.uc_meaning.specs.Code.{modifies_in};
 ghost use Rattle.uc_meaning.specs.Steps.{fields_before};
 ghost use Rattle.uc_rules.specs.Statements.{modifies_in as written_in};
 ghost use Rattle.uc_order_rules.specs.Writes.{is_empty, met, modified_names, overlap, part_of_name, part_of_target};
-ghost use Rattle.uc_path_laws.specs.Walks.{walk_each};
+ghost use Rattle.uc_order_rules.specs.Walks.{walk_each};
 ghost use Rattle.uc_written_once.specs.Effects.{modified_by, step_by};
 ghost use Rattle.uc_written_once.specs.Walks.{is_stepped_twice, one_clause, one_name, one_part, one_target, walk_step, walk_targets, Went};
 
+use crate::PartTable;
 use crate::effects::{Effects, Stepped};
 use std::alloc::{AllocError, Global};
 use uc_items::Items;
-use uc_part_table::PartTable;
 use uc_rules::{Fault, Rule, note_where};
 use uc_syntax::{Clause, Identifier, Place, Target, TargetPart};
 
 /// Notes that a part is written at a place, and adds it.
-#[tactic(auto, using(crate::proofs::Turns::went_is))]
+#[tactic(auto, using(crate::proofs::WrittenOnceTurns::went_is))]
 pub(crate) fn note_part(
     alloc: Global,
     place: Place,

@@ -5,16 +5,15 @@ ghost use Rattle.std.specs.List.{flat_map};
 ghost use Rattle.uc_meaning.specs.Lookup.{next_in};
 ghost use Rattle.uc_rules.specs.Faults.{first_of};
 ghost use Rattle.uc_order_rules.specs.Writes.{overlap, written_by, Stepping};
-ghost use Rattle.uc_path_laws.specs.Walks.{walk_arms};
+ghost use Rattle.uc_order_rules.specs.Walks.{walk_arms};
 ghost use Rattle.uc_written_once.specs.Effects.{modified_by, step_by, AreEffects};
 ghost use Rattle.uc_written_once.specs.Walks.{walk_arm, walk_block, walk_of, Went, WentAside};
 
 use crate::effects::Effects;
 use crate::noting::{note_call, note_name, note_step, note_targets};
+use crate::{PartTable, turn_count};
 use std::alloc::{AllocError, Global};
 use uc_items::Items;
-use uc_lone_faults::turn_count;
-use uc_part_table::PartTable;
 use uc_rules::Fault;
 use uc_syntax::{Arm, Decl, Stmt};
 

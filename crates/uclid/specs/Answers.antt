@@ -1,9 +1,9 @@
 -- What a run is to answer to its words and its texts.
 use Rattle.std.specs.Prelude.{◌≡◌, ℕ, ◌+◌, ◌*◌, ◌≤◌, Bool, true, false, not, ◌&&◌, nat_le, nat_eq, codes, decimal, IsTrue, List, [], ◌∷◌, ◌++◌, length, slice_get, unwrap_or, Option, Some, None}
 use Rattle.std.specs.List.{list_all}
-use Rattle.uc_control.specs.Reports.{status}
-use Rattle.uc_control.specs.Verdicts.{out_of_budget}
-use Rattle.uc_control.specs.Text.{report_text}
+use Rattle.uc_report.specs.Reports.{status}
+use Rattle.uc_report.specs.Verdicts.{out_of_budget}
+use Rattle.uc_report.specs.ControlText.{report_text}
 use Rattle.uc_front.specs.declared.refusal.Refusal.{Refusal}
 use Rattle.uc_front.specs.Refusals.{number_of, place_of}
 use Rattle.uc_front.specs.Denotes.{Denotes, IsKept, RunsToday}

@@ -2,7 +2,7 @@
 use Rattle.std.specs.Prelude.{◌≡◌, ◌⊎◌, ℕ, ◌+◌, ◌*◌, ◌≤◌, Bool, IsTrue, List, ◌++◌, length, Option, Some, None}
 use Rattle.uc_io.specs.Faults.{Rose}
 use Rattle.uc_io.specs.Sink.{GrewByFront}
-use Rattle.uc_control.specs.Verdicts.{out_of_budget}
+use Rattle.uc_report.specs.Verdicts.{out_of_budget}
 use Rattle.uclid.specs.declared.answer.Session.{Session}
 use Rattle.uclid.specs.declared.answer.Answer.{Answer}
 use Rattle.uclid.specs.declared.top.Outcome.{Outcome}

@@ -7,12 +7,12 @@ ghost use Rattle.uclid.specs.declared.answer.Stop.TheVariants.{NoMemory, ReadFau
 ghost use Rattle.uclid.specs.Answers.{is_form, are_names, line_budget, IsAnswer, IsFilesAnswer, HasSpent, begins_with_dash, status_of, session_of};
 
 use std::alloc::{AllocError, Global};
-use uc_control::{Report, status_of};
 use uc_front::{FrontError, MAX_FILES, Refusal, read_design};
 use uc_io::Texts;
 use uc_items::beside;
 use uc_judge::run_control;
 use uc_log::Meter;
+use uc_report::{Report, status_of};
 use uc_runnable::Runnable;
 
 /// How many entries of a log each line may spend.

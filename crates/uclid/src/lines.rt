@@ -3,14 +3,14 @@
 ghost use Rattle.std.specs.Prelude.{◌≡◌, ◌++◌, ◌<◌, decimal, length, IfOk, OnOk};
 ghost use Rattle.uclid.specs.Answers.{error_line, text_of, word_at};
 ghost use Rattle.uc_front.specs.Sources.{words_of};
-ghost use Rattle.uc_control.specs.Text.{report_text};
+ghost use Rattle.uc_report.specs.ControlText.{report_text};
 
 use crate::answer::{Answer, Session};
 use itoa::Buffer;
 use std::alloc::{AllocError, Global};
-use uc_control::report_text;
 use uc_front::Refusal;
 use uc_judge::shown_design;
+use uc_report::report_text;
 
 const USAGE: &[u8] =
     b"usage: uclid [--main NAME] [--budget N] FILE... or uclid --ring N [--budget N]\n";

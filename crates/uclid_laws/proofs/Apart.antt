@@ -15,11 +15,11 @@ use Rattle.uc_rules.specs.Faults.{breaks_where}
 use Rattle.uc_rules.specs.Names.{Entry, Sense, SenseLabel, SenseInstance, same_label, is_taken, is_entry, is_bit_function, repeated_names, names_of, names_in, labels_in}
 use Rattle.uc_rules.specs.Cycles.{cycle_faults}
 use Rattle.uc_rules.specs.Declarations.{declaration_faults, design_faults, main_faults, main_number, module_faults, naming_faults, repeated_block, init_place, next_place, control_place, repeated_modules, system_with}
-use Rattle.uc_way_laws.specs.AliasLaw.{IsAmong}
-use Rattle.uc_way_laws.proofs.Among.{among_left, among_right, among_back, find_among}
+use Rattle.uc_declared_types.specs.AliasLaw.{IsAmong}
+use Rattle.uc_declared_types.proofs.Among.{among_left, among_right, among_back, find_among}
 use Rattle.uc_laws.specs.Laws.{AreApart}
-use Rattle.uc_flat_names.specs.Names.{StandsAlone}
-use Rattle.uc_flat_names.proofs.Cells.{alone_instances}
+use Rattle.uc_flat_design.specs.Names.{StandsAlone}
+use Rattle.uc_flat_design.proofs.Cells.{alone_instances}
 use Rattle.uc_flat_design.proofs.Laws.{alone_of}
 use Rattle.uc_front.specs.Denotes.{main_name, contents_of, IsTyped}
 use Rattle.uclid_laws.specs.Laws.{RunningApart, TypedApart}

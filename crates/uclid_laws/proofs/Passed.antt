@@ -10,12 +10,12 @@ use Rattle.uc_laws.proofs.Checked.{checked_induction_holds}
 use Rattle.uc_laws.proofs.Commands.{command_holds}
 use Rattle.uc_laws.proofs.Induction.{unroll_holds}
 use Rattle.uc_laws.proofs.Verifying.{verify_holds}
-use Rattle.uc_control.specs.declared.report.Verdict.{Verdict}
-use Rattle.uc_control.specs.declared.report.Verdict.TheVariants.{Passed, Failed, Undef}
-use Rattle.uc_control.specs.declared.report.Report.{Report}
-use Rattle.uc_control.specs.Reports.{is_passed}
-use Rattle.uc_control.specs.declared.report.Why.TheVariants.{Budget, Memory}
-use Rattle.uc_control.specs.Verdicts.{IsRightVerdict, IsHonest, is_out_of_budget}
+use Rattle.uc_report.specs.declared.report.Verdict.{Verdict}
+use Rattle.uc_report.specs.declared.report.Verdict.TheVariants.{Passed, Failed, Undef}
+use Rattle.uc_report.specs.declared.report.Report.{Report}
+use Rattle.uc_report.specs.Reports.{is_passed}
+use Rattle.uc_report.specs.declared.report.Why.TheVariants.{Budget, Memory}
+use Rattle.uc_report.specs.Verdicts.{IsRightVerdict, IsHonest, is_out_of_budget}
 use Rattle.uc_judge.specs.Reports.{IsReport, line_bits}
 use Rattle.uclid_laws.specs.Laws.{AllPassed, EnoughBudget, PassedInduction, PassedUnroll, PassedVerify}
 

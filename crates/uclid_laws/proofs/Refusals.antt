@@ -13,7 +13,7 @@ use Rattle.uc_rules.specs.declared.fault.Fault.{Fault}
 use Rattle.uc_rules.specs.Faults.{sooner, first_of, IsIn, NoneBefore, IsFirst}
 use Rattle.uc_rules.specs.Declarations.{design_faults}
 use Rattle.uc_order_rules.specs.Order.{order_faults}
-use Rattle.uc_fault_order.proofs.Swaps.{any_order}
+use Rattle.uc_rules.proofs.Swaps.{any_order}
 use Rattle.uc_meaning.specs.Lookup.{System}
 use Rattle.uc_front.specs.declared.lexing.Source.{Source}
 use Rattle.uc_front.specs.declared.refusal.Refusal.{Refusal}

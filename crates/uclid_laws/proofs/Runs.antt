@@ -8,12 +8,12 @@ use Rattle.uc_meaning.specs.declared.line.Line.{Line}
 use Rattle.uc_meaning.specs.declared.line.Trace.{Trace}
 use Rattle.uc_meaning.specs.Lookup.{System}
 use Rattle.uc_meaning.specs.Lines.{all_lines, Refutes}
-use Rattle.uc_control.specs.declared.report.Report.{Report}
-use Rattle.uc_control.specs.declared.report.Verdict.{Verdict}
-use Rattle.uc_control.specs.declared.report.Verdict.TheVariants.{Passed, Failed, Undef}
-use Rattle.uc_control.specs.declared.report.LineResult.{LineResult}
-use Rattle.uc_control.specs.Reports.{status, is_passed, is_failed, is_undecided}
-use Rattle.uc_control.specs.Verdicts.{IsRightVerdict}
+use Rattle.uc_report.specs.declared.report.Report.{Report}
+use Rattle.uc_report.specs.declared.report.Verdict.{Verdict}
+use Rattle.uc_report.specs.declared.report.Verdict.TheVariants.{Passed, Failed, Undef}
+use Rattle.uc_report.specs.declared.report.LineResult.{LineResult}
+use Rattle.uc_report.specs.Reports.{status, is_passed, is_failed, is_undecided}
+use Rattle.uc_report.specs.Verdicts.{IsRightVerdict}
 use Rattle.uc_judge.specs.Reports.{IsReport}
 use Rattle.uc_runnable.specs.Runnable.{IsRunnable}
 use Rattle.uc_front.specs.Denotes.{IsAccepted}

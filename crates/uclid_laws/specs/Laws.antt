@@ -14,9 +14,9 @@ use Rattle.uc_meaning.specs.Lookup.{System, main_module, procedure_of}
 use Rattle.uc_meaning.specs.Runs.{IsCorrect}
 use Rattle.uc_meaning.specs.Lines.{commands_of, is_check, all_lines, Refutes}
 use Rattle.uc_laws.specs.Laws.{InstancesApart, HoldsAlways, HoldsUpTo, depth_of}
-use Rattle.uc_control.specs.declared.report.Report.{Report}
-use Rattle.uc_control.specs.Reports.{is_passed}
-use Rattle.uc_control.specs.Verdicts.{is_out_of_budget}
+use Rattle.uc_report.specs.declared.report.Report.{Report}
+use Rattle.uc_report.specs.Reports.{is_passed}
+use Rattle.uc_report.specs.Verdicts.{is_out_of_budget}
 use Rattle.uc_flat.specs.declared.flat.Flat.{Flat}
 use Rattle.uc_flat_design.specs.Design.{IsFlatOf}
 use Rattle.uc_judge.specs.Reports.{IsReport, line_bits}

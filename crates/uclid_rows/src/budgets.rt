@@ -3,13 +3,12 @@
 use crate::in_memory::{file_of, print_ended};
 use std::alloc::{AllocError, Global};
 use std::io;
-use uc_control::{Verdict, report_text, status_of};
 use uc_front::read_design;
 use uc_io::MemTexts;
 use uc_judge::{run_control, shown_design};
 use uc_log::CountMeter;
+use uc_report::{Verdict, cex_text, report_text, status_of};
 use uc_runnable::Runnable;
-use uc_trace::cex_text;
 
 /// Three pigeons do not fit into two holes: the first formula says it. The second one is false somewhere.
 const PIGEONS: &[u8] =

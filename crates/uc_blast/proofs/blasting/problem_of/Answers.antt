@@ -1,6 +1,6 @@
 use Rattle.std.specs.Prelude.{length}
 use Rattle.std.proofs.Common.{ap, ◌∙◌}
-use Rattle.uc_gates.proofs.Pushing.{if_ok-weaker}
+use Rattle.uc_circuit.proofs.Pushing.{if_ok-weaker}
 use Rattle.uc_blast.proofs.Problems.{goal-within, atoms-count, stands, constant-value, constant-stands, constant-inputs}
 use Rattle.uc_blast.proofs.blasting.problem_of.Goals as goal
 

@@ -1,4 +1,4 @@
-use Rattle.uc_gates.proofs.Pushing.{if_ok-weaker}
+use Rattle.uc_circuit.proofs.Pushing.{if_ok-weaker}
 use Rattle.uc_blast.proofs.Junctions.{all-gives, firsts-below}
 use Rattle.uc_blast.proofs.computed.and_word.Goals as goal
 

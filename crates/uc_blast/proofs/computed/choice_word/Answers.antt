@@ -1,8 +1,8 @@
 use Rattle.std.proofs.Common.{◌≡◌, ◌∙◌, sym, ap, subst, true, arith, cond, length}
 use Rattle.uc_ops.specs.Typing.{part_type}
-use Rattle.uc_gates.specs.Signals.{Below, signal_value, number}
-use Rattle.uc_gates.specs.Building.{size}
-use Rattle.uc_gates.specs.Meanings.{Amounts}
+use Rattle.uc_circuit.specs.Signals.{Below, signal_value, number}
+use Rattle.uc_circuit.specs.Building.{size}
+use Rattle.uc_circuit.specs.Meanings.{Amounts}
 use Rattle.uc_blast.specs.Words.{is_bits, Gives}
 use Rattle.uc_blast.proofs.Mixed.{words-3, choice-gives, truth-below}
 use Rattle.uc_blast.proofs.computed.choice_word.Goals as goal

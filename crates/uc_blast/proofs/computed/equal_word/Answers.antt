@@ -1,5 +1,5 @@
 use Rattle.std.proofs.Common.{◌≡◌, ◌∙◌, sym, ap, true}
-use Rattle.uc_gates.proofs.Pushing.{if_ok-weaker}
+use Rattle.uc_circuit.proofs.Pushing.{if_ok-weaker}
 use Rattle.uc_ops.specs.Typing.{part_type}
 use Rattle.uc_blast.specs.Words.{is_bits}
 use Rattle.uc_blast.proofs.Mixed.{words-2, equal-gives}

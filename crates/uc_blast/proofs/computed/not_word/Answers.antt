@@ -1,6 +1,6 @@
 use Rattle.std.proofs.Common.{◌∙◌, ap}
-use Rattle.uc_gates.proofs.Pushing.{if_ok-weaker}
-use Rattle.uc_gates.specs.Signals.{turned}
+use Rattle.uc_circuit.proofs.Pushing.{if_ok-weaker}
+use Rattle.uc_circuit.specs.Signals.{turned}
 use Rattle.uc_blast.proofs.Mixed.{words-1, not-gives}
 use Rattle.uc_blast.proofs.computed.not_word.Goals as goal
 

@@ -1,4 +1,4 @@
-use Rattle.uc_gates.proofs.Pushing.{if_ok-weaker}
+use Rattle.uc_circuit.proofs.Pushing.{if_ok-weaker}
 use Rattle.uc_blast.proofs.Junctions.{any-gives, firsts-below}
 use Rattle.uc_blast.proofs.computed.or_word.Goals as goal
 

@@ -1,4 +1,4 @@
-use Rattle.uc_gates.proofs.Pushing.{if_ok-weaker}
+use Rattle.uc_circuit.proofs.Pushing.{if_ok-weaker}
 use Rattle.uc_blast.proofs.Ready.{two-words, order-suits}
 use Rattle.uc_blast.proofs.Giving.{order-gives}
 use Rattle.uc_blast.proofs.computed.order_word.Goals as goal

@@ -1,4 +1,4 @@
-use Rattle.uc_gates.proofs.Pushing.{if_ok-weaker}
+use Rattle.uc_circuit.proofs.Pushing.{if_ok-weaker}
 use Rattle.uc_blast.proofs.Plain.{truth-stands}
 use Rattle.uc_blast.proofs.constants.truth_word.Goals as goal
 

@@ -1,4 +1,4 @@
-use Rattle.uc_gates.proofs.Pushing.{if_ok-weaker}
+use Rattle.uc_circuit.proofs.Pushing.{if_ok-weaker}
 use Rattle.uc_blast.proofs.Plain.{constant-known, constant-gives}
 use Rattle.uc_blast.proofs.dispatch.operation_word.Goals as goal
 

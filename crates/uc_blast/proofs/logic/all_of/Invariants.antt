@@ -1,7 +1,7 @@
 use Rattle.std.proofs.Common.{take}
 use Rattle.std.specs.List.{list_all}
-use Rattle.uc_gates.specs.Building.{Grows}
-use Rattle.uc_gates.specs.Meanings.{Means}
+use Rattle.uc_circuit.specs.Building.{Grows}
+use Rattle.uc_circuit.specs.Meanings.{Means}
 use Rattle.uc_blast.specs.Words.{words_at, first}
 use Rattle.uc_blast.proofs.logic.all_of.Given as goal
 

@@ -1,6 +1,6 @@
 use Rattle.std.proofs.Common.{arith, length, ◌-◌}
-use Rattle.uc_gates.proofs.Pushing.{amounts-same, if_ok-weaker}
-use Rattle.uc_gates.specs.Signals.{number}
+use Rattle.uc_circuit.proofs.Pushing.{amounts-same, if_ok-weaker}
+use Rattle.uc_circuit.specs.Signals.{number}
 use Rattle.uc_blast.proofs.Tops.{signed-shift}
 use Rattle.uc_blast.proofs.operations.shift_signed.Goals as goal
 

@@ -1,5 +1,5 @@
 use Rattle.uc_ops.specs.declared.op.Op.TheVariants.{BvNot, Extract, ZeroExt, SignExt}
-use Rattle.uc_gates.proofs.Pushing.{if_ok-weaker}
+use Rattle.uc_circuit.proofs.Pushing.{if_ok-weaker}
 use Rattle.uc_blast.proofs.Singles.{turned-amounts, single-for, extract-for, zeros-for, signs-for}
 use Rattle.uc_blast.proofs.operations.single_bits.Goals as goal
 

@@ -1,7 +1,7 @@
 use Rattle.std.specs.Prelude.{◌≡◌, true, false}
 use Rattle.std.proofs.Common.{refl, sym, ap, ◌∙◌, rules, subst}
 use Rattle.std.proofs.lemmas.Bool.{false≢true}
-use Rattle.uc_gates.specs.Building.{size}
+use Rattle.uc_circuit.specs.Building.{size}
 use Rattle.uc_blast.specs.Blasting.{atomic_in}
 use Rattle.uc_blast.specs.Walk.{passed, computed, IsReady, GivesAt}
 use Rattle.uc_blast.proofs.walk.step.Goals as goal

@@ -3,7 +3,7 @@ use Rattle.uc_lexer.specs.declared.token.Token.{Token}
 use Rattle.uc_lexer.specs.Text.{Tokens}
 use Rattle.uc_words.proofs.Below.{names_below, files_below}
 use Rattle.uc_words.proofs.Places.{files_are}
-use Rattle.uc_mentions.proofs.Laws.{answer_names, answer_files}
+use Rattle.uc_words.proofs.Laws.{answer_names, answer_files}
 use Rattle.uc_check_rows.proofs.layout.layout_of.Goals as goal
 
 one_more : {A : Type 0} (before all : List A) (x : A) → before ≡ [] → all ≡ before ++ x ∷ [] → 0 < length all

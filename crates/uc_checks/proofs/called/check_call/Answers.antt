@@ -3,15 +3,15 @@ use Rattle.std.specs.Prelude.{IfOk}
 use Rattle.uc_meaning.specs.Cells.{longest_chain}
 use Rattle.uc_meaning.specs.Code.{run, run_through, call}
 use Rattle.uc_meaning.specs.Steps.{running, check_call}
-use Rattle.uc_overflows.specs.Runs.{run_met, met_after, call_met}
-use Rattle.uc_overflows.specs.Checks.{call_left_met}
+use Rattle.uc_meaning.specs.OverflowsRuns.{run_met, met_after, call_met}
+use Rattle.uc_meaning.specs.Checks.{call_left_met}
 use Rattle.uc_operators.specs.Overflows.{first_wide, TellsWide}
-use Rattle.uc_scopes.specs.Scopes.{scope_in}
+use Rattle.uc_readings.specs.Scopes.{scope_in}
 use Rattle.uc_evaluator.proofs.Told.{told_first, told_second, told_as, told_all, gives_as}
-use Rattle.uc_run_forms.specs.declared.run.Ending.{Ending}
-use Rattle.uc_run_forms.specs.Runs.{ending_of}
-use Rattle.uc_check_parts.specs.declared.seen.Seen.{Seen}
-use Rattle.uc_check_parts.specs.Watches.{watched, check_of, before_call}
+use Rattle.uc_runs.specs.declared.run.Ending.{Ending}
+use Rattle.uc_runs.specs.Runs.{ending_of}
+use Rattle.uc_checks.specs.declared.seen.Seen.{Seen}
+use Rattle.uc_checks.specs.Watches.{watched, check_of, before_call}
 use Rattle.uc_checks.proofs.Scopes.{whole_run, whole_met, for_choices, call_same}
 use Rattle.uc_checks.proofs.called.check_call.Goals as goal
 

@@ -5,15 +5,15 @@ use Rattle.uc_meaning.specs.Lookup.{module_at, next_in}
 use Rattle.uc_meaning.specs.Expressions.{is_true, value, at_path}
 use Rattle.uc_meaning.specs.Code.{taken}
 use Rattle.uc_meaning.specs.Steps.{Kept, kept_if, check_targets, with_local}
-use Rattle.uc_overflows.specs.Runs.{conditions_met}
+use Rattle.uc_meaning.specs.OverflowsRuns.{conditions_met}
 use Rattle.uc_operators.specs.Overflows.{first_wide}
-use Rattle.uc_scopes.specs.Scopes.{scope_in}
+use Rattle.uc_readings.specs.Scopes.{scope_in}
 use Rattle.uc_evaluator.proofs.Told.{told_first, told_second, told_as, told_all, gives_as}
 use Rattle.uc_evaluator.proofs.Sizes.{part_size}
 use Rattle.uc_runs.proofs.Sizes.{size, sizes, arms_size, block_size, if_size, case_size, for_size, taken_size}
 use Rattle.uc_runs.proofs.Levels.{below_left, left_within}
-use Rattle.uc_check_parts.specs.declared.seen.Seen.{Seen}
-use Rattle.uc_check_parts.specs.Watches.{watched, check_of}
+use Rattle.uc_checks.specs.declared.seen.Seen.{Seen}
+use Rattle.uc_checks.specs.Watches.{watched, check_of}
 use Rattle.uc_checks.specs.Levels.{check_at, check_met_at, asked_at, asked_met_at, turns_at, turns_met_at, turn_at}
 use Rattle.uc_checks.proofs.Rounds.{asks_end, asks_more, asks_out, met_end, met_told, met_more, met_out}
 use Rattle.uc_checks.proofs.Forms.{code_none, code_next, met_none, met_next, turns_none, turns_next, turn_met, turns_met_none, turns_met_next, decls_next, decls_met_next}

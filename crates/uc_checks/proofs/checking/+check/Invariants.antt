@@ -2,8 +2,8 @@ use Rattle.std.proofs.Common.{◌≡◌, ◌+◌, ◌*◌, drop}
 use Rattle.std.specs.List.{flat_map}
 use Rattle.uc_meaning.specs.Lookup.{next_in}
 use Rattle.uc_operators.specs.Overflows.{first_wide}
-use Rattle.uc_scopes.specs.Scopes.{scope_in}
-use Rattle.uc_check_parts.specs.Watches.{watched}
+use Rattle.uc_readings.specs.Scopes.{scope_in}
+use Rattle.uc_checks.specs.Watches.{watched}
 use Rattle.uc_runs.proofs.Sizes.{size, sizes, arms_size}
 use Rattle.uc_runs.proofs.Levels.{levels}
 use Rattle.uc_checks.specs.Levels.{check_at, check_met_at, turns_at, turns_met_at}

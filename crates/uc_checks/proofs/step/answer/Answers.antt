@@ -1,6 +1,6 @@
 use Rattle.std.proofs.Common.{◌<◌, length, rules}
 use Rattle.uc_meaning.specs.Steps.{step_scope}
-use Rattle.uc_check_parts.specs.Watches.{watched}
+use Rattle.uc_checks.specs.Watches.{watched}
 use Rattle.uc_checks.proofs.Answers.{choices_left, some_left}
 use Rattle.uc_checks.proofs.step.answer.Goals as goal
 

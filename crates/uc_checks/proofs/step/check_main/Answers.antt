@@ -3,8 +3,8 @@ use Rattle.uc_meaning.specs.Lookup.{main_module}
 use Rattle.uc_meaning.specs.Cells.{longest_chain}
 use Rattle.uc_meaning.specs.Steps.{Kept}
 use Rattle.uc_operators.specs.Overflows.{first_wide}
-use Rattle.uc_scopes.specs.Scopes.{scope_in}
-use Rattle.uc_check_parts.specs.Watches.{watched}
+use Rattle.uc_readings.specs.Scopes.{scope_in}
+use Rattle.uc_checks.specs.Watches.{watched}
 use Rattle.uc_checks.specs.Levels.{check_at, check_met_at, first_seen}
 use Rattle.uc_checks.proofs.Forms.{code_none, met_none}
 use Rattle.uc_checks.proofs.Answers.{no_main}

@@ -1,9 +1,9 @@
 use Rattle.std.proofs.Common.{List, Option, ap, ◌∙◌, sym, rules}
 use Rattle.uc_meaning.specs.declared.scope.Site.{Site}
 use Rattle.uc_operators.specs.Overflows.{first_wide}
-use Rattle.uc_scopes.specs.Scopes.{scope_in}
+use Rattle.uc_readings.specs.Scopes.{scope_in}
 use Rattle.uc_evaluator.proofs.Told.{told_as}
-use Rattle.uc_check_parts.specs.declared.seen.Seen.{Seen}
+use Rattle.uc_checks.specs.declared.seen.Seen.{Seen}
 use Rattle.uc_checks.proofs.Answers.{step_meets}
 use Rattle.uc_checks.proofs.step.step_holds.Goals as goal
 

@@ -1,6 +1,6 @@
 use Rattle.std.proofs.Common.{◌≡◌, Some, None, ap, subst, sym, ◌∙◌}
 use Rattle.uc_meaning.specs.Lookup.{System, module_named}
-use Rattle.uc_name_table.specs.Senses.{module_in}
+use Rattle.uc_names.specs.Senses.{module_in}
 use Rattle.uc_cycles.specs.Numbers.{key_name, type_places}
 use Rattle.uc_cycles.proofs.Forms.{places_none}
 use Rattle.uc_cycles.proofs.Steps.{steps_found, steps_missing}

@@ -1,6 +1,6 @@
 use Rattle.std.proofs.Common.{ap, sym, ◌∙◌}
 use Rattle.std.specs.Option.{option_map}
-use Rattle.uc_name_table.specs.Senses.{declared_meant}
+use Rattle.uc_names.specs.Senses.{declared_meant}
 use Rattle.uc_rules.specs.Cycles.{alias_steps_in}
 use Rattle.uc_cycles.specs.Numbers.{type_places}
 use Rattle.uc_cycles.proofs.Forms.{places_none}

@@ -1,6 +1,6 @@
 use Rattle.std.proofs.Common.{ap, subst, ◌∙◌}
 use Rattle.uc_meaning.specs.Lookup.{System}
-use Rattle.uc_name_table.specs.Senses.{module_in}
+use Rattle.uc_names.specs.Senses.{module_in}
 use Rattle.uc_cycles.specs.Numbers.{EntersAliases, alias_of}
 use Rattle.uc_cycles.proofs.Entering.{aliases_end, aliases_more, aliases_none}
 use Rattle.uc_cycles.proofs.aliases.enter_aliases.Goals as goal

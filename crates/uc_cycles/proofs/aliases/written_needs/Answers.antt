@@ -1,6 +1,6 @@
 use Rattle.std.proofs.Common.{◌++◌, ap, sym, ◌∙◌}
 use Rattle.std.specs.Prelude.{slice_get}
-use Rattle.uc_name_table.specs.Senses.{entry_at, module_in}
+use Rattle.uc_names.specs.Senses.{entry_at, module_in}
 use Rattle.uc_rules.specs.Cycles.{mentioned}
 use Rattle.uc_cycles.specs.Numbers.{type_places}
 use Rattle.uc_cycles.proofs.Forms.{places_none}

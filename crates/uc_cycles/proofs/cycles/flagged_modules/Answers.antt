@@ -1,6 +1,6 @@
 use Rattle.std.proofs.Common.{◌≡◌, map, refl, subst, sym}
 use Rattle.std.specs.Prelude.{IfOk}
-use Rattle.uc_graph_cycles.specs.Cycles.{MarksCycles}
+use Rattle.uc_graph.specs.Cycles.{MarksCycles}
 use Rattle.uc_rules.specs.Cycles.{instance_steps, on_instance_cycle}
 use Rattle.uc_cycles.specs.Numbers.{flag_at, name_number, name_places}
 use Rattle.uc_cycles.proofs.Flagged.{modules_flagged}

@@ -1,5 +1,5 @@
 use Rattle.std.proofs.Common.{false, ap, sym, ◌∙◌}
-use Rattle.uc_number_lists.proofs.Places.{index_found, index_past}
+use Rattle.uc_graph.proofs.Places.{index_found, index_past}
 use Rattle.uc_cycles.specs.Numbers.{flag_at}
 use Rattle.uc_cycles.proofs.cycles.is_flagged.Goals as goal
 

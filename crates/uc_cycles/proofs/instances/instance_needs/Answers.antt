@@ -1,6 +1,6 @@
 use Rattle.std.proofs.Common.{◌≡◌, Some, None, ap, subst, sym, ◌∙◌}
 use Rattle.uc_meaning.specs.Lookup.{System, module_named}
-use Rattle.uc_name_table.specs.Senses.{module_in}
+use Rattle.uc_names.specs.Senses.{module_in}
 use Rattle.uc_cycles.specs.Numbers.{name_places}
 use Rattle.uc_cycles.proofs.Steps.{instances_found, instances_missing, names_none}
 use Rattle.uc_cycles.proofs.instances.instance_needs.Goals as goal

@@ -2,7 +2,7 @@ use Rattle.std.proofs.Common.{◌≡◌, [], ◌++◌, take, refl, ap, sym, subs
 use Rattle.std.specs.List.{flat_map}
 use Rattle.std.specs.Option.{option_map}
 use Rattle.uc_meaning.specs.Lookup.{module_named}
-use Rattle.uc_name_table.specs.Senses.{declared_meant, module_in}
+use Rattle.uc_names.specs.Senses.{declared_meant, module_in}
 use Rattle.uc_rules.specs.Cycles.{entry_name, mentioned, name_of_module}
 use Rattle.uc_cycles.specs.Numbers.{type_places}
 use Rattle.uc_cycles.proofs.Forms.{adds_begin, adds_end, adds_more, adds_nothing, adds_same, adds_two, of_array, of_bits, of_boolean, of_enumeration, of_integer, of_named, of_other, of_record}

@@ -1,6 +1,6 @@
 use Rattle.std.proofs.Common.{◌≡◌, ◌++◌, take}
 use Rattle.std.specs.List.{flat_map}
-use Rattle.uc_name_table.specs.Senses.{module_in}
+use Rattle.uc_names.specs.Senses.{module_in}
 use Rattle.uc_rules.specs.Cycles.{mentioned}
 use Rattle.uc_cycles.specs.Numbers.{type_places}
 use Rattle.uc_cycles.proofs.mentioned.+add_mentioned.Given as goal

@@ -1,6 +1,6 @@
 use Rattle.std.proofs.Common.{◌++◌, ap, sym, ◌∙◌}
 use Rattle.std.specs.Option.{option_map}
-use Rattle.uc_name_table.specs.Senses.{declared_meant, module_in}
+use Rattle.uc_names.specs.Senses.{declared_meant, module_in}
 use Rattle.uc_rules.specs.Cycles.{entry_name}
 use Rattle.uc_cycles.specs.Numbers.{listed, type_number, type_places}
 use Rattle.uc_cycles.proofs.Forms.{adds_nothing, places_one}

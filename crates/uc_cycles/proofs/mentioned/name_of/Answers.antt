@@ -1,8 +1,8 @@
 use Rattle.std.proofs.Common.{ap, sym, ◌∙◌}
 use Rattle.uc_syntax.specs.declared.declaration.Module.{Module}
 use Rattle.uc_meaning.specs.Lookup.{System}
-use Rattle.uc_name_table.specs.Senses.{module_in}
-use Rattle.uc_module_names.proofs.Forms.{module_found, module_missing}
+use Rattle.uc_names.specs.Senses.{module_in}
+use Rattle.uc_names.proofs.Forms.{module_found, module_missing}
 use Rattle.uc_cycles.proofs.mentioned.name_of.Goals as goal
 
 pub returns-in-None : goal.returns-in-None

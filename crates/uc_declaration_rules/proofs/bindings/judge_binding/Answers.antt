@@ -1,6 +1,6 @@
 use Rattle.std.proofs.Common.{ap}
 use Rattle.std.specs.Option.{option_map}
-use Rattle.uc_name_table.specs.Senses.{module_in}
+use Rattle.uc_names.specs.Senses.{module_in}
 use Rattle.uc_declaration_rules.proofs.Bound.{binding_alone, binding_of_parts}
 use Rattle.uc_declaration_rules.proofs.Forms.{on_ok}
 use Rattle.uc_declaration_rules.proofs.bindings.judge_binding.Goals as goal

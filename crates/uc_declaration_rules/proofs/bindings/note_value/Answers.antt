@@ -1,5 +1,5 @@
 use Rattle.std.proofs.Common.{Some, refl, ap, sym, ◌∙◌}
-use Rattle.uc_name_table.specs.Senses.{module_in, value_meant}
+use Rattle.uc_names.specs.Senses.{module_in, value_meant}
 use Rattle.uc_rules.specs.Faults.{first_of}
 use Rattle.uc_rules.specs.Names.{ValuedLabel}
 use Rattle.uc_declaration_rules.specs.Judging.{kind_faults, value_faults}

@@ -1,6 +1,6 @@
 use Rattle.std.proofs.Common.{Some, get_or, refl, ap, ◌∙◌}
 use Rattle.std.specs.Option.{option_map}
-use Rattle.uc_name_table.specs.Senses.{module_in}
+use Rattle.uc_names.specs.Senses.{module_in}
 use Rattle.uc_rules.specs.Declarations.{home_of_instance}
 use Rattle.uc_rules.specs.Reads.{is_state}
 use Rattle.uc_declaration_rules.proofs.Paths.{no_identifier, path_begin, path_last, path_lost, path_more, path_open, path_past}

@@ -1,5 +1,5 @@
 use Rattle.std.specs.Option.{option_map}
-use Rattle.uc_name_table.specs.Senses.{module_in}
+use Rattle.uc_names.specs.Senses.{module_in}
 use Rattle.uc_declaration_rules.proofs.Paths.{PathFrom}
 use Rattle.uc_declaration_rules.proofs.control.leads.Given as goal
 

@@ -1,6 +1,6 @@
 use Rattle.std.proofs.Common.{ap, ◌∙◌}
 use Rattle.std.specs.Option.{option_map}
-use Rattle.uc_name_table.specs.Senses.{module_in}
+use Rattle.uc_names.specs.Senses.{module_in}
 use Rattle.uc_rules.specs.Declarations.{home_of_instance}
 use Rattle.uc_rules.specs.Reads.{is_state}
 use Rattle.uc_declaration_rules.proofs.Paths.{path_longer, path_none, path_one}

@@ -1,6 +1,6 @@
 use Rattle.std.proofs.Common.{ap, ◌∙◌}
 use Rattle.uc_meaning.specs.Lookup.{module_named}
-use Rattle.uc_name_table.specs.Senses.{module_in}
+use Rattle.uc_names.specs.Senses.{module_in}
 use Rattle.uc_rules.specs.Expressions.{Context}
 use Rattle.uc_declaration_rules.proofs.Forms.{import_found}
 use Rattle.uc_declaration_rules.proofs.declarations.note_import.Goals as goal

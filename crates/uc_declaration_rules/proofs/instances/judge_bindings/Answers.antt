@@ -1,5 +1,5 @@
 use Rattle.std.specs.Option.{option_map}
-use Rattle.uc_name_table.specs.Senses.{module_in}
+use Rattle.uc_names.specs.Senses.{module_in}
 use Rattle.uc_statement_rules.proofs.Noted.{noted_begin, noted_end, noted_more}
 use Rattle.uc_declaration_rules.specs.Judging.{judged_and_bound}
 use Rattle.uc_declaration_rules.proofs.instances.judge_bindings.Goals as goal

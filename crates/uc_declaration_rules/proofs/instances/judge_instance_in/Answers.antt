@@ -1,7 +1,7 @@
 use Rattle.std.proofs.Common.{ap, sym, ◌∙◌}
 use Rattle.std.specs.Option.{option_map}
 use Rattle.uc_meaning.specs.Lookup.{module_named}
-use Rattle.uc_name_table.specs.Senses.{module_in}
+use Rattle.uc_names.specs.Senses.{module_in}
 use Rattle.uc_rules.specs.Expressions.{Context}
 use Rattle.uc_rules.specs.Faults.{first_of}
 use Rattle.uc_declaration_rules.specs.Judging.{missing_faults}

@@ -1,6 +1,6 @@
 use Rattle.std.proofs.Common.{ap, sym}
 use Rattle.std.specs.Option.{option_map}
-use Rattle.uc_name_table.specs.Senses.{module_in}
+use Rattle.uc_names.specs.Senses.{module_in}
 use Rattle.uc_declaration_rules.proofs.Bound.{missing_of_parts, none_missing}
 use Rattle.uc_declaration_rules.proofs.instances.note_missing.Goals as goal
 

@@ -1,7 +1,7 @@
 use Rattle.std.proofs.Common.{ap, ◌∙◌}
 use Rattle.uc_meaning.specs.Lookup.{System}
 use Rattle.uc_syntax.specs.declared.declaration.Module.{Module}
-use Rattle.uc_name_table.specs.Senses.{module_in}
+use Rattle.uc_names.specs.Senses.{module_in}
 use Rattle.uc_declared_types.proofs.Listing.{listed_begin, listed_end, listed_more}
 use Rattle.uc_declared_types.proofs.listed.add_aliases.Goals as goal
 

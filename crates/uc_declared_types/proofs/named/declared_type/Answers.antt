@@ -2,7 +2,7 @@ use Rattle.std.proofs.Common.{◌≡◌, Some, ap, sym, ◌∙◌}
 use Rattle.uc_values.specs.declared.ty.Ty.TheVariants.{Un as open_type}
 use Rattle.uc_rules.specs.Outcomes.{type_in}
 use Rattle.uc_rules.specs.Types.{entry_type}
-use Rattle.uc_name_table.specs.Senses.{module_in}
+use Rattle.uc_names.specs.Senses.{module_in}
 use Rattle.uc_declared_types.specs.Aliases.{entry_of}
 use Rattle.uc_declared_types.proofs.Entries.{known_alias, opaque_is}
 use Rattle.uc_declared_types.proofs.Sides.{same_related}

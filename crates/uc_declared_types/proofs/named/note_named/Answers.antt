@@ -3,7 +3,7 @@ use Rattle.std.specs.Option.{option_map}
 use Rattle.uc_rules.specs.Faults.{first_of}
 use Rattle.uc_rules.specs.Outcomes.{faults_in, type_in}
 use Rattle.uc_rules.specs.Types.{entry_outcome}
-use Rattle.uc_name_table.specs.Senses.{declared_meant}
+use Rattle.uc_names.specs.Senses.{declared_meant}
 use Rattle.uc_declared_types.proofs.Entries.{named_fault, noted}
 use Rattle.uc_declared_types.proofs.Sides.{related_on, same_related}
 use Rattle.uc_declared_types.proofs.named.note_named.Goals as goal

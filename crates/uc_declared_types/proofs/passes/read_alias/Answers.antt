@@ -1,6 +1,6 @@
 use Rattle.std.proofs.Common.{◌≡◌, ◌⊎◌, inr, refl, subst, None}
 use Rattle.uc_rules.specs.Types.{Aliases, found_by}
-use Rattle.uc_name_table.specs.Senses.{module_in}
+use Rattle.uc_names.specs.Senses.{module_in}
 use Rattle.uc_declared_types.specs.Aliases.{Agrees, Related, Side}
 use Rattle.uc_declared_types.proofs.Turns.{below_entered, stuck_now}
 use Rattle.uc_declared_types.proofs.passes.read_alias.Goals as goal

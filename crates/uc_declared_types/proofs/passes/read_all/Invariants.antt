@@ -1,6 +1,6 @@
 use Rattle.std.proofs.Common.{◌⊎◌, length}
-use Rattle.uc_way_laws.specs.AliasLaw.{IsAmong}
-use Rattle.uc_name_table.specs.declared.senses.DeclaredType.{DeclaredType}
+use Rattle.uc_declared_types.specs.AliasLaw.{IsAmong}
+use Rattle.uc_names.specs.declared.senses.DeclaredType.{DeclaredType}
 use Rattle.uc_declared_types.specs.Aliases.{Agrees, Below, IsSettled, read_to_end}
 use Rattle.uc_declared_types.proofs.passes.read_all.Given as goal
 

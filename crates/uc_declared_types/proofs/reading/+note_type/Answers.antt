@@ -8,7 +8,7 @@ use Rattle.uc_rules.specs.Names.{type_named}
 use Rattle.uc_rules.specs.Outcomes.{faults_in, type_in}
 use Rattle.uc_rules.specs.Rows.{width_outcome}
 use Rattle.uc_rules.specs.Types.{TypeFound, entry_outcome, found_by, of_module}
-use Rattle.uc_name_table.specs.Senses.{module_in}
+use Rattle.uc_names.specs.Senses.{module_in}
 use Rattle.uc_declared_types.specs.Aliases.{Related}
 use Rattle.uc_declared_types.proofs.Arms.{array_faults_arm, array_type_arm, fields_begin, fields_end, fields_faults_end, fields_more, named_faults, named_type, plain_faults, plain_type, record_faults_arm, record_type_arm}
 use Rattle.uc_declared_types.proofs.Forms.{form_bits, form_boolean, form_enumeration, form_integer, form_named, form_of_module}

@@ -1,4 +1,4 @@
-use Rattle.uc_name_table.specs.Senses.{module_in}
+use Rattle.uc_names.specs.Senses.{module_in}
 use Rattle.uc_declared_types.proofs.Arms.{FieldsUpTo}
 use Rattle.uc_declared_types.proofs.reading.+note_type.Given as goal
 

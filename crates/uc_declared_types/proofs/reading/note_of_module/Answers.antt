@@ -3,7 +3,7 @@ use Rattle.uc_meaning.specs.Lookup.{System, module_named}
 use Rattle.uc_rules.specs.Faults.{first_of}
 use Rattle.uc_rules.specs.Outcomes.{faults_in, type_in}
 use Rattle.uc_rules.specs.Types.{entry_outcome, of_module}
-use Rattle.uc_name_table.specs.Senses.{module_in}
+use Rattle.uc_names.specs.Senses.{module_in}
 use Rattle.uc_declared_types.proofs.Entries.{noted}
 use Rattle.uc_declared_types.proofs.Sides.{related_on, same_related}
 use Rattle.uc_declared_types.proofs.reading.note_of_module.Goals as goal

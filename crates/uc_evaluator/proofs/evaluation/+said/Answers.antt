@@ -7,13 +7,13 @@ use Rattle.uc_meaning.specs.Operators.{holds}
 use Rattle.uc_meaning.specs.Expressions.{reads, element_type, name, reading_through, reached, applied, applied_reading, meaning_of}
 use Rattle.uc_meaning.specs.Overflow.{met_through, name_met, applied_met}
 use Rattle.uc_operators.specs.Overflows.{first_wide}
-use Rattle.uc_shapes.specs.Levels.{reading_at, type_at, value_at, met_at, select_at, selection_met_at, selections_met_at, head_reading, head_met}
-use Rattle.uc_shapes.specs.Shapes.{size, sizes, branch_size, primary_size, selection_size, selections_size}
+use Rattle.uc_meaning.specs.Levels.{reading_at, type_at, value_at, met_at, select_at, selection_met_at, selections_met_at, head_reading, head_met}
+use Rattle.uc_meaning.specs.Shapes.{size, sizes, branch_size, primary_size, selection_size, selections_size}
 use Rattle.uc_lookup.specs.Parts.{system_in}
-use Rattle.uc_scopes.specs.Scopes.{scope_in, reached_scope}
+use Rattle.uc_readings.specs.Scopes.{scope_in, reached_scope}
 use Rattle.uc_readings.specs.declared.said.Said.{Said}
 use Rattle.uc_readings.specs.Readings.{reading_of, on_bits_said}
-use Rattle.uc_sources.specs.Sources.{StandsFor, Applies, with_locals}
+use Rattle.uc_readings.specs.Sources.{StandsFor, Applies, with_locals}
 use Rattle.uc_evaluator.specs.declared.operands.Operands.{Operands}
 use Rattle.uc_evaluator.proofs.Told.{told_first, told_as, told_second, told_all, none_both, gives_as}
 use Rattle.uc_evaluator.proofs.Bodies.{bodies}

@@ -1,9 +1,9 @@
 use Rattle.std.proofs.Common.{◌≡◌, ◌+◌, ◌*◌, map, take, drop, None}
 use Rattle.std.specs.List.{flat_map}
 use Rattle.uc_operators.specs.Overflows.{first_wide}
-use Rattle.uc_shapes.specs.Levels.{type_at, value_at, met_at, chosen_at, chosen_met_at, select_all_at, selection_met_at}
-use Rattle.uc_shapes.specs.Shapes.{size, sizes, total, branch_size, primary_size, selection_size, selections_size}
-use Rattle.uc_scopes.specs.Scopes.{scope_in}
+use Rattle.uc_meaning.specs.Levels.{type_at, value_at, met_at, chosen_at, chosen_met_at, select_all_at, selection_met_at}
+use Rattle.uc_meaning.specs.Shapes.{size, sizes, total, branch_size, primary_size, selection_size, selections_size}
+use Rattle.uc_readings.specs.Scopes.{scope_in}
 use Rattle.uc_readings.specs.Readings.{reading_of}
 use Rattle.uc_evaluator.proofs.Bodies.{bodies}
 use Rattle.uc_evaluator.proofs.Levels.{levels, left_below}

@@ -2,10 +2,10 @@ use Rattle.std.proofs.Common.{ap, ◌∙◌, sym, subst, refl, rules}
 use Rattle.uc_meaning.specs.declared.code.CodeEnd.{CodeEnd}
 use Rattle.uc_meaning.specs.Code.{declare, names_with_types, then_run, run}
 use Rattle.uc_meaning.specs.Ends.{IsEnd}
-use Rattle.uc_overflows.specs.Runs.{run_met, met_after}
+use Rattle.uc_meaning.specs.OverflowsRuns.{run_met, met_after}
 use Rattle.uc_operators.specs.Overflows.{first_wide}
 use Rattle.uc_evaluator.proofs.Told.{told_as}
-use Rattle.uc_run_forms.specs.declared.run.Ending.{Ending}
+use Rattle.uc_runs.specs.declared.run.Ending.{Ending}
 use Rattle.uc_executions.proofs.body.body_end.Goals as goal
 
 pub returns-in_err-end-clause-wide : goal.returns-in_err-end-clause-wide

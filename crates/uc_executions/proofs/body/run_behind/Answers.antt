@@ -1,10 +1,10 @@
 use Rattle.std.proofs.Common.{ap, sym}
 use Rattle.uc_meaning.specs.Code.{run}
-use Rattle.uc_overflows.specs.Runs.{run_met}
+use Rattle.uc_meaning.specs.OverflowsRuns.{run_met}
 use Rattle.uc_operators.specs.Overflows.{first_wide}
 use Rattle.uc_evaluator.proofs.Told.{told_all, gives_as}
-use Rattle.uc_run_forms.specs.Runs.{ending_of}
-use Rattle.uc_run_forms.proofs.Places.{stays, meets_none, behind, met_behind}
+use Rattle.uc_runs.specs.Runs.{ending_of}
+use Rattle.uc_runs.proofs.Places.{stays, meets_none, behind, met_behind}
 use Rattle.uc_executions.proofs.body.run_behind.Goals as goal
 
 pub returns-in-Goes-clause-value : goal.returns-in-Goes-clause-value

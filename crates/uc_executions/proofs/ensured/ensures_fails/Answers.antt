@@ -7,7 +7,7 @@ use Rattle.uc_meaning.specs.Lines.{EnsuresFails}
 use Rattle.uc_meaning.specs.Ends.{begun}
 use Rattle.uc_operators.specs.Overflows.{first_wide}
 use Rattle.uc_evaluator.proofs.Told.{told_all}
-use Rattle.uc_trace_checks.proofs.Questions.{decided_as, gives}
+use Rattle.uc_executions.proofs.Questions.{decided_as, gives}
 use Rattle.uc_executions.specs.Executions.{ensures_asked}
 use Rattle.uc_executions.proofs.Numbered.{ensures_decided}
 use Rattle.uc_executions.proofs.ensured.ensures_fails.Goals as goal

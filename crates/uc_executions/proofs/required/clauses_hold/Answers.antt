@@ -1,8 +1,8 @@
 use Rattle.std.proofs.Common.{rules}
 use Rattle.std.specs.Prelude.{Bool}
 use Rattle.uc_meaning.specs.Code.{requires_in}
-use Rattle.uc_trace_checks.specs.Formulas.{truth_if}
-use Rattle.uc_trace_checks.proofs.Questions.{ask_begin, ask_end, ask_end_met, ask_told, ask_more, ask_no, ask_no_met}
+use Rattle.uc_executions.specs.Formulas.{truth_if}
+use Rattle.uc_executions.proofs.Questions.{ask_begin, ask_end, ask_end_met, ask_told, ask_more, ask_no, ask_no_met}
 use Rattle.uc_executions.proofs.required.clauses_hold.Goals as goal
 
 pub loop-clause-init : goal.loop-clause-init

@@ -1,6 +1,6 @@
 use Rattle.uc_meaning.specs.Code.{requires_in}
-use Rattle.uc_trace_checks.specs.Formulas.{truth_if}
-use Rattle.uc_trace_checks.proofs.Questions.{LeftFrom}
+use Rattle.uc_executions.specs.Formulas.{truth_if}
+use Rattle.uc_executions.proofs.Questions.{LeftFrom}
 use Rattle.uc_executions.proofs.required.clauses_hold.Given as goal
 
 abbrev pub invariant-loop-clause : goal.invariant-loop-clause

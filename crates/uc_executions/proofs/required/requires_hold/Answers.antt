@@ -1,10 +1,10 @@
 use Rattle.std.proofs.Common.{ap, ◌∙◌}
 use Rattle.uc_meaning.specs.Code.{requires_in, requires_of}
 use Rattle.uc_evaluator.proofs.Told.{told_all}
-use Rattle.uc_trace_checks.specs.Asked.{ask_each}
-use Rattle.uc_trace_checks.specs.Formulas.{truth_asked, truth_if}
-use Rattle.uc_trace_checks.proofs.Questions.{decided_as, gives}
-use Rattle.uc_executions.proofs.Asking.{ask_stated, truths_decided}
+use Rattle.uc_executions.specs.Asked.{ask_each}
+use Rattle.uc_executions.specs.Formulas.{truth_asked, truth_if}
+use Rattle.uc_executions.proofs.Questions.{decided_as, gives}
+use Rattle.uc_executions.proofs.ExecutionsAsking.{ask_stated, truths_decided}
 use Rattle.uc_executions.proofs.required.requires_hold.Goals as goal
 
 pub returns-clause-value : goal.returns-clause-value

@@ -1,7 +1,7 @@
 use Rattle.uc_flat.specs.declared.expression.Expression.TheVariants.{Cell as ReadCell}
 use Rattle.uc_flat_code.specs.Code.{fields_in}
 use Rattle.uc_flat_code.specs.Walk.{behind}
-use Rattle.uc_flat_code.proofs.Assigning.{fields_step}
+use Rattle.uc_flat_code.proofs.FlatCodeAssigning.{fields_step}
 use Rattle.uc_flat_code.proofs.parts.fields_in.Goals as goal
 
 pub loop-k-preserved : goal.loop-k-preserved

@@ -6,7 +6,7 @@ use Rattle.uc_flat.specs.declared.statement.Statement.{Statement}
 use Rattle.uc_flat_expressions.specs.Answers.{IsAnswer}
 use Rattle.uc_flat_expressions.specs.Expressions.{flat_of}
 use Rattle.uc_flat_code.specs.Code.{assigned, spares, assign_of}
-use Rattle.uc_flat_code.proofs.Assigning.{target_err, source_err, target_step, targets_done}
+use Rattle.uc_flat_code.proofs.FlatCodeAssigning.{target_err, source_err, target_step, targets_done}
 use Rattle.uc_flat_code.proofs.simple.assign.Goals as goal
 
 pub returns-in_err-written : goal.returns-in_err-written

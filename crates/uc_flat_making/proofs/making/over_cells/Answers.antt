@@ -1,8 +1,8 @@
 use Rattle.std.proofs.Common.{map, sym, ap, ◌∙◌}
 use Rattle.uc_meaning.specs.Cells.{cells_of}
-use Rattle.uc_flat_names.specs.Names.{names_over_cells}
-use Rattle.uc_flat_init.specs.CellTypes.{cell_type_of}
-use Rattle.uc_flat_table.proofs.Declared.{cells_full}
+use Rattle.uc_flat_design.specs.Names.{names_over_cells}
+use Rattle.uc_flat_code.specs.CellTypes.{cell_type_of}
+use Rattle.uc_flat_making.proofs.Declared.{cells_full}
 use Rattle.uc_flat_making.specs.Made.{full}
 use Rattle.uc_flat_making.proofs.Answered.{over_answer}
 use Rattle.uc_flat_making.proofs.making.over_cells.Goals as goal

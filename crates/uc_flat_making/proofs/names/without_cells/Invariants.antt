@@ -1,5 +1,5 @@
 use Rattle.std.proofs.Common.{◌≡◌, ◌++◌, drop, map}
-use Rattle.uc_flat_names.specs.Names.{without_cell}
+use Rattle.uc_flat_design.specs.Names.{without_cell}
 use Rattle.uc_flat_making.proofs.names.without_cells.Given as goal
 
 abbrev pub invariant-loop-meant : goal.invariant-loop-meant

@@ -1,6 +1,6 @@
 use Rattle.std.proofs.Common.{map, ap, ◌∙◌}
-use Rattle.uc_flat_sound.proofs.Sound.{sound_holds, own_types_hold, valid_constants_hold}
-use Rattle.uc_prints.specs.Prints.{print_as}
+use Rattle.uc_flat_laws.proofs.Sound.{sound_holds, own_types_hold, valid_constants_hold}
+use Rattle.uc_judge.specs.Prints.{print_as}
 use Rattle.uc_judge.proofs.Reported.{unrolled_report, spent_report, within_report, empty_report}
 use Rattle.uc_judge.proofs.control.run_control.Goals as goal
 

@@ -1,5 +1,5 @@
 use Rattle.std.proofs.Common.{◌∷◌, []}
-use Rattle.uc_written_pairs.proofs.Growing.{grown_begin, grown_more, grown_ones}
+use Rattle.uc_module_writes.proofs.Growing.{grown_begin, grown_more, grown_ones}
 use Rattle.uc_module_writes.proofs.bound.add_bound.Goals as goal
 
 pub loop-binding-init : goal.loop-binding-init

@@ -1,5 +1,5 @@
 use Rattle.std.proofs.Common.{◌∷◌, []}
-use Rattle.uc_written_pairs.proofs.Growing.{Grown}
+use Rattle.uc_module_writes.proofs.Growing.{Grown}
 use Rattle.uc_module_writes.proofs.bound.add_bound.Given as goal
 
 abbrev pub invariant-loop-binding : goal.invariant-loop-binding

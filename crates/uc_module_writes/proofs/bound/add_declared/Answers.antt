@@ -1,7 +1,7 @@
 use Rattle.std.proofs.Common.{ap, map}
 use Rattle.uc_syntax.specs.declared.declaration.Binding.{Binding}
 use Rattle.uc_module_writes.specs.Bound.{bound_in}
-use Rattle.uc_written_pairs.proofs.Growing.{grown_begin, grown_end, grown_more, same_as}
+use Rattle.uc_module_writes.proofs.Growing.{grown_begin, grown_end, grown_more, same_as}
 use Rattle.uc_module_writes.proofs.bound.add_declared.Goals as goal
 
 pub loop-declaration-init : goal.loop-declaration-init

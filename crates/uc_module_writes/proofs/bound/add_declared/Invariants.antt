@@ -1,5 +1,5 @@
 use Rattle.uc_module_writes.specs.Bound.{bound_in}
-use Rattle.uc_written_pairs.proofs.Growing.{Grown}
+use Rattle.uc_module_writes.proofs.Growing.{Grown}
 use Rattle.uc_module_writes.proofs.bound.add_declared.Given as goal
 
 abbrev pub invariant-loop-declaration : goal.invariant-loop-declaration

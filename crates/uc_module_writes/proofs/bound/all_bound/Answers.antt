@@ -1,7 +1,7 @@
 use Rattle.std.proofs.Common.{[], ap, subst, sym}
 use Rattle.std.specs.List.{flat_map}
 use Rattle.uc_module_writes.specs.Bound.{all_bound, bound_in}
-use Rattle.uc_written_pairs.proofs.Growing.{Grown, grown_begin, grown_end, grown_more, same_as}
+use Rattle.uc_module_writes.proofs.Growing.{Grown, grown_begin, grown_end, grown_more, same_as}
 use Rattle.uc_module_writes.proofs.bound.all_bound.Goals as goal
 
 pub loop-module-init : goal.loop-module-init

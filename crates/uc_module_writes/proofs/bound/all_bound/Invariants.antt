@@ -1,7 +1,7 @@
 use Rattle.std.proofs.Common.{[]}
 use Rattle.std.specs.List.{flat_map}
 use Rattle.uc_module_writes.specs.Bound.{bound_in}
-use Rattle.uc_written_pairs.proofs.Growing.{Grown}
+use Rattle.uc_module_writes.proofs.Growing.{Grown}
 use Rattle.uc_module_writes.proofs.bound.all_bound.Given as goal
 
 abbrev pub invariant-loop-module : goal.invariant-loop-module

@@ -1,5 +1,5 @@
 use Rattle.std.proofs.Common.{ap, ◌∙◌, refl, subst, sym, map}
-use Rattle.uc_needed_first.specs.Order.{IsNeededFirst}
+use Rattle.uc_graph.specs.Order.{IsNeededFirst}
 use Rattle.uc_module_writes.specs.Places.{places_in}
 use Rattle.uc_module_writes.proofs.Ordered.{order_begin, order_end, order_more}
 use Rattle.uc_module_writes.proofs.noting.note_in_order.Goals as goal

@@ -1,7 +1,7 @@
 use Rattle.uc_syntax.specs.declared.declaration.Module.{Module}
 use Rattle.std.proofs.Common.{◌≡◌, ℕ, List, map}
-use Rattle.uc_way_laws.specs.AliasLaw.{IsAmong}
-use Rattle.uc_needed_first.specs.Order.{IsNeededFirst}
+use Rattle.uc_declared_types.specs.AliasLaw.{IsAmong}
+use Rattle.uc_graph.specs.Order.{IsNeededFirst}
 use Rattle.uc_module_writes.specs.Places.{place_by, place_named, places_in}
 use Rattle.uc_module_writes.specs.Premise.{NoInstanceCycles}
 use Rattle.uc_module_writes.specs.Stepped.{MeetsAmong}

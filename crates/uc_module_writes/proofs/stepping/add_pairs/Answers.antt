@@ -2,7 +2,7 @@ use Rattle.std.proofs.Common.{◌++◌, ap, ◌∙◌, refl}
 use Rattle.std.specs.List.{list_any}
 use Rattle.uc_meaning.specs.Cells.{as_list}
 use Rattle.uc_module_writes.specs.Stepped.{pair_by}
-use Rattle.uc_written_pairs.proofs.Growing.{grown_begin, grown_end, grown_more, same_as}
+use Rattle.uc_module_writes.proofs.Growing.{grown_begin, grown_end, grown_more, same_as}
 use Rattle.uc_module_writes.proofs.Placed.{filter_map_flat}
 use Rattle.uc_module_writes.proofs.stepping.add_pairs.Goals as goal
 

@@ -1,7 +1,7 @@
 use Rattle.std.proofs.Common.{◌≡◌}
 use Rattle.uc_meaning.specs.Cells.{as_list}
 use Rattle.uc_module_writes.specs.Stepped.{pair_by}
-use Rattle.uc_written_pairs.proofs.Growing.{Grown}
+use Rattle.uc_module_writes.proofs.Growing.{Grown}
 use Rattle.uc_module_writes.proofs.stepping.add_pairs.Given as goal
 
 abbrev pub invariant-loop-pair : goal.invariant-loop-pair

@@ -1,8 +1,8 @@
 use Rattle.std.proofs.Common.{◌∷◌, [], ◌++◌, ap, ◌∙◌, refl}
 use Rattle.std.specs.Prelude.{filter}
 use Rattle.std.specs.List.{list_any}
-use Rattle.uc_written_pairs.specs.Found.{is_kept}
-use Rattle.uc_written_pairs.proofs.Growing.{grown_all, grown_begin, grown_end, grown_more, same_as}
+use Rattle.uc_module_writes.specs.Found.{is_kept}
+use Rattle.uc_module_writes.proofs.Growing.{grown_all, grown_begin, grown_end, grown_more, same_as}
 use Rattle.uc_module_writes.proofs.Placed.{filter_flat}
 use Rattle.uc_module_writes.proofs.stepping.add_parts.Goals as goal
 

@@ -1,7 +1,7 @@
 use Rattle.std.proofs.Common.{◌≡◌, ◌∷◌, []}
 use Rattle.std.specs.Prelude.{filter}
-use Rattle.uc_written_pairs.specs.Found.{is_kept}
-use Rattle.uc_written_pairs.proofs.Growing.{Grown}
+use Rattle.uc_module_writes.specs.Found.{is_kept}
+use Rattle.uc_module_writes.proofs.Growing.{Grown}
 use Rattle.uc_module_writes.proofs.stepping.add_parts.Given as goal
 
 abbrev pub invariant-loop-part : goal.invariant-loop-part

@@ -1,9 +1,9 @@
 use Rattle.std.proofs.Common.{◌≡◌, None, IfOk, subst, ◌∙◌}
 use Rattle.uc_meaning.specs.Lookup.{System}
 use Rattle.uc_rules.specs.Faults.{first_of}
-use Rattle.uc_use_bounds.specs.BoundLaw.{InstancesEnd}
+use Rattle.uc_uses.specs.BoundLaw.{InstancesEnd}
 use Rattle.uc_order_rules.specs.Order.{order_faults}
-use Rattle.uc_kept_modules.specs.KeptModules.{HasModules}
+use Rattle.uc_uses.specs.KeptModules.{HasModules}
 use Rattle.uc_order.proofs.ordering.first_fault.Goals as goal
 
 pub returns : goal.returns

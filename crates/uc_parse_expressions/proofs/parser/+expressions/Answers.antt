@@ -1,8 +1,8 @@
 use Rattle.std.proofs.Common.{◌≡◌, arith, rules, true, false, refl, subst, [], ◌∷◌, ◌++◌, ◌∙◌, Ok}
 use Rattle.std.proofs.lemmas.Result.{err_from_is_err_and}
-use Rattle.uc_counted.specs.Counted.{turned, turns}
-use Rattle.uc_counted.proofs.Shapes.{after_is, after_fails}
-use Rattle.uc_counted.proofs.Turns.{goes_on, is_done, loop_fails}
+use Rattle.uc_forms.specs.Counted.{turned, turns}
+use Rattle.uc_forms.proofs.Shapes.{after_is, after_fails}
+use Rattle.uc_forms.proofs.CountedTurns.{goes_on, is_done, loop_fails}
 use Rattle.uc_forms.specs.Form.{after, both, word, one_of}
 use Rattle.uc_forms.specs.Reading.{is_at}
 use Rattle.uc_grammar.specs.Code.{code_of}
@@ -19,9 +19,9 @@ use Rattle.uc_parse_expressions.proofs.InBrackets.{brackets_given}
 use Rattle.uc_parse_expressions.proofs.Levels.{fails_above, turned_on, turn_fails, turns_end}
 use Rattle.uc_parse_expressions.specs.declared.level.Level.{Level}
 use Rattle.uc_parse_expressions.specs.declared.level.Level.TheVariants as level_kinds
-use Rattle.uc_counted.specs.Gives.{StopsAt}
-use Rattle.uc_reader.specs.Reading.{state, form}
-use Rattle.uc_reader.proofs.Here.{takes, one_deeper, none_left}
+use Rattle.uc_forms.specs.CountedGives.{StopsAt}
+use Rattle.uc_parse_expressions.specs.Reading.{state, form}
+use Rattle.uc_parse_expressions.proofs.Here.{takes, one_deeper, none_left}
 use Rattle.uc_syntax.specs.declared.expression.Expr.TheViews as exprs
 use Rattle.uc_parse_expressions.proofs.parser.+expressions.Goals as goal
 

@@ -1,5 +1,5 @@
 use Rattle.std.proofs.Common.{◌≡◌, ◌≤◌, ◌∷◌, [], ◌+◌, ◌-◌, ◌*◌, Ok, length}
-use Rattle.uc_counted.specs.Counted.{turned, turns, with_front}
+use Rattle.uc_forms.specs.Counted.{turned, turns, with_front}
 use Rattle.uc_forms.specs.Form.{after, both, word, one_of}
 use Rattle.uc_grammar.specs.Code.{code_of}
 use Rattle.uc_grammar.specs.declared.word.Word.{Word}
@@ -9,7 +9,7 @@ use Rattle.uc_parse_expressions.specs.Chains.{form_of, operand_form, sign_of, ga
 use Rattle.uc_parse_expressions.specs.Signs.{minus, sum_codes}
 use Rattle.uc_parse_expressions.specs.Levels.{height, level_here}
 use Rattle.uc_parse_expressions.specs.declared.level.Level.TheVariants as level_kinds
-use Rattle.uc_reader.specs.Reading.{state, form}
+use Rattle.uc_parse_expressions.specs.Reading.{state, form}
 use Rattle.uc_parse_expressions.proofs.parser.+expressions.Given as goal
 
 -- With one level the functions call each other from the highest rank down.

@@ -1,11 +1,11 @@
 use Rattle.std.proofs.Common.{◌≡◌, rules, true, false, refl, [], ◌∷◌, ◌++◌}
 use Rattle.std.proofs.lemmas.Result.{err_from_is_err_and}
-use Rattle.uc_counted.proofs.Turns.{goes_on, is_done, loop_fails}
+use Rattle.uc_forms.proofs.CountedTurns.{goes_on, is_done, loop_fails}
 use Rattle.uc_forms.specs.Reading.{is_at}
 use Rattle.uc_parser.specs.Parts.{clause_codes}
 use Rattle.uc_grammar.specs.Syntax.{words, clause}
-use Rattle.uc_reader.specs.Reading.{state, form}
-use Rattle.uc_reader.proofs.Here.{takes}
+use Rattle.uc_parse_expressions.specs.Reading.{state, form}
+use Rattle.uc_parse_expressions.proofs.Here.{takes}
 use Rattle.uc_parser.proofs.clause.clauses.Goals as goal
 
 pub turns-preserved : goal.turns-preserved

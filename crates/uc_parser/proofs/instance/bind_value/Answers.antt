@@ -1,7 +1,7 @@
 use Rattle.std.proofs.Common.{arith, rules}
 use Rattle.uc_grammar.specs.Syntax.{bind_value}
-use Rattle.uc_reader.specs.Reading.{state}
-use Rattle.uc_reader.proofs.Here.{one_deeper, none_left}
+use Rattle.uc_parse_expressions.specs.Reading.{state}
+use Rattle.uc_parse_expressions.proofs.Here.{one_deeper, none_left}
 use Rattle.uc_parser.proofs.instance.bind_value.Goals as goal
 
 pub returns-then-levels-eq0 : goal.returns-then-levels-eq0

@@ -1,15 +1,15 @@
 use Rattle.std.proofs.Common.{◌≡◌, rules, true, false, refl, [], ◌∷◌, ◌++◌}
 use Rattle.std.proofs.lemmas.Result.{err_from_is_err_and}
-use Rattle.uc_counted.proofs.Shapes.{after_is, after_fails}
-use Rattle.uc_counted.proofs.Turns.{goes_on, is_done, loop_fails}
+use Rattle.uc_forms.proofs.Shapes.{after_is, after_fails}
+use Rattle.uc_forms.proofs.CountedTurns.{goes_on, is_done, loop_fails}
 use Rattle.uc_forms.specs.Form.{after}
 use Rattle.uc_forms.specs.Reading.{is_at}
 use Rattle.uc_grammar.specs.Code.{code_of}
 use Rattle.uc_grammar.specs.declared.word.Kind.TheVariants.{Comma}
 use Rattle.uc_grammar.specs.Syntax.{words, rule, opens}
 use Rattle.uc_parser.specs.Parts.{bind}
-use Rattle.uc_reader.specs.Reading.{state, form}
-use Rattle.uc_reader.proofs.Here.{takes}
+use Rattle.uc_parse_expressions.specs.Reading.{state, form}
+use Rattle.uc_parse_expressions.proofs.Here.{takes}
 use Rattle.uc_parser.proofs.instance.more_binds.Goals as goal
 
 pub turns-preserved : goal.turns-preserved

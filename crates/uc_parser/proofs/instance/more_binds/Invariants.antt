@@ -1,11 +1,11 @@
 use Rattle.std.proofs.Common.{◌≡◌, ◌∷◌, [], length}
-use Rattle.uc_counted.specs.Counted.{turns, with_front}
+use Rattle.uc_forms.specs.Counted.{turns, with_front}
 use Rattle.uc_forms.specs.Form.{after}
 use Rattle.uc_grammar.specs.Code.{code_of}
 use Rattle.uc_grammar.specs.declared.word.Kind.TheVariants.{Comma}
 use Rattle.uc_grammar.specs.Syntax.{words}
 use Rattle.uc_parser.specs.Parts.{bind}
-use Rattle.uc_reader.specs.Reading.{state, form}
+use Rattle.uc_parse_expressions.specs.Reading.{state, form}
 use Rattle.uc_parser.proofs.instance.more_binds.Given as goal
 
 abbrev pub invariant-turns : goal.invariant-turns

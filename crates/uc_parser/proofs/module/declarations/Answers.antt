@@ -1,16 +1,16 @@
 use Rattle.std.proofs.Common.{◌≡◌, ap, rules, true, false, refl, [], ◌∷◌, ◌++◌, List}
 use Rattle.std.proofs.lemmas.Result.{err_from_is_err_and}
-use Rattle.uc_counted.specs.Counted.{Outcome, turned, count_word}
-use Rattle.uc_counted.proofs.Endings.{endings_go_on, ending_fails, endings_done}
-use Rattle.uc_counted.proofs.Shapes.{made_fails}
+use Rattle.uc_forms.specs.Counted.{Outcome, turned, count_word}
+use Rattle.uc_forms.proofs.CountedEndings.{endings_go_on, ending_fails, endings_done}
+use Rattle.uc_forms.proofs.Shapes.{made_fails}
 use Rattle.uc_forms.specs.Form.{until, word}
 use Rattle.uc_forms.specs.Reading.{is_at}
 use Rattle.uc_grammar.specs.Code.{code_of}
 use Rattle.uc_grammar.specs.declared.word.Word.{Word}
 use Rattle.uc_grammar.specs.declared.word.Kind.TheVariants.{RightBrace}
 use Rattle.uc_grammar.specs.Syntax.{words, rule, opens, type_declaration, declaration}
-use Rattle.uc_reader.specs.Reading.{state, form}
-use Rattle.uc_reader.proofs.Here.{takes}
+use Rattle.uc_parse_expressions.specs.Reading.{state, form}
+use Rattle.uc_parse_expressions.proofs.Here.{takes}
 use Rattle.uc_syntax.specs.declared.declaration.Decl.{Decl}
 use Rattle.uc_parser.proofs.module.declarations.Goals as goal
 

@@ -1,9 +1,9 @@
 use Rattle.std.proofs.Common.{◌≡◌, ◌∷◌, [], length}
-use Rattle.uc_counted.specs.Counted.{endings, with_head, count_word}
+use Rattle.uc_forms.specs.Counted.{endings, with_head, count_word}
 use Rattle.uc_grammar.specs.Code.{code_of}
 use Rattle.uc_grammar.specs.declared.word.Kind.TheVariants.{RightBrace}
 use Rattle.uc_grammar.specs.Syntax.{words, declaration}
-use Rattle.uc_reader.specs.Reading.{state, form}
+use Rattle.uc_parse_expressions.specs.Reading.{state, form}
 use Rattle.uc_parser.proofs.module.declarations.Given as goal
 
 abbrev pub invariant-turns : goal.invariant-turns

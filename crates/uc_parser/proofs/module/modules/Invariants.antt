@@ -1,9 +1,9 @@
 use Rattle.std.proofs.Common.{◌≡◌, ◌∷◌, [], length}
-use Rattle.uc_counted.specs.Counted.{turns, with_front}
+use Rattle.uc_forms.specs.Counted.{turns, with_front}
 use Rattle.uc_grammar.specs.Code.{code_of}
 use Rattle.uc_grammar.specs.declared.word.Kind.TheVariants.{KwModule}
 use Rattle.uc_grammar.specs.Syntax.{words, module_form}
-use Rattle.uc_reader.specs.Reading.{state, form}
+use Rattle.uc_parse_expressions.specs.Reading.{state, form}
 use Rattle.uc_parser.proofs.module.modules.Given as goal
 
 abbrev pub invariant-turns : goal.invariant-turns

@@ -1,5 +1,5 @@
 use Rattle.std.proofs.Common.{sym, ◌∙◌}
-use Rattle.uc_reader.specs.Reading.{state}
+use Rattle.uc_parse_expressions.specs.Reading.{state}
 use Rattle.uc_parser.proofs.Types.{own_type_given}
 use Rattle.uc_parser.proofs.type_declaration.type_declaration.Goals as goal
 

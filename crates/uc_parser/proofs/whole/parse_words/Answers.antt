@@ -2,10 +2,10 @@ use Rattle.std.proofs.Common.{◌≡◌, Ok, Err, None, refl, sym, ◌∙◌, ru
 use Rattle.uc_forms.specs.declared.fault.Fault.TheVariants.{Syntax, TooDeep}
 use Rattle.uc_forms.specs.Answer.{too_many, wrong, too_deep}
 use Rattle.uc_forms.specs.Tally.{fresh}
-use Rattle.uc_counted.proofs.Whole.{all_read, left_over, many_read, many_stopped, wrong_stopped, deep_stopped}
+use Rattle.uc_forms.proofs.CountedWhole.{all_read, left_over, many_read, many_stopped, wrong_stopped, deep_stopped}
 use Rattle.uc_grammar.specs.Language.{grammar}
 use Rattle.uc_grammar.specs.Syntax.{text}
-use Rattle.uc_reader.specs.Reading.{state, form}
+use Rattle.uc_parse_expressions.specs.Reading.{state, form}
 use Rattle.uc_parser.specs.Verdict.{max_levels, max_names}
 use Rattle.uc_parser.proofs.Texts.{read_from}
 use Rattle.uc_parser.proofs.whole.parse_words.Goals as goal

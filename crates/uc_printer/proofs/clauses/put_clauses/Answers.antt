@@ -1,5 +1,5 @@
-use Rattle.uc_printed.specs.Declarations.{clause_words}
-use Rattle.uc_page.proofs.Written.{each_more, each_end}
+use Rattle.uc_print_laws.specs.Declarations.{clause_words}
+use Rattle.uc_print_laws.proofs.Written.{each_more, each_end}
 use Rattle.uc_printer.proofs.clauses.put_clauses.Goals as goal
 
 pub clauses-preserved : goal.clauses-preserved

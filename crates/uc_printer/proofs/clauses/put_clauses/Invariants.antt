@@ -1,7 +1,7 @@
 use Rattle.std.proofs.Common.{◌≡◌, drop}
-use Rattle.uc_printed.specs.Printed.{each}
-use Rattle.uc_printed.specs.Declarations.{clause_words}
-use Rattle.uc_page.specs.Text.{written}
+use Rattle.uc_print_laws.specs.Printed.{each}
+use Rattle.uc_print_laws.specs.Declarations.{clause_words}
+use Rattle.uc_print_laws.specs.Text.{written}
 use Rattle.uc_printer.proofs.clauses.put_clauses.Given as goal
 
 abbrev pub invariant-clauses : goal.invariant-clauses

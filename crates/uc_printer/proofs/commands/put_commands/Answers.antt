@@ -1,5 +1,5 @@
-use Rattle.uc_printed.specs.Declarations.{command_words}
-use Rattle.uc_page.proofs.Written.{each_more, each_end}
+use Rattle.uc_print_laws.specs.Declarations.{command_words}
+use Rattle.uc_print_laws.proofs.Written.{each_more, each_end}
 use Rattle.uc_printer.proofs.commands.put_commands.Goals as goal
 
 pub commands-preserved : goal.commands-preserved

@@ -1,7 +1,7 @@
 use Rattle.std.proofs.Common.{◌≡◌, drop}
-use Rattle.uc_printed.specs.Printed.{each}
-use Rattle.uc_printed.specs.Declarations.{command_words}
-use Rattle.uc_page.specs.Text.{written}
+use Rattle.uc_print_laws.specs.Printed.{each}
+use Rattle.uc_print_laws.specs.Declarations.{command_words}
+use Rattle.uc_print_laws.specs.Text.{written}
 use Rattle.uc_printer.proofs.commands.put_commands.Given as goal
 
 abbrev pub invariant-commands : goal.invariant-commands

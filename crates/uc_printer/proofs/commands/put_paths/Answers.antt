@@ -1,7 +1,7 @@
 use Rattle.std.proofs.Common.{refl, rules}
 use Rattle.uc_grammar.specs.declared.word.Kind.TheVariants.{Comma}
-use Rattle.uc_printed.specs.Declarations.{path_words}
-use Rattle.uc_page.proofs.Written.{behind_more, behind_end, joined_begin}
+use Rattle.uc_print_laws.specs.Declarations.{path_words}
+use Rattle.uc_print_laws.proofs.Written.{behind_more, behind_end, joined_begin}
 use Rattle.uc_printer.proofs.commands.put_paths.Goals as goal
 
 pub rest-init : goal.rest-init

@@ -1,8 +1,8 @@
 use Rattle.std.proofs.Common.{◌≡◌, drop}
 use Rattle.uc_grammar.specs.declared.word.Kind.TheVariants.{Comma}
-use Rattle.uc_printed.specs.Printed.{joined, behind}
-use Rattle.uc_printed.specs.Declarations.{path_words}
-use Rattle.uc_page.specs.Text.{written}
+use Rattle.uc_print_laws.specs.Printed.{joined, behind}
+use Rattle.uc_print_laws.specs.Declarations.{path_words}
+use Rattle.uc_print_laws.specs.Text.{written}
 use Rattle.uc_printer.proofs.commands.put_paths.Given as goal
 
 abbrev pub invariant-rest : goal.invariant-rest

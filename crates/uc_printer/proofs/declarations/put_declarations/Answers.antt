@@ -1,5 +1,5 @@
-use Rattle.uc_printed.specs.Declarations.{decl_words}
-use Rattle.uc_page.proofs.Written.{each_more, each_end}
+use Rattle.uc_print_laws.specs.Declarations.{decl_words}
+use Rattle.uc_print_laws.proofs.Written.{each_more, each_end}
 use Rattle.uc_printer.proofs.declarations.put_declarations.Goals as goal
 
 pub declarations-preserved : goal.declarations-preserved

@@ -1,7 +1,7 @@
 use Rattle.std.proofs.Common.{◌≡◌, drop}
-use Rattle.uc_printed.specs.Printed.{each}
-use Rattle.uc_printed.specs.Declarations.{decl_words}
-use Rattle.uc_page.specs.Text.{written}
+use Rattle.uc_print_laws.specs.Printed.{each}
+use Rattle.uc_print_laws.specs.Declarations.{decl_words}
+use Rattle.uc_print_laws.specs.Text.{written}
 use Rattle.uc_printer.proofs.declarations.put_declarations.Given as goal
 
 abbrev pub invariant-declarations : goal.invariant-declarations

@@ -1,5 +1,5 @@
 use Rattle.std.proofs.Common.{sym}
-use Rattle.uc_printed.specs.Printed.{nowhere}
+use Rattle.uc_print_laws.specs.Printed.{nowhere}
 use Rattle.uc_printer.proofs.DeclarationWords.{function_declaration_text}
 use Rattle.uc_printer.proofs.declarations.put_function.Goals as goal
 

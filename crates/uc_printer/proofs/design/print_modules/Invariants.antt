@@ -1,5 +1,5 @@
 use Rattle.std.proofs.Common.{◌≡◌, ◌++◌, drop}
-use Rattle.uc_page.specs.Text.{design_text}
+use Rattle.uc_print_laws.specs.Text.{design_text}
 use Rattle.uc_printer.proofs.design.print_modules.Given as goal
 
 abbrev pub invariant-modules : goal.invariant-modules

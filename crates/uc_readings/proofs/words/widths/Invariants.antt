@@ -1,5 +1,5 @@
 use Rattle.std.proofs.Common.{◌≡◌, ◌+◌, drop}
-use Rattle.uc_shapes.specs.Shapes.{widths}
+use Rattle.uc_meaning.specs.Shapes.{widths}
 use Rattle.uc_readings.proofs.words.widths.Given as goal
 
 abbrev pub invariant-loop-ty : goal.invariant-loop-ty

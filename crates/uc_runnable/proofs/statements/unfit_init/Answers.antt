@@ -1,4 +1,4 @@
-use Rattle.uc_flat_init.specs.CellTypes.{cell_type_of}
+use Rattle.uc_flat_code.specs.CellTypes.{cell_type_of}
 use Rattle.uc_runnable.specs.Unfit.{unfit_init}
 use Rattle.uc_runnable.proofs.Beginnings.{init_turn, init_found, init_end}
 use Rattle.uc_runnable.proofs.statements.unfit_init.Goals as goal

@@ -1,5 +1,5 @@
 use Rattle.std.proofs.Common.{◌≡◌, drop}
-use Rattle.uc_flat_init.specs.CellTypes.{cell_type_of}
+use Rattle.uc_flat_code.specs.CellTypes.{cell_type_of}
 use Rattle.uc_runnable.specs.Unfit.{unfit_init}
 use Rattle.uc_runnable.proofs.statements.unfit_init.Given as goal
 

@@ -4,18 +4,18 @@ use Rattle.uc_syntax.specs.declared.statement.Stmt.{Stmt}
 use Rattle.uc_meaning.specs.Lookup.{module_at, first_some, procedure_in}
 use Rattle.uc_meaning.specs.Expressions.{is_true}
 use Rattle.uc_meaning.specs.Code.{Goes, Stopped, then_run, in_scope, keep_locals, push_local, taken, run_through, write_all, results}
-use Rattle.uc_overflows.specs.Runs.{met_after, conditions_met, run_met_through, targets_met}
+use Rattle.uc_meaning.specs.OverflowsRuns.{met_after, conditions_met, run_met_through, targets_met}
 use Rattle.uc_operators.specs.Overflows.{first_wide, TellsWide}
-use Rattle.uc_run_parts.specs.Levels.{run_at, run_met_at, one_at, one_met_at, turns_at, turns_met_at}
-use Rattle.uc_run_parts.proofs.Forms.{run_none, run_next, met_none, met_next}
+use Rattle.uc_runs.specs.Levels.{run_at, run_met_at, one_at, one_met_at, turns_at, turns_met_at}
+use Rattle.uc_runs.proofs.Forms.{run_none, run_next, met_none, met_next}
 use Rattle.uc_evaluator.proofs.Told.{told_first, told_second, told_as, told_all, gives_as}
 use Rattle.uc_evaluator.proofs.Sizes.{part_size}
-use Rattle.uc_run_forms.specs.declared.run.Run.{Run}
-use Rattle.uc_run_forms.specs.declared.run.Ending.{Ending}
-use Rattle.uc_run_forms.specs.declared.call.Entry.{Entry}
-use Rattle.uc_run_forms.specs.Runs.{running, ending_of, with_locals, LeavesLocals}
-use Rattle.uc_run_forms.proofs.Places.{stays, meets_none, behind, met_behind}
-use Rattle.uc_run_forms.proofs.Loops.{runs_end, runs_more, runs_out, met_end, met_told, met_more, met_out}
+use Rattle.uc_runs.specs.declared.run.Run.{Run}
+use Rattle.uc_runs.specs.declared.run.Ending.{Ending}
+use Rattle.uc_runs.specs.declared.call.Entry.{Entry}
+use Rattle.uc_runs.specs.Runs.{running, ending_of, with_locals, LeavesLocals}
+use Rattle.uc_runs.proofs.Places.{stays, meets_none, behind, met_behind}
+use Rattle.uc_runs.proofs.Loops.{runs_end, runs_more, runs_out, met_end, met_told, met_more, met_out}
 use Rattle.uc_runs.specs.Turns.{block_at, turn_at}
 use Rattle.uc_runs.proofs.Sizes.{size, sizes, arms_size, block_size, if_size, case_size, for_size, call_size, taken_size}
 use Rattle.uc_runs.proofs.Bodies.{bodies, called_size}

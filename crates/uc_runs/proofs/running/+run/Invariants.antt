@@ -1,7 +1,7 @@
 use Rattle.std.proofs.Common.{◌≡◌, ◌+◌, ◌*◌, drop}
 use Rattle.uc_operators.specs.Overflows.{first_wide}
-use Rattle.uc_run_parts.specs.Levels.{run_at, run_met_at, turns_at, turns_met_at}
-use Rattle.uc_run_forms.specs.Runs.{running}
+use Rattle.uc_runs.specs.Levels.{run_at, run_met_at, turns_at, turns_met_at}
+use Rattle.uc_runs.specs.Runs.{running}
 use Rattle.uc_runs.proofs.Sizes.{size, sizes, arms_size}
 use Rattle.uc_runs.proofs.Bodies.{bodies}
 use Rattle.uc_runs.proofs.Levels.{levels, left_below}

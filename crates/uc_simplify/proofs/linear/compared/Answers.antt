@@ -3,7 +3,7 @@ use Rattle.std.proofs.Common.{◌-ℤ◌, [], ◌∷◌, subst, rules, refl}
 use Rattle.std.proofs.lemmas.Int.{to_z-of_z}
 use Rattle.std.specs.Int.{w128}
 use mir.Val.{SFits}
-use Rattle.uc_simplify_sums.specs.Forms.{IsFormOf, number_at}
+use Rattle.uc_simplify.specs.Forms.{IsFormOf, number_at}
 use Rattle.uc_simplify.specs.Integers.{AreSides, IsSumOf}
 use Rattle.uc_simplify.proofs.Gathered.{form_integers}
 use Rattle.uc_simplify.proofs.Standing.{Grows-trans}

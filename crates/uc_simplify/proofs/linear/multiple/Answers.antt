@@ -9,7 +9,7 @@ use Rattle.uc_values.specs.declared.ty.Ty.TheVariants.{Int as Integer}
 use Rattle.uc_values.specs.declared.value.Value.TheVariants.{Int}
 use Rattle.uc_ops.specs.declared.op.Op.TheVariants.{Scale}
 use Rattle.uc_ops.specs.Typing.{type_at}
-use Rattle.uc_simplify_sums.specs.Forms.{IsFormOf, number_at}
+use Rattle.uc_simplify.specs.Forms.{IsFormOf, number_at}
 use Rattle.uc_simplify.proofs.Gathered.{form_integers, form_rebuilds, one_type}
 use Rattle.uc_simplify.proofs.linear.multiple.Goals as goal
 

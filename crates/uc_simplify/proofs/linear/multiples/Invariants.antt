@@ -1,6 +1,6 @@
 use Rattle.std.proofs.Common.{take}
 use Rattle.uc_linear.specs.Linear.{sum_at}
-use Rattle.uc_simplify_sums.specs.Forms.{number_at}
+use Rattle.uc_simplify.specs.Forms.{number_at}
 use Rattle.uc_simplify.specs.Integers.{Adding}
 use Rattle.uc_simplify.proofs.linear.multiples.Given as goal
 

@@ -3,7 +3,7 @@ use Rattle.std.proofs.lemmas.Int.{to_z-of_z}
 use Rattle.std.specs.Int.{w128}
 use mir.Val.{SFits}
 use Rattle.uc_linear.specs.Linear.{sum_at}
-use Rattle.uc_simplify_sums.specs.Forms.{number_at}
+use Rattle.uc_simplify.specs.Forms.{number_at}
 use Rattle.uc_simplify.proofs.Gathered.{adding_suits, sum_called}
 use Rattle.uc_simplify.proofs.linear.sum_of.Goals as goal
 

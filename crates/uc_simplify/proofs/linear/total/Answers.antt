@@ -4,8 +4,8 @@ use Rattle.std.proofs.lemmas.Int.{to_z-of_z}
 use Rattle.std.specs.Int.{w128}
 use mir.Val.{SFits}
 use Rattle.uc_ops.specs.declared.op.Op.TheVariants.{Add}
-use Rattle.uc_simplify_sums.specs.Forms.{IsFormOf, numbers_at}
-use Rattle.uc_simplify_sums.proofs.Opened.{typed_all}
+use Rattle.uc_simplify.specs.Forms.{IsFormOf, numbers_at}
+use Rattle.uc_simplify.proofs.Opened.{typed_all}
 use Rattle.uc_simplify.proofs.Gathered.{form_integers, form_rebuilds, some_parts}
 use Rattle.uc_simplify.proofs.linear.total.Goals as goal
 

@@ -4,7 +4,7 @@ use Rattle.uc_meaning.specs.Lookup.{axiom_in}
 use Rattle.uc_meaning.specs.Cells.{as_list}
 use Rattle.uc_sizes.specs.Expanding.{expression_sizes}
 use Rattle.uc_sizes.proofs.Expanding.{axioms_are}
-use Rattle.uc_spent_nodes.proofs.Spending.{memory_out, sizes_of, spends_none, spends_same, spends_stop, spends_two, spent_begin, spent_end, spent_more, spent_stop, stop_out}
+use Rattle.uc_sizes.proofs.Spending.{memory_out, sizes_of, spends_none, spends_same, spends_stop, spends_two, spent_begin, spent_end, spent_more, spent_stop, stop_out}
 use Rattle.uc_sizes.proofs.axioms.spend_axiom_list.Goals as goal
 
 pub loop-declaration-init : goal.loop-declaration-init

@@ -2,7 +2,7 @@ use Rattle.std.proofs.Common.{◌≡◌, [], refl, ap, ◌∙◌, sym}
 use Rattle.uc_lookup.specs.Parts.{system_in}
 use Rattle.uc_sizes.specs.Expanding.{used_axioms}
 use Rattle.uc_sizes.proofs.Expanding.{used_are}
-use Rattle.uc_spent_nodes.proofs.Spending.{memory_out, sizes_of, spends_none, spends_same, spends_stop, spends_two, spent_begin, spent_end, spent_more, spent_stop, stop_out}
+use Rattle.uc_sizes.proofs.Spending.{memory_out, sizes_of, spends_none, spends_same, spends_stop, spends_two, spent_begin, spent_end, spent_more, spent_stop, stop_out}
 use Rattle.uc_sizes.proofs.axioms.spend_axioms.Goals as goal
 
 pub loop-module-init : goal.loop-module-init

@@ -1,6 +1,6 @@
 use Rattle.std.proofs.Common.{◌≡◌, true, false, rules}
 use Rattle.uc_lookup.specs.Parts.{system_in}
-use Rattle.uc_spent_nodes.proofs.Spending.{memory_out, spends_none, spends_same}
+use Rattle.uc_sizes.proofs.Spending.{memory_out, spends_none, spends_same}
 use Rattle.uc_sizes.proofs.Finding.{not_used, used_at, without_axioms}
 use Rattle.uc_sizes.proofs.axioms.spend_axioms_of.Goals as goal
 

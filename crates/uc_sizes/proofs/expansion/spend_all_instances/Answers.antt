@@ -1,7 +1,7 @@
 use Rattle.std.proofs.Common.{refl, arith}
 use Rattle.uc_lookup.specs.Parts.{system_in}
 use Rattle.uc_meaning.specs.Cells.{main_instance}
-use Rattle.uc_spent_nodes.proofs.Spending.{spends_none, spends_same}
+use Rattle.uc_sizes.proofs.Spending.{spends_none, spends_same}
 use Rattle.uc_sizes.proofs.Expanding.{below_main, none_below}
 use Rattle.uc_sizes.proofs.expansion.spend_all_instances.Goals as goal
 

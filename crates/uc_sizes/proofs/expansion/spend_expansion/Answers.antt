@@ -6,7 +6,7 @@ use Rattle.uc_order_rules.specs.Roots.{instances_in}
 use Rattle.uc_order_rules.specs.Sizes.{axiom_nodes, code_size, instance_size, size, sum, total}
 use Rattle.uc_sizes.specs.Expanding.{declared_procedures}
 use Rattle.uc_lookup.specs.Parts.{system_in}
-use Rattle.uc_spent_nodes.proofs.Spending.{stop_out}
+use Rattle.uc_sizes.proofs.Spending.{stop_out}
 use Rattle.uc_sizes.proofs.Expanding.{expansion_is, four_spent, stop_first, stop_second, stop_third}
 use Rattle.uc_sizes.proofs.expansion.spend_expansion.Goals as goal
 

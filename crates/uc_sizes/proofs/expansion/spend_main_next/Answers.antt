@@ -1,5 +1,5 @@
 use Rattle.uc_lookup.specs.Parts.{system_in}
-use Rattle.uc_spent_nodes.proofs.Spending.{memory_out, spends_none, spends_stop, spends_two, stop_out}
+use Rattle.uc_sizes.proofs.Spending.{memory_out, spends_none, spends_stop, spends_two, stop_out}
 use Rattle.uc_sizes.proofs.Expanding.{no_next}
 use Rattle.uc_sizes.proofs.expansion.spend_main_next.Goals as goal
 

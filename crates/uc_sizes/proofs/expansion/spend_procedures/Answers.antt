@@ -1,8 +1,8 @@
 use Rattle.std.proofs.Common.{◌≡◌, [], refl, ap, ◌∙◌, sym}
 use Rattle.uc_lookup.specs.Parts.{system_in}
 use Rattle.uc_order_rules.specs.Sizes.{procedure_size}
-use Rattle.uc_spent_code.proofs.Codes.{sizes_are}
-use Rattle.uc_spent_nodes.proofs.Spending.{memory_out, sizes_of, spends_none, spends_same, spends_stop, spends_two, spent_begin, spent_end, spent_more, spent_stop, stop_out}
+use Rattle.uc_sizes.proofs.Codes.{sizes_are}
+use Rattle.uc_sizes.proofs.Spending.{memory_out, sizes_of, spends_none, spends_same, spends_stop, spends_two, spent_begin, spent_end, spent_more, spent_stop, stop_out}
 use Rattle.uc_sizes.proofs.expansion.spend_procedures.Goals as goal
 
 pub loop-declaration-init : goal.loop-declaration-init

@@ -1,6 +1,6 @@
 use Rattle.uc_lookup.specs.Parts.{system_in}
-use Rattle.uc_spent_nodes.specs.Spending.{size_in}
-use Rattle.uc_spent_nodes.proofs.Spending.{SpentUpTo}
+use Rattle.uc_sizes.specs.Spending.{size_in}
+use Rattle.uc_sizes.proofs.Spending.{SpentUpTo}
 use Rattle.uc_order_rules.specs.Sizes.{procedure_size}
 use Rattle.uc_sizes.proofs.expansion.spend_procedures.Given as goal
 

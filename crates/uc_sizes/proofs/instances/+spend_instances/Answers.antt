@@ -1,8 +1,8 @@
 use Rattle.std.proofs.Common.{◌≡◌, suc, ◌-◌, map, refl, sym, arith}
 use Rattle.uc_lookup.specs.Parts.{instance_parts, system_in}
 use Rattle.uc_order_rules.specs.Sizes.{instance_size, sum}
-use Rattle.uc_spent_nodes.proofs.Spending.{memory_out, sizes_of, spends_none, spends_same, spends_stop, spends_two, spent_begin, spent_end, spent_more, spent_stop, stop_out}
-use Rattle.uc_spent_code.proofs.Codes.{sizes_are}
+use Rattle.uc_sizes.proofs.Spending.{memory_out, sizes_of, spends_none, spends_same, spends_stop, spends_two, spent_begin, spent_end, spent_more, spent_stop, stop_out}
+use Rattle.uc_sizes.proofs.Codes.{sizes_are}
 use Rattle.uc_sizes.specs.Expanding.{sizes_inside}
 use Rattle.uc_sizes.proofs.Expanding.{code_same, inside_lost, inside_none, no_instances, sizes_more}
 use Rattle.uc_sizes.proofs.instances.+spend_instances.Goals as goal

@@ -1,8 +1,8 @@
 use Rattle.std.proofs.Common.{◌≡◌, ◌+◌, ◌*◌}
 use Rattle.uc_lookup.specs.Parts.{system_in}
 use Rattle.uc_meaning.specs.Cells.{InstanceAt}
-use Rattle.uc_spent_nodes.specs.Spending.{size_in}
-use Rattle.uc_spent_nodes.proofs.Spending.{SpentUpTo}
+use Rattle.uc_sizes.specs.Spending.{size_in}
+use Rattle.uc_sizes.proofs.Spending.{SpentUpTo}
 use Rattle.uc_sizes.specs.Expanding.{sizes_inside}
 use Rattle.uc_sizes.proofs.instances.+spend_instances.Given as goal
 

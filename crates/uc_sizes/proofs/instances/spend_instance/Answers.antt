@@ -3,7 +3,7 @@ use Rattle.std.specs.List.{flat_map}
 use Rattle.uc_lookup.specs.Parts.{system_in}
 use Rattle.uc_meaning.specs.Lookup.{init_of}
 use Rattle.uc_order_rules.specs.Sizes.{code_size, formula_in}
-use Rattle.uc_spent_nodes.proofs.Spending.{spends_stop, spends_two, stop_out}
+use Rattle.uc_sizes.proofs.Spending.{spends_stop, spends_two, stop_out}
 use Rattle.uc_sizes.specs.Expanding.{expression_sizes}
 use Rattle.uc_sizes.proofs.Expanding.{instance_is}
 use Rattle.uc_sizes.proofs.instances.spend_instance.Goals as goal

@@ -1,7 +1,7 @@
 use Rattle.std.specs.Prelude.{[]}
 use Rattle.uc_lookup.specs.Parts.{system_in}
-use Rattle.uc_spent_nodes.specs.Spending.{size_in}
-use Rattle.uc_spent_nodes.proofs.Spending.{SpentUpTo}
+use Rattle.uc_sizes.specs.Spending.{size_in}
+use Rattle.uc_sizes.proofs.Spending.{SpentUpTo}
 use Rattle.uc_order_rules.specs.Uses.{clause_expressions}
 use Rattle.uc_sizes.specs.Expanding.{expression_sizes}
 use Rattle.uc_sizes.proofs.parts.spend_clauses.Given as goal

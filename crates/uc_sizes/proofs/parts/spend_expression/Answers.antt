@@ -2,7 +2,7 @@ use Rattle.std.proofs.Common.{ap}
 use Rattle.std.specs.Option.{option_copied}
 use Rattle.uc_meaning.specs.Cells.{as_list}
 use Rattle.uc_lookup.specs.Parts.{system_in}
-use Rattle.uc_spent_nodes.proofs.Spending.{memory_out, spends_none, spends_stop, spends_two, stop_out}
+use Rattle.uc_sizes.proofs.Spending.{memory_out, spends_none, spends_stop, spends_two, stop_out}
 use Rattle.uc_sizes.specs.Expanding.{expression_sizes}
 use Rattle.uc_sizes.proofs.parts.spend_expression.Goals as goal
 

@@ -3,7 +3,7 @@ use Rattle.uc_lookup.specs.Parts.{system_in}
 use Rattle.uc_order_rules.specs.Sizes.{formula_in}
 use Rattle.uc_sizes.specs.Expanding.{expression_sizes}
 use Rattle.uc_sizes.proofs.Expanding.{expressions_are}
-use Rattle.uc_spent_nodes.proofs.Spending.{memory_out, sizes_of, spends_none, spends_same, spends_stop, spends_two, spent_begin, spent_end, spent_more, spent_stop, stop_out}
+use Rattle.uc_sizes.proofs.Spending.{memory_out, sizes_of, spends_none, spends_same, spends_stop, spends_two, spent_begin, spent_end, spent_more, spent_stop, stop_out}
 use Rattle.uc_sizes.proofs.parts.spend_formulas.Goals as goal
 
 pub loop-declaration-init : goal.loop-declaration-init

@@ -3,7 +3,7 @@ use Rattle.uc_lookup.specs.Parts.{system_in}
 use Rattle.uc_meaning.specs.Lookup.{init_in}
 use Rattle.uc_order_rules.specs.Sizes.{code_size}
 use Rattle.uc_sizes.proofs.Expanding.{init_is}
-use Rattle.uc_spent_nodes.proofs.Spending.{memory_out, sizes_of, spends_none, spends_same, spends_stop, spends_two, spent_begin, spent_end, spent_more, spent_stop, stop_out}
+use Rattle.uc_sizes.proofs.Spending.{memory_out, sizes_of, spends_none, spends_same, spends_stop, spends_two, spent_begin, spent_end, spent_more, spent_stop, stop_out}
 use Rattle.uc_sizes.proofs.parts.spend_init.Goals as goal
 
 pub loop-declaration-init : goal.loop-declaration-init

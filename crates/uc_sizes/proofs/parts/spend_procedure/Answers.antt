@@ -3,7 +3,7 @@ use Rattle.std.specs.List.{flat_map}
 use Rattle.uc_order_rules.specs.Uses.{clause_expressions}
 use Rattle.uc_order_rules.specs.Sizes.{code_size}
 use Rattle.uc_lookup.specs.Parts.{system_in}
-use Rattle.uc_spent_nodes.proofs.Spending.{memory_out, spends_none, spends_stop, spends_two, stop_out}
+use Rattle.uc_sizes.proofs.Spending.{memory_out, spends_none, spends_stop, spends_two, stop_out}
 use Rattle.uc_sizes.specs.Expanding.{expression_sizes}
 use Rattle.uc_sizes.proofs.Expanding.{no_procedure, procedure_is}
 use Rattle.uc_sizes.proofs.parts.spend_procedure.Goals as goal

@@ -3,7 +3,7 @@ use Rattle.std.specs.Result.{IfErr}
 use Rattle.std.proofs.lemmas.Result.{err_from_is_err_and}
 use Rattle.uc_terms.proofs.Values.{grown_keeps}
 use Rattle.uc_lower.specs.Made.{Grows}
-use Rattle.uc_models.specs.Codes.{IsSymbolPair}
+use Rattle.uc_solver.specs.Codes.{IsSymbolPair}
 use Rattle.uc_solver.specs.Answers.{IsCause}
 use Rattle.uc_solver.specs.Searches.{IsFound}
 use Rattle.uc_solver.specs.declared.answer.SolveError.TheVariants.{Budget}

@@ -1,7 +1,7 @@
 use Rattle.std.proofs.Common.{◌∙◌, sym, ap, subst, arith, length}
-use Rattle.uc_gates.specs.declared.signal.Signal.{Signal}
-use Rattle.uc_gates.specs.Signals.{AllBelow}
-use Rattle.uc_gates.proofs.Growing.{all_below-more}
+use Rattle.uc_circuit.specs.declared.signal.Signal.{Signal}
+use Rattle.uc_circuit.specs.Signals.{AllBelow}
+use Rattle.uc_circuit.proofs.Growing.{all_below-more}
 use Rattle.uc_solver_rows.proofs.gates.folded.Goals as goal
 
 pub signals-requires-clause-x : goal.signals-requires-clause-x

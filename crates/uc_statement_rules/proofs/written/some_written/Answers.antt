@@ -1,5 +1,5 @@
 use Rattle.std.proofs.Common.{Some, ap, sym, ◌∙◌}
-use Rattle.uc_name_table.specs.Senses.{value_meant}
+use Rattle.uc_names.specs.Senses.{value_meant}
 use Rattle.uc_rules.specs.Statements.{value_written}
 use Rattle.uc_statement_rules.proofs.written.some_written.Goals as goal
 

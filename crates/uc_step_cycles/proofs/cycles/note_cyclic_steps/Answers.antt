@@ -5,8 +5,8 @@ use Rattle.uc_meaning.specs.Lookup.{System}
 use Rattle.uc_rules.specs.Faults.{first_of}
 use Rattle.uc_order_rules.specs.Roots.{rooted}
 use Rattle.uc_order_rules.specs.Order.{dependence_in, roots}
-use Rattle.uc_instance_tree.specs.Modules.{KnowsModules}
-use Rattle.uc_use_rules.proofs.Told.{root_at, root_length, told_begin, told_end, told_more}
+use Rattle.uc_uses.specs.Modules.{KnowsModules}
+use Rattle.uc_uses.proofs.Told.{root_at, root_length, told_begin, told_end, told_more}
 use Rattle.uc_step_cycles.proofs.cycles.note_cyclic_steps.Goals as goal
 
 pub loop-number-init : goal.loop-number-init

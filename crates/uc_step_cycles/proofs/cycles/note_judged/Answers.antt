@@ -3,7 +3,7 @@ use Rattle.std.specs.Prelude.{if◌then◌else◌}
 use Rattle.uc_rules.specs.Faults.{first_of}
 use Rattle.uc_order_rules.specs.Roots.{rooted}
 use Rattle.uc_order_rules.specs.Dependence.{cyclic_steps}
-use Rattle.uc_use_rules.proofs.Told.{told_nothing}
+use Rattle.uc_uses.proofs.Told.{told_nothing}
 use Rattle.uc_step_cycles.proofs.cycles.note_judged.Goals as goal
 
 pub returns-then-not-judges : goal.returns-then-not-judges

@@ -1,6 +1,6 @@
 use Rattle.std.proofs.Common.{ap, ◌∙◌}
 use Rattle.uc_rules.specs.Faults.{first_of}
-use Rattle.uc_use_rules.proofs.Told.{told_begin, told_end, told_more}
+use Rattle.uc_uses.proofs.Told.{told_begin, told_end, told_more}
 use Rattle.uc_step_cycles.specs.Noted.{noted_act}
 use Rattle.uc_step_cycles.proofs.noting.note_acts.Goals as goal
 

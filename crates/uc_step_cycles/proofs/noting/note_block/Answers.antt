@@ -2,7 +2,7 @@ use Rattle.std.proofs.Common.{[], ap, sym, ◌∙◌}
 use Rattle.std.specs.Prelude.{if◌then◌else◌}
 use Rattle.std.specs.List.{flat_map}
 use Rattle.uc_rules.specs.Faults.{first_of}
-use Rattle.uc_use_rules.proofs.Told.{told_nothing}
+use Rattle.uc_uses.proofs.Told.{told_nothing}
 use Rattle.uc_step_cycles.specs.Noted.{noted_act}
 use Rattle.uc_step_cycles.proofs.noting.note_block.Goals as goal
 

@@ -1,5 +1,5 @@
 use Rattle.std.proofs.Common.{subst}
-use Rattle.uc_graph_cycles.specs.Cycles.{MarksCycles}
+use Rattle.uc_graph.specs.Cycles.{MarksCycles}
 use Rattle.uc_step_cycles.proofs.root.cyclic_nodes.Goals as goal
 
 pub returns : goal.returns

@@ -1,6 +1,6 @@
 use Rattle.std.proofs.Common.{ap, subst, sym, ◌∙◌}
 use Rattle.uc_rules.specs.Faults.{first_of}
-use Rattle.uc_stepped_blocks.specs.Blocks.{KnowsTree}
+use Rattle.uc_step_cycles.specs.Blocks.{KnowsTree}
 use Rattle.uc_step_cycles.specs.Noted.{noted_all}
 use Rattle.uc_step_cycles.proofs.Same.{all_noted}
 use Rattle.uc_step_cycles.proofs.root.note_uses.Goals as goal

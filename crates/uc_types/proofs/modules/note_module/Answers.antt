@@ -1,10 +1,10 @@
 use Rattle.std.proofs.Common.{ap, ◌∙◌}
 use Rattle.std.specs.List.{flat_map}
 use Rattle.uc_meaning.specs.Lookup.{System}
-use Rattle.uc_name_table.specs.Senses.{module_in}
+use Rattle.uc_names.specs.Senses.{module_in}
 use Rattle.uc_rules.specs.Declarations.{declaration_faults, naming_faults}
 use Rattle.uc_rules.specs.Faults.{first_of}
-use Rattle.uc_module_names.proofs.Forms.{module_found}
+use Rattle.uc_names.proofs.Forms.{module_found}
 use Rattle.uc_types.proofs.Checked.{on_ok}
 use Rattle.uc_types.proofs.OneModule.{module_of_parts, reads_known}
 use Rattle.uc_types.proofs.modules.note_module.Goals as goal

@@ -1,7 +1,7 @@
 use Rattle.uc_meaning.specs.Code.{modifies_in}
 use Rattle.uc_written_once.specs.Walks.{one_clause, one_name}
 use Rattle.uc_written_once.proofs.Single.{clause_went, flat_went}
-use Rattle.uc_written_once.proofs.Turns.{each_begin, each_end, each_more}
+use Rattle.uc_written_once.proofs.WrittenOnceTurns.{each_begin, each_end, each_more}
 use Rattle.uc_written_once.proofs.noting.note_clauses.Goals as goal
 
 pub loop-clause-init : goal.loop-clause-init

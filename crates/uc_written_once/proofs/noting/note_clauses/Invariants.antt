@@ -1,5 +1,5 @@
 use Rattle.uc_written_once.specs.Walks.{one_clause}
-use Rattle.uc_written_once.proofs.Turns.{EachFrom}
+use Rattle.uc_written_once.proofs.WrittenOnceTurns.{EachFrom}
 use Rattle.uc_written_once.proofs.noting.note_clauses.Given as goal
 
 abbrev pub invariant-loop-clause : goal.invariant-loop-clause

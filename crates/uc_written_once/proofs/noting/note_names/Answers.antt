@@ -1,6 +1,6 @@
 use Rattle.std.proofs.Common.{refl}
 use Rattle.uc_written_once.specs.Walks.{one_name}
-use Rattle.uc_written_once.proofs.Turns.{each_begin, each_end, each_more}
+use Rattle.uc_written_once.proofs.WrittenOnceTurns.{each_begin, each_end, each_more}
 use Rattle.uc_written_once.proofs.noting.note_names.Goals as goal
 
 pub loop-identifier-init : goal.loop-identifier-init

@@ -1,5 +1,5 @@
 use Rattle.uc_written_once.specs.Walks.{one_target}
-use Rattle.uc_written_once.proofs.Turns.{each_begin, each_end, each_more}
+use Rattle.uc_written_once.proofs.WrittenOnceTurns.{each_begin, each_end, each_more}
 use Rattle.uc_written_once.proofs.noting.note_targets.Goals as goal
 
 pub loop-target-init : goal.loop-target-init

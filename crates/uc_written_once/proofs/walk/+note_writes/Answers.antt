@@ -2,7 +2,7 @@ use Rattle.std.proofs.Common.{ap}
 use Rattle.uc_written_once.specs.Effects.{modified_by, step_by}
 use Rattle.uc_written_once.specs.Walks.{walk_arm, walk_block, walk_of}
 use Rattle.uc_written_once.proofs.Forms.{asserts_went, assign_went, assumes_went, block_went, call_went, cases_alone_went, cases_else_went, choice_alone_went, choice_else_went, havoc_went, local_went, no_turns_went, skip_went, step_went, turned_went}
-use Rattle.uc_written_once.proofs.Turns.{arms_begin, arms_end, arms_more, each_begin, each_end, each_more, went_as}
+use Rattle.uc_written_once.proofs.WrittenOnceTurns.{arms_begin, arms_end, arms_more, each_begin, each_end, each_more, went_as}
 use Rattle.uc_written_once.proofs.walk.+note_writes.Goals as goal
 
 pub note_in_arms-loop-arm-init : goal.note_in_arms-loop-arm-init

@@ -1,6 +1,6 @@
 use Rattle.uc_written_once.specs.Effects.{modified_by, step_by}
 use Rattle.uc_written_once.specs.Walks.{walk_arm, walk_of}
-use Rattle.uc_written_once.proofs.Turns.{ArmsFrom, EachFrom}
+use Rattle.uc_written_once.proofs.WrittenOnceTurns.{ArmsFrom, EachFrom}
 use Rattle.uc_written_once.proofs.walk.+note_writes.Given as goal
 
 abbrev pub invariant-note_in_block-loop-statement : goal.invariant-note_in_block-loop-statement

@@ -3,7 +3,7 @@ use Rattle.uc_meaning.specs.Lookup.{next_in}
 use Rattle.uc_written_once.specs.Effects.{modified_by, step_by}
 use Rattle.uc_written_once.specs.Walks.{walk_block, walk_of}
 use Rattle.uc_written_once.proofs.Single.{flat_went}
-use Rattle.uc_written_once.proofs.Turns.{each_begin, each_end, each_more, went_as}
+use Rattle.uc_written_once.proofs.WrittenOnceTurns.{each_begin, each_end, each_more, went_as}
 use Rattle.uc_written_once.proofs.walk.note_in_declarations.Goals as goal
 
 pub loop-declaration-init : goal.loop-declaration-init

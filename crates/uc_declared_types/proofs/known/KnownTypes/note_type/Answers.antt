@@ -2,7 +2,7 @@ use Rattle.std.proofs.Common.{◌≡◌, ap, ◌∙◌}
 use Rattle.uc_meaning.specs.Lookup.{System}
 use Rattle.uc_rules.specs.Faults.{first_of}
 use Rattle.uc_rules.specs.Types.{type_faults, type_of}
-use Rattle.uc_name_table.specs.Senses.{module_in}
+use Rattle.uc_names.specs.Senses.{module_in}
 use Rattle.uc_declared_types.specs.Aliases.{read_to_end}
 use Rattle.uc_declared_types.proofs.Fixed.{same_faults, same_type}
 use Rattle.uc_declared_types.proofs.known.KnownTypes.note_type.Goals as goal

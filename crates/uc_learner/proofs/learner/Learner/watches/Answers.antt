@@ -1,6 +1,6 @@
 use Rattle.std.proofs.Common.{ℕ, ◌<◌, [], length, get_or, subst}
-use Rattle.uc_watches.specs.Watched.{IsWatched}
-use Rattle.uc_watches.proofs.Linking.{is_watched}
+use Rattle.uc_rings.specs.Watched.{IsWatched}
+use Rattle.uc_rings.proofs.Linking.{is_watched}
 use Rattle.uc_learner.specs.declared.state.State.{State}
 use Rattle.uc_learner.specs.Learners.{Learning}
 use Rattle.uc_learner.proofs.learner.Learner.watches.Goals as goal

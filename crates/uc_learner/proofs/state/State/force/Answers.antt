@@ -3,8 +3,8 @@ use Rattle.std.specs.Prelude.{All, Contains}
 use Rattle.std.proofs.lemmas.Grind.{common_steps}
 use Rattle.uc_circuit.specs.declared.literal.Lit.{Lit}
 use Rattle.uc_circuit.specs.Values.{Forces, IsFalsified, IsSettled}
-use Rattle.uc_watches.specs.Pairs.{HasTwo, HasTrue}
-use Rattle.uc_watches.proofs.Guarding.{narrow_one, narrow_true}
+use Rattle.uc_rings.specs.Pairs.{HasTwo, HasTrue}
+use Rattle.uc_rings.proofs.Guarding.{narrow_one, narrow_true}
 use Rattle.uc_learner.specs.declared.state.State.{State}
 use Rattle.uc_learner.specs.Moves.{Ready}
 use Rattle.uc_learner.proofs.Walking.{clause_read}

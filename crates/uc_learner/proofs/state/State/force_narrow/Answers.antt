@@ -1,6 +1,6 @@
 use Rattle.std.proofs.Common.{arith, refl, ap, ◌∙◌, ◌≡◌, ◌<◌, length, vec_len}
 use Rattle.std.proofs.lemmas.Grind.{common_steps}
-use Rattle.uc_watches.specs.declared.watches.Watches.{Watches}
+use Rattle.uc_rings.specs.declared.watches.Watches.{Watches}
 use Rattle.uc_learner.specs.declared.state.State.{State}
 use Rattle.uc_learner.proofs.Queue.{gone_refl, gone_trans}
 use Rattle.uc_learner.proofs.Narrow.{trues_none, trues_all, trues_more, narrow_read}

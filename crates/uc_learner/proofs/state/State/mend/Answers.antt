@@ -2,9 +2,9 @@ use Rattle.std.proofs.Common.{arith, refl, sym, ap, subst, ◌∙◌, ◌≡◌,
 use Rattle.std.specs.Prelude.{All, Contains}
 use Rattle.uc_circuit.specs.declared.literal.Lit.{Lit}
 use Rattle.uc_circuit.specs.Values.{Forces, IsFalse, IsFalsified}
-use Rattle.uc_watches.specs.Pairs.{IsTrueIn}
-use Rattle.uc_watches.proofs.Slots.{in_a_list}
-use Rattle.uc_watches.proofs.Linking.{SlotOf}
+use Rattle.uc_rings.specs.Pairs.{IsTrueIn}
+use Rattle.uc_rings.proofs.WatchesSlots.{in_a_list}
+use Rattle.uc_rings.proofs.Linking.{SlotOf}
 use Rattle.uc_learner.specs.declared.state.State.{State}
 use Rattle.uc_learner.proofs.Walking.{clause_read}
 use Rattle.uc_learner.proofs.Learning.{length-values}

@@ -1,6 +1,6 @@
 use Rattle.std.proofs.Common.{length}
 use Rattle.uc_rings.specs.Lists.{slots_of}
-use Rattle.uc_watches.proofs.Slots.{rest_from}
+use Rattle.uc_rings.proofs.WatchesSlots.{rest_from}
 use Rattle.uc_learner.proofs.Visiting.{Visiting}
 use Rattle.uc_learner.proofs.state.State.visit.Given as goal
 

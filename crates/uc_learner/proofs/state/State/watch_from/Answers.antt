@@ -1,7 +1,7 @@
 use Rattle.std.proofs.Common.{arith, refl, ap, subst, sym, ◌≡◌, ◌<◌, length, get_or, take, []}
 use Rattle.std.proofs.lemmas.Grind.{common_steps}
 use Rattle.uc_circuit.specs.declared.literal.Lit.{Lit}
-use Rattle.uc_watches.specs.Watched.{Linked}
+use Rattle.uc_rings.specs.Watched.{Linked}
 use Rattle.uc_learner.specs.declared.state.State.{State}
 use Rattle.uc_learner.proofs.Linked.{watched_more, watched_to_end, places_within}
 use Rattle.uc_learner.proofs.Progress.{sound_same}

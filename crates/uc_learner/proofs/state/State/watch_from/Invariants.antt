@@ -1,5 +1,5 @@
 use Rattle.std.proofs.Common.{◌≡◌, length, take, vec_capacity}
-use Rattle.uc_watches.specs.Watched.{Linked}
+use Rattle.uc_rings.specs.Watched.{Linked}
 use Rattle.uc_learner.proofs.state.State.watch_from.Given as goal
 
 abbrev pub invariant-loop-number : goal.invariant-loop-number

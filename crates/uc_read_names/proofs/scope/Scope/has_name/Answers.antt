@@ -1,7 +1,7 @@
 use Rattle.std.proofs.Common.{◌≡◌, ap, subst, ◌∙◌}
 use Rattle.std.specs.List.{list_any}
 use Rattle.uc_meaning.specs.Lookup.{System}
-use Rattle.uc_name_table.specs.Senses.{module_in}
+use Rattle.uc_names.specs.Senses.{module_in}
 use Rattle.uc_rules.specs.Expressions.{Context}
 use Rattle.uc_rules.specs.Names.{is_entry, is_name_of, names_in}
 use Rattle.uc_read_names.proofs.Listed.{bit_known, name_else, name_then}

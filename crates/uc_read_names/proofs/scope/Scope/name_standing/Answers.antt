@@ -1,6 +1,6 @@
 use Rattle.std.proofs.Common.{◌≡◌, Some, None, ap, sym, subst, ◌∙◌}
 use Rattle.std.specs.Prelude.{IfOk}
-use Rattle.uc_name_table.specs.Senses.{value_meant}
+use Rattle.uc_names.specs.Senses.{value_meant}
 use Rattle.uc_lookup.specs.Parts.{instance_parts}
 use Rattle.std.specs.Option.{option_map}
 use Rattle.uc_rules.specs.Expressions.{bound_standing, module_standing, old_bound, old_valued, valued_standing}

@@ -1,7 +1,7 @@
 use Rattle.std.proofs.Common.{◌≡◌, subst}
 use Rattle.std.specs.Option.{option_copied}
 use Rattle.uc_meaning.specs.Lookup.{System}
-use Rattle.uc_name_table.specs.Senses.{module_in}
+use Rattle.uc_names.specs.Senses.{module_in}
 use Rattle.uc_rules.specs.Expressions.{Context}
 use Rattle.uc_rules.specs.Names.{procedure_named}
 use Rattle.uc_read_names.proofs.scope.Scope.procedure.Goals as goal

@@ -3,7 +3,7 @@ use Rattle.std.specs.Prelude.{IfOk}
 use Rattle.std.specs.Option.{option_map}
 use Rattle.uc_lookup.specs.Parts.{instance_parts}
 use Rattle.uc_meaning.specs.Lookup.{System, module_named}
-use Rattle.uc_name_table.specs.Senses.{called_meant, module_in, value_meant}
+use Rattle.uc_names.specs.Senses.{called_meant, module_in, value_meant}
 use Rattle.uc_rules.specs.Expressions.{Context, enum_of}
 use Rattle.uc_rules.specs.Names.{called_named, instance_named, value_named}
 use Rattle.uc_rules.specs.Reads.{define_reads}

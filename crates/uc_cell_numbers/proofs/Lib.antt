@@ -1,4 +1,0 @@
-pub mod Positions
-pub mod Placed
-pub mod Followed
-pub mod Numbered

@@ -1,4 +1,0 @@
-pub mod Growing
-pub mod Parts
-pub mod Targets
-pub mod Leaving

@@ -1,2 +1,0 @@
-pub mod Watches
-pub mod Asked

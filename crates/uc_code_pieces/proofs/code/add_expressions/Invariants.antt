@@ -1,6 +1,0 @@
-use Rattle.uc_code_pieces.specs.Pieces.{expression_amount}
-use Rattle.uc_code_pieces.proofs.Sums.{SummedUpTo}
-use Rattle.uc_code_pieces.proofs.code.add_expressions.Given as goal
-
-abbrev pub invariant-loop-expression : goal.invariant-loop-expression
-invariant-loop-expression l = SummedUpTo expression_amount l.expressions l.fn.pieces l.times l.expression-index l.pieces

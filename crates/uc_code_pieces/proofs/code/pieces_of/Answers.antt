@@ -1,5 +1,0 @@
-use Rattle.uc_code_pieces.proofs.Forms.{pieces_end}
-use Rattle.uc_code_pieces.proofs.code.pieces_of.Goals as goal
-
-pub returns : goal.returns
-returns c = pieces_end _ _ _ c.new-pieces.ensures c.in_ok-add_code.ensures

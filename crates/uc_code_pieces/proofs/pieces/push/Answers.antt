@@ -1,6 +1,0 @@
-use Rattle.std.proofs.Common.{refl}
-use Rattle.uc_code_pieces.proofs.Sums.{piece_added}
-use Rattle.uc_code_pieces.proofs.pieces.push.Goals as goal
-
-pub returns : goal.returns
-returns c = piece_added _ _ _ _ _ c.in_ok-push.ensures.ok refl refl

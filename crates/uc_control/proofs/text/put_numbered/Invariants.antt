@@ -1,8 +1,0 @@
-use Rattle.std.proofs.Common.{◌≡◌, ◌++◌, take}
-use Rattle.std.specs.List.{flat_map}
-use Rattle.uc_heads.specs.Described.{described}
-use Rattle.uc_control.specs.Text.{numbered_text}
-use Rattle.uc_control.proofs.text.put_numbered.Given as goal
-
-abbrev pub invariant-loop-number : goal.invariant-loop-number
-invariant-loop-number l = l.out.items ≡ l.initial.out.items ++ flat_map (numbered_text (described l.d) l.lines l.paths) (take l.number-index l.numbers)

@@ -1,8 +1,0 @@
-use Rattle.std.proofs.Common.{◌≡◌, ◌++◌, take}
-use Rattle.std.specs.List.{flat_map}
-use Rattle.uc_heads.specs.Described.{described}
-use Rattle.uc_control.specs.Text.{line_text}
-use Rattle.uc_control.proofs.text.put_results.Given as goal
-
-abbrev pub invariant-loop-line : goal.invariant-loop-line
-invariant-loop-line l = l.out.items ≡ l.initial.out.items ++ flat_map (line_text (described l.d)) (take l.line-index l.lines)

@@ -1,4 +1,0 @@
-pub mod Reports
-pub mod Verdicts
-pub mod Prints
-pub mod Text

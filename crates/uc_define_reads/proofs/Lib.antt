@@ -1,6 +1,0 @@
-mod Tests
-mod Forms
-mod Adding
-mod Places
-mod Entering
-mod Naming

@@ -1,5 +1,0 @@
-use Rattle.std.proofs.Common.{◌≡◌, replicate, true}
-use Rattle.uc_define_reads.proofs.reading.trues.Given as goal
-
-abbrev pub invariant-loop : goal.invariant-loop
-invariant-loop l = l.flags ≡ replicate l.counter true

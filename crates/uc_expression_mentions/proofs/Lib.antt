@@ -1,4 +1,0 @@
-pub mod Forms
-pub mod Dots
-pub mod CallForms
-pub mod ExpressionForms

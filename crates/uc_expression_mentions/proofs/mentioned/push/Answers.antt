@@ -1,7 +1,0 @@
-use Rattle.std.proofs.Common.{ap, ◌∙◌}
-use Rattle.uc_expression_mentions.specs.Meant.{meant}
-use Rattle.uc_expression_mentions.proofs.Forms.{meant_push}
-use Rattle.uc_expression_mentions.proofs.mentioned.push.Goals as goal
-
-pub returns : goal.returns
-returns c = ap meant c.in_ok-push.ensures.ok ∙ meant_push c.args.mentions.now c.args.mentioned

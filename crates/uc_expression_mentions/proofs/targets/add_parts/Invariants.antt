@@ -1,7 +1,0 @@
-use Rattle.uc_order_rules.specs.Mentions.{part_index}
-use Rattle.uc_syntax.proofs.Added.{AddedUpTo}
-use Rattle.uc_expression_mentions.specs.Lent.{lent}
-use Rattle.uc_expression_mentions.proofs.targets.add_parts.Given as goal
-
-abbrev pub invariant-loop-part : goal.invariant-loop-part
-invariant-loop-part l = AddedUpTo part_index l.parts (lent l.fn.found) l.part-index (lent l.found)

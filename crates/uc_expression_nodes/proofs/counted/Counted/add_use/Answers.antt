@@ -1,6 +1,0 @@
-use Rattle.std.proofs.Common.{refl}
-use Rattle.uc_expression_nodes.proofs.Sums.{use_added}
-use Rattle.uc_expression_nodes.proofs.counted.Counted.add_use.Goals as goal
-
-pub returns : goal.returns
-returns c = use_added _ _ _ refl c.in_ok-push.ensures.ok

@@ -1,5 +1,0 @@
-pub mod Arranged
-mod Has
-mod Keys
-mod Open
-mod Turns

@@ -1,5 +1,0 @@
-use Rattle.std.proofs.Common.{◌≡◌, replicate, false}
-use Rattle.uc_first_free.proofs.order.falses.Given as goal
-
-abbrev pub invariant-loop : goal.invariant-loop
-invariant-loop l = l.flags ≡ replicate l.counter false

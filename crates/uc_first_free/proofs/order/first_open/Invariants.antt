@@ -1,7 +1,0 @@
-use Rattle.std.proofs.Common.{◌≡◌, ℕ, true, take}
-use Rattle.std.specs.Prelude.{slice_index_or}
-use Rattle.uc_needed_first.specs.Order.{has}
-use Rattle.uc_first_free.proofs.order.first_open.Given as goal
-
-abbrev pub invariant-loop-need : goal.invariant-loop-need
-invariant-loop-need l = (m : ℕ) → has (take l.need-index l.needs) m ≡ true → (m ≡ l.place → ⊥) → slice_index_or l.flags m true ≡ true

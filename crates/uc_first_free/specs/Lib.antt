@@ -1,3 +1,0 @@
-pub mod Arranged
-pub mod Places
-pub mod Steady

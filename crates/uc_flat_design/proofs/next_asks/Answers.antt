@@ -1,5 +1,0 @@
-use Rattle.uc_flat_design.proofs.Stepping.{asks_holds}
-use Rattle.uc_flat_design.proofs.next_asks.Goals as goal
-
-pub returns : goal.returns
-returns c = asks_holds

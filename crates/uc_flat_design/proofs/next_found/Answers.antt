@@ -1,5 +1,0 @@
-use Rattle.uc_flat_design.proofs.Stepping.{found_holds}
-use Rattle.uc_flat_design.proofs.next_found.Goals as goal
-
-pub returns : goal.returns
-returns c = found_holds

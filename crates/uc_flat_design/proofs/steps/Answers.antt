@@ -1,5 +1,0 @@
-use Rattle.uc_flat_design.proofs.Laws.{step_holds}
-use Rattle.uc_flat_design.proofs.steps.Goals as goal
-
-pub returns : goal.returns
-returns c = step_holds

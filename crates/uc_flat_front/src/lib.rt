@@ -1,9 +1,0 @@
-//! A law: an expression over cells says the same where more cells follow.
-#![tactic(auto)]
-
-ghost use Rattle.uc_flat_front.specs.Front.{FrontLaw};
-
-/// An expression that reads the first cells alone, where more cells follow.
-pub fn more_cells()
-    ensures { FrontLaw }
-{}

@@ -1,6 +1,0 @@
-use Rattle.std.proofs.Common.{◌≡◌, ◌++◌}
-use Rattle.uc_flat_init.specs.Init.{kept}
-use Rattle.uc_flat_init.proofs.assigning.keep.Given as goal
-
-abbrev pub invariant-loop-value : goal.invariant-loop-value
-invariant-loop-value l = l.all ++ kept l.cell l.value-iterator.rest.items ≡ kept l.fn.first l.fn.values

@@ -1,4 +1,0 @@
-pub mod CellTypes
-pub mod Zero
-pub mod Init
-pub mod Walk

@@ -1,0 +1,12 @@
+pub mod Conditions
+pub mod Standing
+pub mod Typing
+pub mod Fielded
+pub mod Suiting
+pub mod Laws
+pub mod Zeros
+pub mod Initial
+pub mod Sound
+pub mod Judging
+pub mod Traces
+pub mod Judged

@@ -1,0 +1,4 @@
+pub mod Fits
+pub mod Law
+pub mod FlatRefutationsLaws
+pub mod FlatVerdictsLaws

@@ -1,4 +1,0 @@
-pub mod Cells
-pub mod Constants
-pub mod Sharing
-pub mod Meaning

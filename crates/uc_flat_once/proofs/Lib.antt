@@ -1,4 +1,0 @@
-pub mod After
-pub mod NewCells
-pub mod Adding
-pub mod Shapes

@@ -1,5 +1,0 @@
-use Rattle.std.proofs.Common.{length}
-use Rattle.uc_flat_once.proofs.once.+is_prefix.Given as goal
-
-abbrev pub decreases-is_prefix : goal.decreases-is_prefix
-decreases-is_prefix l = length l.front.now

@@ -1,6 +1,0 @@
-use Rattle.uc_syntax.proofs.Added.{AddedUpTo}
-use Rattle.uc_flat_once.specs.Written.{target_parts}
-use Rattle.uc_flat_once.proofs.written.with_targets.Given as goal
-
-abbrev pub invariant-loop-target : goal.invariant-loop-target
-invariant-loop-target l = AddedUpTo (target_parts l.names) l.targets l.fn.before l.target-index l.all

@@ -1,3 +1,0 @@
-pub mod Once
-pub mod Walk
-pub mod Written

@@ -1,5 +1,0 @@
-use Rattle.uc_flat_sound.proofs.Sound.{own_types_hold}
-use Rattle.uc_flat_sound.proofs.reads_own_types.Goals as goal
-
-pub returns : goal.returns
-returns c = own_types_hold

@@ -1,4 +1,0 @@
-pub mod Declared
-pub mod DeclaredConstants
-pub mod Entered
-pub mod Entries

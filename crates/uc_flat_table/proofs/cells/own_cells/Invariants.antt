@@ -1,7 +1,0 @@
-use Rattle.std.proofs.Common.{[]}
-use Rattle.uc_syntax.proofs.Added.{AddedUpTo}
-use Rattle.uc_flat_table.specs.Cells.{declared_cells}
-use Rattle.uc_flat_table.proofs.cells.own_cells.Given as goal
-
-abbrev pub invariant-loop-decl : goal.invariant-loop-decl
-invariant-loop-decl l = AddedUpTo (declared_cells l.tables l.code) l.decl-items [] l.decl-index l.cells

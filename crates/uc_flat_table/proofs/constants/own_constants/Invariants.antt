@@ -1,7 +1,0 @@
-use Rattle.std.proofs.Common.{[]}
-use Rattle.uc_syntax.proofs.Added.{AddedUpTo}
-use Rattle.uc_flat_table.specs.Cells.{declared_constants}
-use Rattle.uc_flat_table.proofs.constants.own_constants.Given as goal
-
-abbrev pub invariant-loop-decl : goal.invariant-loop-decl
-invariant-loop-decl l = AddedUpTo (declared_constants l.tables l.code) l.decl-items [] l.decl-index l.constants

@@ -1,3 +1,0 @@
-pub mod Cells
-pub mod Table
-pub mod Firsts

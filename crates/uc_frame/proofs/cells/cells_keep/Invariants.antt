@@ -1,8 +1,0 @@
-use Rattle.std.proofs.Common.{List}
-use Rattle.uc_meaning.specs.Steps.{CellPart}
-use Rattle.uc_frame.specs.Sorted.{AreParts}
-use Rattle.uc_frame.proofs.Keeping.{LeftSo}
-use Rattle.uc_frame.proofs.cells.cells_keep.Given as goal
-
-abbrev pub invariant-loop-number : goal.invariant-loop-number
-invariant-loop-number l = (written : List CellPart) → AreParts l.cells l.parts written → LeftSo written l.cells l.old l.new l.number

@@ -1,7 +1,0 @@
-use Rattle.std.proofs.Common.{◌≡◌, drop}
-use Rattle.std.specs.List.{list_any}
-use Rattle.uc_frame.specs.Kept.{lent, is_nil}
-use Rattle.uc_frame.proofs.parts.is_covered.Given as goal
-
-abbrev pub invariant-loop-fields : goal.invariant-loop-fields
-invariant-loop-fields l = list_any is_nil (lent (drop l.fields-index l.written)) ≡ list_any is_nil (lent l.written)

@@ -1,9 +1,0 @@
-use Rattle.std.proofs.Common.{take}
-use Rattle.std.specs.Prelude.{nat_lt}
-use Rattle.uc_gates.specs.Signals.{number}
-use Rattle.uc_gates.specs.Building.{Grows}
-use Rattle.uc_gates.specs.Meanings.{Means}
-use Rattle.uc_gates.proofs.shifting.any.Given as goal
-
-abbrev pub invariant-loop-i : goal.invariant-loop-i
-invariant-loop-i l = Grows l.fn.gates l.gates × Means l.gates (λ v. nat_lt 0 (number v (take l.i l.a))) l.found

@@ -1,8 +1,0 @@
-use Rattle.std.proofs.Common.{◌≡◌, ◌^◌, length, take}
-use Rattle.uc_gates.specs.Signals.{number}
-use Rattle.uc_gates.specs.Shifting.{shifted}
-use Rattle.uc_gates.proofs.Turns.{Turn}
-use Rattle.uc_gates.proofs.shifting.shift_near.Given as goal
-
-abbrev pub invariant-loop-i : goal.invariant-loop-i
-invariant-loop-i l = (l.places ≡ 2 ^ l.i) × Turn l.fn.gates l.gates (length l.a) (λ v. shifted v (length l.a) l.fn.shift (number v l.a) (number v (take l.i l.amount))) l.bits.items

@@ -1,5 +1,0 @@
-pub mod Signals
-pub mod Building
-pub mod Meanings
-pub mod Adding
-pub mod Shifting

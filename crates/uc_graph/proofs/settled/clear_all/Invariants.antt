@@ -1,0 +1,7 @@
+use Rattle.std.proofs.Common.{take}
+use Rattle.uc_graph.specs.Order.{has}
+use Rattle.uc_graph.specs.Settling.{Clears}
+use Rattle.uc_graph.proofs.settled.clear_all.Given as goal
+
+abbrev pub invariant-loop-node : goal.invariant-loop-node
+invariant-loop-node l = Clears (has (take l.node-index l.nodes)) l.fn.flags l.flags

@@ -1,0 +1,9 @@
+pub mod Order
+pub mod NeededFirstSteady
+pub mod Reached
+pub mod Taking
+pub mod Cycles
+pub mod Settling
+pub mod Arranged
+pub mod Places
+pub mod FirstFreeSteady

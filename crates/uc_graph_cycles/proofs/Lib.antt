@@ -1,5 +1,0 @@
-mod Tests
-pub mod Ways
-mod Flags
-mod Reversing
-mod Steps

@@ -1,5 +1,0 @@
-use Rattle.uc_graph_cycles.proofs.Steps.{SettlesTo}
-use Rattle.uc_graph_cycles.proofs.cycles.on_cycles.Given as goal
-
-abbrev pub invariant-loop-node : goal.invariant-loop-node
-invariant-loop-node l = SettlesTo l.graph l.node l.settled

@@ -1,7 +1,0 @@
-use Rattle.std.proofs.Common.{take}
-use Rattle.uc_needed_first.specs.Order.{has}
-use Rattle.uc_graph_cycles.specs.Settling.{Clears}
-use Rattle.uc_graph_cycles.proofs.settled.clear_all.Given as goal
-
-abbrev pub invariant-loop-node : goal.invariant-loop-node
-invariant-loop-node l = Clears (has (take l.node-index l.nodes)) l.fn.flags l.flags

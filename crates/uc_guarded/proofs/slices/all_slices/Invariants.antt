@@ -1,7 +1,0 @@
-use Rattle.std.proofs.Common.{[]}
-use Rattle.uc_syntax.proofs.Added.{AddedUpTo}
-use Rattle.uc_guarded.specs.Slices.{slices}
-use Rattle.uc_guarded.proofs.slices.all_slices.Given as goal
-
-abbrev pub invariant-loop-statement : goal.invariant-loop-statement
-invariant-loop-statement l = AddedUpTo slices l.code [] l.statement-index l.all

@@ -1,5 +1,0 @@
-use Rattle.uc_guarded.proofs.Kept.{AssignedUpTo}
-use Rattle.uc_guarded.proofs.wanted.assigned.Given as goal
-
-abbrev pub invariant-loop-k : goal.invariant-loop-k
-invariant-loop-k l = AssignedUpTo l.wanted l.place l.targets l.sources l.k l.all

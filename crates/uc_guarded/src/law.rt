@@ -1,8 +1,0 @@
-//! The law of slices.
-
-ghost use Rattle.uc_guarded.specs.Laws.{SlicesLaw};
-
-/// The slices of code ask what the code asks.
-pub fn slices_ask()
-    ensures { SlicesLaw }
-{}

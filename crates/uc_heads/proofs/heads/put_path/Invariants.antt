@@ -1,7 +1,0 @@
-use Rattle.std.proofs.Common.{◌≡◌, ◌++◌, take}
-use Rattle.uc_heads.specs.Described.{described}
-use Rattle.uc_heads.specs.Text.{path_text}
-use Rattle.uc_heads.proofs.heads.put_path.Given as goal
-
-abbrev pub invariant-loop-name : goal.invariant-loop-name
-invariant-loop-name l = l.out.items ≡ l.initial.out.items ++ path_text (described l.d) (take l.name-index l.path)

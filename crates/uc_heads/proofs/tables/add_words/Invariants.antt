@@ -1,8 +1,0 @@
-use Rattle.std.proofs.Common.{◌≡◌, ◌++◌, map, take}
-use Rattle.uc_heads.specs.Described.{described}
-use Rattle.uc_heads.specs.Text.{command_text}
-use Rattle.uc_heads.proofs.tables.add_words.Given as goal
-
-abbrev pub invariant-loop-command : goal.invariant-loop-command
-invariant-loop-command l =
-    map (λ w. w.now) l.words.items ≡ map (λ w. w.now) l.initial.words.items ++ map (command_text (described l.d)) (take l.command-index l.commands)

@@ -1,4 +1,0 @@
-pub mod Described
-pub mod Text
-pub mod Tables
-pub mod Named

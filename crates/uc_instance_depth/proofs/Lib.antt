@@ -1,3 +1,0 @@
-pub mod Rounds
-pub mod Nodes
-pub mod JudgedRoots

@@ -1,5 +1,0 @@
-use Rattle.uc_instance_depth.proofs.Nodes.{NoneDeepUpTo}
-use Rattle.uc_instance_depth.proofs.depth.has_deep_module.Given as goal
-
-abbrev pub invariant-loop-module : goal.invariant-loop-module
-invariant-loop-module l = NoneDeepUpTo l.design l.module-items l.module-index

@@ -1,5 +1,0 @@
-use Rattle.uc_instance_depth.proofs.JudgedRoots.{JudgedTo}
-use Rattle.uc_instance_depth.proofs.judged.judged_roots.Given as goal
-
-abbrev pub invariant-loop-number : goal.invariant-loop-number
-invariant-loop-number l = JudgedTo l.design l.number l.flags

@@ -1,5 +1,0 @@
-use Rattle.uc_instance_depth.proofs.Rounds.{AreWays}
-use Rattle.uc_instance_depth.proofs.ways.long_ways.Given as goal
-
-abbrev pub invariant-loop-step : goal.invariant-loop-step
-invariant-loop-step l = AreWays l.graph l.step l.flags

@@ -1,5 +1,0 @@
-use Rattle.uc_instance_depth.proofs.Rounds.{FlaggedUpTo}
-use Rattle.uc_instance_depth.proofs.ways.next_round.Given as goal
-
-abbrev pub invariant-loop-nodes : goal.invariant-loop-nodes
-invariant-loop-nodes l = FlaggedUpTo l.graph l.flags l.past l.nodes-index l.next

@@ -1,4 +1,0 @@
-pub mod Modules
-pub mod Trees
-pub mod Growing
-pub mod PathLaw

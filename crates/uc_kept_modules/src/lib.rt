@@ -1,9 +1,0 @@
-//! A law on designs that keep the static rules.
-#![tactic(auto)]
-
-ghost use Rattle.uc_kept_modules.specs.KeptModules.{RulesKeepModules};
-
-/// A law of the definitions: in a design that keeps the static rules the module of each instance is there.
-pub fn rules_keep_modules()
-    ensures { RulesKeepModules }
-{}

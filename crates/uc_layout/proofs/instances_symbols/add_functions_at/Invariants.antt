@@ -1,0 +1,6 @@
+use Rattle.uc_syntax.proofs.Added.{AddedUpTo}
+use Rattle.uc_layout.specs.InstancesSymbols.{functions_typed}
+use Rattle.uc_layout.proofs.instances_symbols.add_functions_at.Given as goal
+
+abbrev pub invariant-loop-decl : goal.invariant-loop-decl
+invariant-loop-decl l = AddedUpTo (functions_typed l.tables l.code) l.decl-items l.initial.types l.decl-index l.types

@@ -1,5 +1,0 @@
-mod Bounds
-mod Noted
-mod LoopForms
-mod TargetForms
-mod Again

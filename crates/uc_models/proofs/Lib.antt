@@ -1,4 +1,0 @@
-pub mod Giving
-pub mod Setting
-pub mod Reading
-pub mod Fitted

@@ -1,3 +1,0 @@
-pub mod Forms
-mod Turns
-mod PlaceNumbers

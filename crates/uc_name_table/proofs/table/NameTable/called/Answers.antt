@@ -1,7 +1,0 @@
-use Rattle.uc_rules.specs.Names.{as_called}
-use Rattle.uc_name_table.specs.Senses.{called_meant}
-use Rattle.uc_name_table.proofs.FirstEntries.{first_gives}
-use Rattle.uc_name_table.proofs.table.NameTable.called.Goals as goal
-
-pub returns : goal.returns
-returns c = λ ms es held. first_gives called_meant as_called _ es c.args.name _ held.calls c.get.ensures

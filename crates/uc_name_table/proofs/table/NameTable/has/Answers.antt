@@ -1,7 +1,0 @@
-use Rattle.std.proofs.Common.{◌∙◌}
-use Rattle.uc_name_table.specs.Senses.{entry_meant}
-use Rattle.uc_name_table.proofs.FirstEntries.{some_found}
-use Rattle.uc_name_table.proofs.table.NameTable.has.Goals as goal
-
-pub returns : goal.returns
-returns c = λ ms es held. c.is_some.ensures ∙ some_found (entry_meant ms) es c.args.name c.entry.result (c.entry.ensures ms es held)

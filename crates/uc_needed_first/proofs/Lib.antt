@@ -1,3 +1,0 @@
-mod Has
-mod Counts
-mod Steps

@@ -1,6 +1,0 @@
-use Rattle.std.proofs.Common.{◌≡◌, ℕ, ◌<◌, true}
-use Rattle.uc_needed_first.specs.Order.{has}
-use Rattle.uc_needed_first.proofs.order.numbers_below.Given as goal
-
-abbrev pub invariant-loop-number : goal.invariant-loop-number
-invariant-loop-number l = (n : ℕ) → n < l.number → has l.numbers n ≡ true

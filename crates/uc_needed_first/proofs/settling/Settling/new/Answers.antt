@@ -1,5 +1,0 @@
-use Rattle.uc_needed_first.proofs.Steps.{starts}
-use Rattle.uc_needed_first.proofs.settling.Settling.new.Goals as goal
-
-pub returns-clause-steady : goal.returns-clause-steady
-returns-clause-steady c = λ graph pending e h. starts c.args.count _ _ _ _ c.in_ok-flags.ensures c.in_ok-passed.ensures c.new-order.ensures graph pending e h

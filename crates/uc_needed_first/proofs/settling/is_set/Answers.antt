@@ -1,6 +1,0 @@
-use Rattle.std.proofs.Common.{false}
-use Rattle.uc_number_lists.proofs.Places.{index_past}
-use Rattle.uc_needed_first.proofs.settling.is_set.Goals as goal
-
-pub returns-in-None : goal.returns-in-None
-returns-in-None c = index_past c.args.flags.now c.args.node false c.in-None.ensures.value

@@ -1,4 +1,0 @@
-pub mod Firsts
-pub mod NumberForms
-pub mod TypeForms
-pub mod StatementForms

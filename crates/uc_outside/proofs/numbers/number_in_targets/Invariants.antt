@@ -1,7 +1,0 @@
-use Rattle.std.proofs.Common.{◌≡◌, drop}
-use Rattle.uc_meaning.specs.Lookup.{first_some}
-use Rattle.uc_outside.specs.Outside.{number_in_target}
-use Rattle.uc_outside.proofs.numbers.number_in_targets.Given as goal
-
-abbrev pub invariant-loop-target : goal.invariant-loop-target
-invariant-loop-target l = first_some number_in_target (drop l.target-index l.targets) ≡ first_some number_in_target l.targets

@@ -1,4 +1,0 @@
-pub mod Turned
-pub mod Takes
-pub mod Choice
-pub mod Branches

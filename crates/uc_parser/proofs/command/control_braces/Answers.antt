@@ -1,0 +1,14 @@
+use Rattle.std.proofs.Common.{arith, rules}
+use Rattle.uc_grammar.specs.Syntax.{control_braces}
+use Rattle.uc_parse_expressions.specs.Reading.{state}
+use Rattle.uc_parse_expressions.proofs.Here.{one_deeper, none_left}
+use Rattle.uc_parser.proofs.command.control_braces.Goals as goal
+
+pub returns-then-levels-eq0 : goal.returns-then-levels-eq0
+returns-then-levels-eq0 c = rw c.no_level.ensures (none_left c.args.levels control_braces (state c.args.reader.now) c.if-levels-eq0.true)
+
+pub returns-in_err-take : goal.returns-in_err-take
+returns-in_err-take c = rw (one_deeper c.args.levels control_braces (state c.args.reader.now) (omega arith)) (search rules)
+
+pub returns : goal.returns
+returns c = rw (one_deeper c.args.levels control_braces (state c.args.reader.now) (omega arith)) (search rules)

@@ -1,2 +1,0 @@
-pub mod KnownPlaces
-pub mod Overlaps

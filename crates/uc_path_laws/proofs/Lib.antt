@@ -1,3 +1,0 @@
-pub mod SameFaults
-pub mod Tame
-pub mod Walked

@@ -1,6 +1,0 @@
-use Rattle.uc_syntax.proofs.Added.{AddedUpTo}
-use Rattle.uc_prints.specs.Prints.{own_ref}
-use Rattle.uc_prints.proofs.cells.add_refs.Given as goal
-
-abbrev pub invariant-loop-name : goal.invariant-loop-name
-invariant-loop-name l = AddedUpTo (own_ref l.decl) l.names l.initial.refs l.name-index l.refs

@@ -1,5 +1,0 @@
-mod Bools
-mod Members
-mod Takings
-mod Rounds
-pub mod Ways

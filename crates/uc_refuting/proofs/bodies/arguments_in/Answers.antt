@@ -1,6 +1,0 @@
-use Rattle.std.proofs.Common.{length, sym, arith}
-use Rattle.std.proofs.lemmas.List.{take_all}
-use Rattle.uc_refuting.proofs.bodies.arguments_in.Goals as goal
-
-pub returns-else-count-all : goal.returns-else-count-all
-returns-else-count-all c = sym (take_all (length c.args.procedure.now.parameters) c.args.all.now (omega arith))

@@ -1,0 +1,10 @@
+pub mod Lookups
+pub mod WordLemmas
+pub mod NamedForms
+pub mod Forms
+pub mod Steps
+pub mod Opaques
+pub mod Entered
+pub mod Held
+pub mod Listed
+pub mod Constants

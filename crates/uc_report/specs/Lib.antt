@@ -1,0 +1,11 @@
+pub mod Described
+pub mod HeadsText
+pub mod HeadsTables
+pub mod Named
+pub mod Values
+pub mod TraceTables
+pub mod TraceText
+pub mod Reports
+pub mod Verdicts
+pub mod Prints
+pub mod ControlText

@@ -1,7 +1,0 @@
-use Rattle.std.proofs.Common.{ap}
-use Rattle.uc_meaning.specs.Code.{in_scope}
-use Rattle.uc_run_forms.specs.Runs.{running}
-use Rattle.uc_run_forms.proofs.assignment.assigned.Goals as goal
-
-pub returns-clause-value : goal.returns-clause-value
-returns-clause-value c = λ choices. ap (in_scope (running choices c.args.run)) c.in_ok-scope.ensures.value

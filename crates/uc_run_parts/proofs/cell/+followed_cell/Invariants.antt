@@ -1,4 +1,0 @@
-use Rattle.uc_run_parts.proofs.cell.+followed_cell.Given as goal
-
-abbrev pub decreases-followed_cell : goal.decreases-followed_cell
-decreases-followed_cell l = l.below

@@ -1,6 +1,0 @@
-use Rattle.std.proofs.Common.{◌≡◌}
-use Rattle.uc_run_parts.proofs.Naming.{ChangedFrom}
-use Rattle.uc_run_parts.proofs.name.change.Given as goal
-
-abbrev pub invariant-loop-place : goal.invariant-loop-place
-invariant-loop-place l = record { same : l.locals ≡ l.fn.locals; from : ChangedFrom l.locals l.name l.value l.place }

@@ -1,0 +1,7 @@
+use Rattle.std.proofs.Common.{ap}
+use Rattle.uc_meaning.specs.Code.{in_scope}
+use Rattle.uc_runs.specs.Runs.{running}
+use Rattle.uc_runs.proofs.run_forms_local.with_local.Goals as goal
+
+pub returns : goal.returns
+returns c = λ choices. ap (in_scope (running choices c.args.run)) c.in_ok-scope.ensures

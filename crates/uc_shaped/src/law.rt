@@ -1,6 +1,0 @@
-ghost use Rattle.uc_shaped.specs.Law.{SpelledIsShaped};
-
-/// A law of the definitions: the modules that words spell are shaped, nest no deeper than the words, and are printed by these words.
-pub fn spelled_is_shaped()
-    ensures { SpelledIsShaped }
-{}

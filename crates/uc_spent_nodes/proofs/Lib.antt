@@ -1,3 +1,0 @@
-pub mod Spending
-pub mod Ways
-pub mod Levels

@@ -1,6 +1,0 @@
-use Rattle.std.proofs.Common.{◌≡◌, drop}
-use Rattle.uc_states.specs.Fits.{all_fit}
-use Rattle.uc_states.proofs.fitting.all_fit.Given as goal
-
-abbrev pub invariant-loop-place : goal.invariant-loop-place
-invariant-loop-place l = all_fit (drop l.place l.types) (drop l.place l.values) ≡ all_fit l.types l.values

@@ -1,7 +1,0 @@
-use Rattle.uc_step_edges.specs.Edges.{edges_from}
-use Rattle.uc_step_edges.specs.Numbers.{cell_at}
-use Rattle.uc_step_edges.proofs.Growing.{UpTo}
-use Rattle.uc_step_edges.proofs.reads.add_named.Given as goal
-
-abbrev pub invariant-loop-name : goal.invariant-loop-name
-invariant-loop-name l = UpTo (λ k s. edges_from l.from (cell_at l.names s)) l.named l.fn.graph l.name-index l.graph

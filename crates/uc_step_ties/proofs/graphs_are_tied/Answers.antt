@@ -1,5 +1,0 @@
-use Rattle.uc_step_ties.proofs.Tied.{graphs_are_tied}
-use Rattle.uc_step_ties.proofs.graphs_are_tied.Goals as goal
-
-pub returns : goal.returns
-returns c = graphs_are_tied

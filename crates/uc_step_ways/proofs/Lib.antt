@@ -1,3 +1,0 @@
-pub mod Around
-pub mod Visits
-pub mod Reading

@@ -1,5 +1,0 @@
-mod Walked
-mod Forms
-mod Turns
-mod Found
-mod Adding

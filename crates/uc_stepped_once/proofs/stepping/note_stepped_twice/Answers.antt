@@ -1,5 +1,0 @@
-use Rattle.uc_stepped_once.proofs.Found.{all_found}
-use Rattle.uc_stepped_once.proofs.stepping.note_stepped_twice.Goals as goal
-
-pub returns : goal.returns
-returns c = all_found c.args.whole.now _ _ _ _ c.new-seen.ensures c.as_slice.ensures c.in_ok-note_in_declarations.ensures

@@ -1,3 +1,0 @@
-pub mod Replacing
-pub mod Writing
-pub mod Held

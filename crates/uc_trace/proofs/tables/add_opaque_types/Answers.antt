@@ -1,5 +1,0 @@
-use Rattle.uc_trace.proofs.Opaques.{opaque_end}
-use Rattle.uc_trace.proofs.tables.add_opaque_types.Goals as goal
-
-pub returns : goal.returns
-returns c = opaque_end c.args.owner c.args.decls.now c.loop-decl.decl-index c.loop-decl.types.items c.args.types.now.items c.loop-decl-test.false c.loop-decl.invariant

@@ -1,7 +1,0 @@
-use Rattle.uc_instances.specs.Instances.{instance_meant}
-use Rattle.uc_trace_checks.specs.Formulas.{scope_seen, formulas_at}
-use Rattle.uc_trace_checks.proofs.Questions.{LeftFrom}
-use Rattle.uc_trace_checks.proofs.formulas.formulas_hold.Given as goal
-
-abbrev pub invariant-loop-here : goal.invariant-loop-here
-invariant-loop-here l = LeftFrom (λ i. formulas_at l.layout l.kind (scope_seen l.seen) (instance_meant i)) l.instances l.here-index

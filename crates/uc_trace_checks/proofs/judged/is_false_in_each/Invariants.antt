@@ -1,8 +1,0 @@
-use Rattle.uc_meaning.specs.Steps.{scope_of}
-use Rattle.uc_meaning.specs.Runs.{position_at}
-use Rattle.uc_trace_checks.specs.Judged.{falsity_asked}
-use Rattle.uc_trace_checks.proofs.Questions.{LeftFrom}
-use Rattle.uc_trace_checks.proofs.judged.is_false_in_each.Given as goal
-
-abbrev pub invariant-loop-run : goal.invariant-loop-run
-invariant-loop-run l = LeftFrom (λ run. falsity_asked l.layout (scope_of l.interp l.path (position_at l.position run).0) l.formula) l.copies l.run-index

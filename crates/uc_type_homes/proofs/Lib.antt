@@ -1,3 +1,0 @@
-pub mod OwnDeclared
-pub mod OpaquePlaces
-pub mod InOrder

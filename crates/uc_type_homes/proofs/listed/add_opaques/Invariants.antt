@@ -1,6 +1,0 @@
-use Rattle.uc_syntax.proofs.Added.{AddedUpTo}
-use Rattle.uc_type_homes.specs.Opaques.{opaque_at}
-use Rattle.uc_type_homes.proofs.listed.add_opaques.Given as goal
-
-abbrev pub invariant-loop-decl : goal.invariant-loop-decl
-invariant-loop-decl l = AddedUpTo (opaque_at l.code.name) l.decl-items l.initial.types l.decl-index l.types

@@ -1,7 +1,0 @@
-use Rattle.std.proofs.Common.{[]}
-use Rattle.uc_syntax.proofs.Added.{AddedUpTo}
-use Rattle.uc_type_homes.specs.Opaques.{opaques_in}
-use Rattle.uc_type_homes.proofs.listed.opaque_types.Given as goal
-
-abbrev pub invariant-loop-code : goal.invariant-loop-code
-invariant-loop-code l = AddedUpTo opaques_in l.modules [] l.code-index l.types

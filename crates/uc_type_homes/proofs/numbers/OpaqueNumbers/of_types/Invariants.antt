@@ -1,6 +1,0 @@
-use Rattle.std.proofs.Common.{take}
-use Rattle.uc_type_homes.specs.Numbers.{AreNumbered}
-use Rattle.uc_type_homes.proofs.numbers.OpaqueNumbers.of_types.Given as goal
-
-abbrev pub invariant-loop-number : goal.invariant-loop-number
-invariant-loop-number l = AreNumbered l.numbers (take l.number l.types)

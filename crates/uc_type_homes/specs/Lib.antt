@@ -1,4 +1,0 @@
-pub mod OwnTypes
-pub mod Opaques
-pub mod Numbers
-pub mod Homes

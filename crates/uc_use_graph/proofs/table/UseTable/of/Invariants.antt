@@ -1,5 +1,0 @@
-use Rattle.uc_use_graph.proofs.Tabled.{TabledTo}
-use Rattle.uc_use_graph.proofs.table.UseTable.of.Given as goal
-
-abbrev pub invariant-loop-number : goal.invariant-loop-number
-invariant-loop-number l = TabledTo l.tree l.number l.uses l.nodes

@@ -1,2 +1,0 @@
-pub mod RootUses
-pub mod Noted

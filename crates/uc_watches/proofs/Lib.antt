@@ -1,5 +1,0 @@
-pub mod Slots
-pub mod Linking
-pub mod Guarding
-pub mod Adding
-pub mod Fates

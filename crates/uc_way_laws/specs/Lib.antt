@@ -1,4 +1,0 @@
-pub mod AliasLaw
-pub mod WayLaws
-pub mod CycleLaws
-pub mod Names

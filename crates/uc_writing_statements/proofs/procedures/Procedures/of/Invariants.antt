@@ -1,6 +1,0 @@
-use Rattle.std.proofs.Common.{take}
-use Rattle.uc_writing_statements.specs.Procedures.{KnowsProcedures}
-use Rattle.uc_writing_statements.proofs.procedures.Procedures.of.Given as goal
-
-abbrev pub invariant-loop-declaration : goal.invariant-loop-declaration
-invariant-loop-declaration l = KnowsProcedures (take l.declaration-index l.declarations) l.named

@@ -1,5 +1,0 @@
-use Rattle.uc_writing_statements.proofs.Adding.{NextsUpTo}
-use Rattle.uc_writing_statements.proofs.walk.add_declarations.Given as goal
-
-abbrev pub invariant-loop-declaration : goal.invariant-loop-declaration
-invariant-loop-declaration l = NextsUpTo l.procedures.named l.fn.acts l.declarations l.declaration-index l.acts

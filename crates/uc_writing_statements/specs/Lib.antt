@@ -1,3 +1,0 @@
-pub mod Procedures
-pub mod Acts
-pub mod Walks

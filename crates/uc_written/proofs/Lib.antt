@@ -1,9 +1,0 @@
-pub mod Regroup
-pub mod Spelled
-pub mod Types
-pub mod Expressions
-pub mod Lists
-pub mod Labels
-pub mod Statements
-pub mod Declarations
-pub mod Commands

@@ -1,5 +1,0 @@
-use Rattle.uc_written_pairs.proofs.Going.{write_as}
-use Rattle.uc_written_pairs.proofs.leaves.write_name.Goals as goal
-
-pub returns : goal.returns
-returns c = λ place. write_as c.args.names.now c.args.all.now _ place _ _ c.in_ok-part.ensures (c.in_ok-write.ensures place)

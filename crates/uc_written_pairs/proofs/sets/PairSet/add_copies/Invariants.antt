@@ -1,6 +1,0 @@
-use Rattle.std.proofs.Common.{◌∷◌, []}
-use Rattle.uc_written_pairs.proofs.Growing.{Grown}
-use Rattle.uc_written_pairs.proofs.sets.PairSet.add_copies.Given as goal
-
-abbrev pub invariant-loop-pair : goal.invariant-loop-pair
-invariant-loop-pair l = Grown (λ p. p ∷ []) l.pairs l.fn.self l.pair-index l.self

@@ -1,4 +1,0 @@
-use Rattle.uc_written_pairs.proofs.written.WrittenPairs.write.Goals as goal
-
-pub returns : goal.returns
-returns c = λ place. c.in_ok-then_all.ensures c.args.names.now _ (c.in_ok-one.ensures place)
