@@ -208,8 +208,10 @@ fn outcome_of(
                 used,
             },
         ) => match eval_expr(alloc, layout, &scope, formula) {
-            Ok(Value::Bool(holds)) => Ends(holds, violated.len(), used),
-            Ok(_) => NotTruth,
+            Ok(value) => match truth_of(&value) {
+                Some(holds) => Ends(holds, violated.len(), used),
+                None => NotTruth,
+            },
             Err(_) => NoMemory,
         },
         Ok(CodeEnd::Stopped) => Stopped,
@@ -248,4 +250,12 @@ fn code_ends_as_it_says(rt: HostRuntime) -> Result<(), Fail> {
         assert_eq!(rt; found, expected, "{code:?}");
     }
     Ok(())
+}
+
+/// The truth that a value is.
+pub(crate) fn truth_of(value: &Value) -> Option<bool> {
+    match value {
+        Value::Bool(truth) => Some(*truth),
+        _ => None,
+    }
 }

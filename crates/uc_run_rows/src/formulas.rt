@@ -1,3 +1,4 @@
+use crate::code::truth_of;
 use crate::layout::layout_of;
 use Answer::{False, Leaves, NoMemory, NotRead, NotTruth, True};
 use std::alloc::{AllocError, Global};
@@ -119,9 +120,11 @@ pub(crate) fn judged(alloc: Global, scope: &Scope, text: &[u8]) -> Result<Answer
     for declaration in main.decls.as_slice() {
         if let Decl::Invariant(_, _, formula) = declaration {
             let answer = match eval_expr(alloc, &layout, scope, formula) {
-                Ok(Value::Bool(true)) => True,
-                Ok(Value::Bool(false)) => False,
-                Ok(_) => NotTruth,
+                Ok(value) => match truth_of(&value) {
+                    Some(true) => True,
+                    Some(false) => False,
+                    None => NotTruth,
+                },
                 Err(EvalError::Wide(wide)) => Leaves(wide.op),
                 Err(EvalError::NoMemory) => NoMemory,
             };
