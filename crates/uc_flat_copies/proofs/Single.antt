@@ -1,6 +1,6 @@
 -- Lines of one copy: the copy is the model itself, so the line is refuted in it where the model refutes it.
 use Rattle.std.proofs.Common.{◌≡◌, ℕ, ◌+◌, ◌*◌, ◌≤◌, List, [], ◌∷◌, ◌++◌, length, take, drop, refl, sym, ap, ◌∙◌, subst, arith, zero, suc, append-nil, All}
-use Rattle.std.specs.Prelude.{Bool as Truth, true, false, ◌&&◌, ◌||◌, not, nat_eq, if◌then◌else◌, filter}
+use Rattle.std.specs.Prelude.{Bool as Truth, true, false, ◌&&◌, not, nat_eq, if◌then◌else◌}
 use Rattle.std.specs.List.{list_all, flat_map}
 use Rattle.std.proofs.lemmas.List.Elements.{All-nil, All-filter}
 use Rattle.uc_values.specs.declared.value.Value.{Value}
@@ -17,7 +17,7 @@ use Rattle.uc_flat_copies.specs.declared.trace.Start.TheVariants.{Initially, Any
 use Rattle.uc_flat_copies.specs.Traces.{asks, ask_all, RefutesCopies}
 use Rattle.uc_flat_copies.specs.Places.{read_by, place, reads_up_to, read_from, copies_of, cells_of, all_below, is_refuted_in, is_refuted_by}
 use Rattle.uc_flat_copies.specs.Laws.{IsLineOf, ArePlaces, AllPlaces, none, one}
-use Rattle.uc_flat_copies.specs.Lines.{supposed, before_of, line_over, supposed_below, is_refuted_at}
+use Rattle.uc_flat_copies.specs.Lines.{is_supposed, before_of, line_over, supposed_below, is_refuted_at}
 use Rattle.uc_flat_copies.proofs.Finding.{found}
 use Rattle.uc_flat_copies.proofs.Running.{refutes}
 
@@ -88,7 +88,7 @@ by_alone f start width n x m c =
 
 before_fine : (f : Flat) (start : Start) (n : ℕ) → IsSound f → All (IsFormula f) (before_of f start n)
 before_fine f Initially n s = All-nil (IsFormula f)
-before_fine f Anywhere n s = All-filter (λ x. nat_eq x.copies 1 || nat_eq x.copies n) (IsFormula f) f.formulas s.formulas
+before_fine f Anywhere n s = All-filter (is_supposed n) (IsFormula f) f.formulas s.formulas
 
 line_fine : (f : Flat) (start : Start) (n : ℕ) (x : Formula) → IsSound f → IsFormula f x → IsLineOf f (line_over f start n x)
 line_fine f start n x s h = record { before = before_fine f start x.copies s; throughout = All-nil (IsFormula f); subject = h }

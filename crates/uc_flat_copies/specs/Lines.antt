@@ -11,8 +11,11 @@ use Rattle.uc_flat_copies.specs.Traces.{CopyLine, formula}
 use Rattle.uc_flat_copies.specs.Places.{place, all_below}
 
 -- the formulas that a line of so many copies from any state assumes before its last position: those of one copy, and those of all its copies together
+abbrev pub is_supposed : ℕ → Formula → Bool
+is_supposed n x = nat_eq x.copies 1 || nat_eq x.copies n
+
 abbrev pub supposed : Flat → ℕ → List Formula
-supposed f n = filter (λ x. nat_eq x.copies 1 || nat_eq x.copies n) f.formulas
+supposed f n = filter (is_supposed n) f.formulas
 
 -- a line from an initial state assumes nothing
 abbrev pub before_of : Flat → Start → ℕ → List Formula
