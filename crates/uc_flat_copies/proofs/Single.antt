@@ -45,14 +45,14 @@ and_true_right true = refl
 and_true_right false = refl
 
 -- a formula is asked of the one copy, whatever number of copies it speaks of
-asks_one : (f : Flat) (m : Model) (cells : List Value) (x : Formula) → asks f m (cells ∷ []) x ≡ holds_in f x m cells
+pub asks_one : (f : Flat) (m : Model) (cells : List Value) (x : Formula) → asks f m (cells ∷ []) x ≡ holds_in f x m cells
 asks_one f m cells x = by_test (nat_eq x.copies 1)
   where
     by_test : (b : Truth) → (if b then list_all (holds_in f x m) (cells ∷ []) else holds_in f x m (flat_map (λ vs. vs) (cells ∷ []))) ≡ holds_in f x m cells
     by_test true = and_true_right (holds_in f x m cells)
     by_test false = ap (holds_in f x m) (append-nil cells)
 
-ask_all_one : (f : Flat) (m : Model) (cells : List Value) (xs : List Formula) → ask_all f m (cells ∷ []) xs ≡ list_all (λ x. holds_in f x m cells) xs
+pub ask_all_one : (f : Flat) (m : Model) (cells : List Value) (xs : List Formula) → ask_all f m (cells ∷ []) xs ≡ list_all (λ x. holds_in f x m cells) xs
 ask_all_one f m cells [] = refl
 ask_all_one f m cells (x ∷ xs) = λ i. asks_one f m cells x i && ask_all_one f m cells xs i
 
