@@ -139,8 +139,8 @@ pub(crate) fn refuted_term(
 {
     let condition = sym_formula(terms, alloc, f, k, from_ref(last))?;
     let fails = negated(terms, alloc, condition)?;
-    let open = both(terms, alloc, assumed, fails)?;
-    let broken = both(terms, alloc, last.path, open)?;
+    let unmet = both(terms, alloc, assumed, fails)?;
+    let broken = both(terms, alloc, last.path, unmet)?;
     let all = both(terms, alloc, axioms, broken)?;
     Ok(all)
 }

@@ -305,15 +305,15 @@ both_there old a b path fails v p g q =
     let h = truth_grows old b path (grows_on old a b g q.grown) p in
     ((h.there, q.there), (h.typed, q.typed))
 
-pub refuted_is : (old a b c d new : List Node) (f : Flat) (x : Formula) (axioms assumed truth fails open broken all : ℕ) (s : SymState) (cells : List ℕ)
+pub refuted_is : (old a b c d new : List Node) (f : Flat) (x : Formula) (axioms assumed truth fails unmet broken all : ℕ) (s : SymState) (cells : List ℕ)
     → IsTruth old axioms → IsTruth old assumed → IsSeen old (cell_types f) s → cells ≡ s.cells
     → IsTerm old a truth Bool (λ m. formula_in f x m (map (value m old) cells))
     → IsTerm a b fails Bool (λ m. Boolean (not (truth_of (value m a truth))))
-    → IsTerm b c open Bool (λ m. Boolean (truth_of (value m b assumed) && truth_of (value m b fails)))
-    → IsTerm c d broken Bool (λ m. Boolean (truth_of (value m c s.path) && truth_of (value m c open)))
+    → IsTerm b c unmet Bool (λ m. Boolean (truth_of (value m b assumed) && truth_of (value m b fails)))
+    → IsTerm c d broken Bool (λ m. Boolean (truth_of (value m c s.path) && truth_of (value m c unmet)))
     → IsTerm d new all Bool (λ m. Boolean (truth_of (value m d axioms) && truth_of (value m d broken)))
     → IsTerm old new all Bool (λ m. Boolean (holds m old axioms && (holds m old s.path && (holds m old assumed && not (holds_in f x m (map (value m old) s.cells))))))
-refuted_is old a b c d new f x axioms assumed truth fails open broken all s cells h z g i p q o r t =
+refuted_is old a b c d new f x axioms assumed truth fails unmet broken all s cells h z g i p q o r t =
     let ob = grows_on old a b p.grown q.grown in
     let oc = grows_on old b c ob o.grown in
     let od = grows_on old c d oc r.grown in
@@ -325,7 +325,7 @@ refuted_is old a b c d new f x axioms assumed truth fails open broken all s cell
           t.means m
           ∙ ap (λ v. Boolean (truth_of v && truth_of (value m d broken))) (grows_value old d od m axioms h.there)
           ∙ ap (λ v. Boolean (holds m old axioms && truth_of v)) (r.means m)
-          ∙ ap (λ v. Boolean (holds m old axioms && (truth_of v && truth_of (value m c open)))) (grows_value old c oc m s.path g.path.there)
+          ∙ ap (λ v. Boolean (holds m old axioms && (truth_of v && truth_of (value m c unmet)))) (grows_value old c oc m s.path g.path.there)
           ∙ ap (λ v. Boolean (holds m old axioms && (holds m old s.path && truth_of v))) (o.means m)
           ∙ ap (λ v. Boolean (holds m old axioms && (holds m old s.path && (truth_of v && truth_of (value m b fails))))) (grows_value old b ob m assumed z.there)
           ∙ ap (λ v. Boolean (holds m old axioms && (holds m old s.path && (holds m old assumed && truth_of v)))) (q.means m)
