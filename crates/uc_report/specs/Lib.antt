@@ -9,3 +9,4 @@ pub mod Reports
 pub mod Verdicts
 pub mod Prints
 pub mod ControlText
+pub mod ControlRules
