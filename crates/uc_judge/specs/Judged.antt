@@ -1,5 +1,5 @@
 -- The commands whose lines are judged, and what is right of judged lines.
-use Rattle.std.specs.Prelude.{◌≡◌, ℕ, suc, ◌+◌, ◌*◌, ◌≤◌, ◌^◌, if◌then◌else◌, List, [], ◌∷◌, ◌++◌, map, length, take, slice_get, Some}
+use Rattle.std.specs.Prelude.{◌≡◌, ℕ, suc, ◌+◌, ◌*◌, ◌≤◌, ◌^◌, if◌then◌else◌, List, [], ◌∷◌, ◌++◌, map, length, take, slice_get, unwrap_or, Some}
 use Rattle.std.specs.List.{list_any, All}
 use Rattle.uc_syntax.specs.declared.declaration.Command.{Command}
 use Rattle.uc_syntax.specs.declared.declaration.Module.{Module}
@@ -26,6 +26,10 @@ lines_in system n (c ∷ cs) = command_lines system n c ++ lines_in system (n + 
 pub record AreCounts (system : System) (commands : List Command) (n : ℕ) (counts : List ℕ) : Type 0 where
   pub sized : length counts ≡ n + 1
   pub each : (k : ℕ) → k ≤ n → slice_get counts k ≡ Some (length (lines_in system 0 (take k commands)))
+
+-- how many stand in front of the command of a number, 0 where that is not known
+abbrev pub count_at : List ℕ → ℕ → ℕ
+count_at counts n = unwrap_or (slice_get counts n) 0
 
 -- These lines are judged, in order, each with its command and a right verdict. Each one that is undecided by its budget spent it, and none spent more: before and after count the entries that were spent in all.
 pub record AreJudged (system : System) (budget before after : ℕ) (lines : List Line) (ls : List LineResult) : Type 0 where

@@ -6,7 +6,7 @@ ghost use Rattle.uc_meaning.specs.Lines.{commands_of, all_lines};
 ghost use Rattle.uc_runnable.specs.Commands.{are_own_paths, runs};
 ghost use Rattle.uc_report.specs.declared.report.Print.TheVariants.{Cex};
 ghost use Rattle.uc_report.specs.Prints.{failed_lines, cells_shown, prints_of};
-ghost use Rattle.uc_judge.specs.Judged.{followed, AreCounts};
+ghost use Rattle.uc_judge.specs.Judged.{followed, AreCounts, count_at};
 ghost use Rattle.uc_judge.specs.Prints.{first_after, end_after, printed};
 
 use crate::cells::shown_refs;
