@@ -10,3 +10,4 @@ pub mod Verdicts
 pub mod Prints
 pub mod ControlText
 pub mod ControlRules
+pub mod ControlRulesParts
