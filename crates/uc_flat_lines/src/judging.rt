@@ -33,7 +33,7 @@ pub fn judge_flat<M: Meter>(
     requires own { ReadsOwnTypes f.now }
     requires valid { AllValid (constant_types f.now) }
     requires some { 1 ≤ budget }
-    requires total { M.total meter.old < 2 ^ 126 }
+    requires total { M.total meter.old < 2 ^ 126 + 2 ^ 97 }
     ensures judged { IfOk result (AreFlatJudged f.now budget (M.total meter.old) (M.total meter.new) (lines_below f.now (depth + 1))) }
     ensures later { M.total meter.old ≤ M.total meter.new }
 {
@@ -67,7 +67,7 @@ fn judge_step<M: Meter>(
     requires valid { AllValid (constant_types f.now) }
     requires unrolled { IsUnrolled f.now terms.old steps run.now }
     requires some { 1 ≤ budget }
-    requires total { M.total meter.old < 2 ^ 126 + 2 ^ 97 }
+    requires total { M.total meter.old < 2 ^ 126 + 2 ^ 98 }
     ensures judged { IfOk result (AreFlatJudged f.now budget (M.total meter.old) (M.total meter.new) (step_lines f.now steps)) }
     ensures later { M.total meter.old ≤ M.total meter.new }
     ensures grown { Grows terms.old terms.new }

@@ -3,7 +3,7 @@ use Rattle.std.proofs.Common.{◌≡◌, ℕ, ◌+◌, ◌*◌, ◌<◌, ◌≤�
 use Rattle.std.specs.Prelude.{cond, count_by}
 use Rattle.std.specs.List.{All}
 use Rattle.std.proofs.Math.Nat.{mul-add}
-use Rattle.std.proofs.lemmas.List.{map-append}
+use Rattle.std.proofs.lemmas.List.{map-append, length-map}
 use Rattle.std.proofs.lemmas.List.Sums.{sum_by-append}
 use Rattle.std.proofs.lemmas.List.Elements.{All-nil, All-append}
 use Rattle.uc_syntax.specs.declared.declaration.Command.{Command}
@@ -66,3 +66,7 @@ commands_more system budget a b c commands k own command ls ms all h g is number
     judged_as system budget a c (lines_in system 0 (take k commands) ++ command_lines system k command) (lines_in system 0 (take (k + 1) commands)) all (sym (lines_more system commands k command within at))
     (both_judged system budget a b c (lines_in system 0 (take k commands)) (command_lines system k command) ls ms all h
     (judged_as system budget b c (command_lines system own command) (command_lines system k command) ms (ap (λ n. command_lines system n command) number) g) is)
+
+-- how many lines are judged
+pub counted : (system : System) (budget a b n : ℕ) (lines : List Line) (ls : List LineResult) → AreJudged system budget a b lines ls → n ≡ length ls → n ≡ length lines
+counted system budget a b n lines ls h long = long ∙ sym (length-map ls (λ (l : LineResult). l.line)) ∙ ap length h.are
