@@ -46,14 +46,14 @@ honest_as f budget n (Failed t) h = tt
 honest_as f budget n (Undef Budget) h = (refl, h)
 honest_as f budget n (Undef Memory) h = tt
 
-each_honest : (f : Flat) (budget : ℕ) (ls : List FlatLine) → All (IsHonestFlat f budget) ls → All (IsHonestLine f budget) (map (line_as f budget) ls)
-each_honest f budget [] h = All-nil (IsHonestLine f budget)
-each_honest f budget (l ∷ ls) h =
-    All-cons (IsHonestLine f budget) (line_as f budget l) (map (line_as f budget) ls)
+each_honest : (f : Flat) (command budget : ℕ) (ls : List FlatLine) → All (IsHonestFlat f budget) ls → All (IsHonestLine f budget) (map (line_as f command budget) ls)
+each_honest f command budget [] h = All-nil (IsHonestLine f budget)
+each_honest f command budget (l ∷ ls) h =
+    All-cons (IsHonestLine f budget) (line_as f command budget l) (map (line_as f command budget) ls)
     (honest_as f budget l.steps l.verdict (All-head (IsHonestFlat f budget) l ls h))
-    (each_honest f budget ls (All-tail (IsHonestFlat f budget) l ls h))
+    (each_honest f command budget ls (All-tail (IsHonestFlat f budget) l ls h))
 
-pub honest_are : (system : System) (code : Module) (f : Flat) (budget before after n : ℕ) (ls : List FlatLine) → IsFlatOf system code f → AreFlatJudged f budget before after (lines_below f n) ls
-    → (other : Module) (g : Flat) → IsFlatOf system other g → All (IsHonestLine g budget) (map (line_as f budget) ls)
-honest_are system code f budget before after n ls d j other g e =
-    subst (λ h. All (IsHonestLine h budget) (map (line_as f budget) ls)) (one_flat system code other f g d e) (each_honest f budget ls j.honest)
+pub honest_are : (system : System) (code : Module) (f : Flat) (command budget before after n : ℕ) (ls : List FlatLine) → IsFlatOf system code f → AreFlatJudged f budget before after (lines_below f n) ls
+    → (other : Module) (g : Flat) → IsFlatOf system other g → All (IsHonestLine g budget) (map (line_as f command budget) ls)
+honest_are system code f command budget before after n ls d j other g e =
+    subst (λ h. All (IsHonestLine h budget) (map (line_as f command budget) ls)) (one_flat system code other f g d e) (each_honest f command budget ls j.honest)

@@ -1,8 +1,9 @@
 -- Judged lines over cells are right lines of the report.
 use Rattle.std.proofs.Common.{◌≡◌, ℕ, zero, suc, ◌+◌, ◌*◌, ◌≤◌, List, [], ◌∷◌, ◌++◌, map, length, Bool, true, false, refl, sym, ap, ◌∙◌, subst, Option, Some, None, arith}
-use Rattle.std.specs.Prelude.{cond, count_by, slice_get, nat_eq}
+use Rattle.std.specs.Prelude.{◌^◌, cond, count_by, slice_get, nat_eq}
 use Rattle.std.specs.List.{All}
 use Rattle.std.proofs.lemmas.Bool.Decides.{nat_tests}
+use Rattle.std.proofs.lemmas.List.{length-map}
 use Rattle.std.proofs.lemmas.List.Sums.{sum_by-append}
 use Rattle.std.proofs.lemmas.List.Elements.{All-nil, All-cons, All-head, All-tail, All-append, All-map}
 use Rattle.uc_syntax.specs.declared.declaration.Module.{Module}
@@ -23,7 +24,10 @@ use Rattle.uc_flat_laws.specs.FlatVerdictsLaws.{design_line, IsRightOf}
 use Rattle.uc_flat_laws.proofs.Judged.{order_holds, verdict_holds}
 use Rattle.uc_report.specs.declared.report.LineResult.{LineResult}
 use Rattle.uc_report.specs.Verdicts.{IsRightVerdict, is_out_of_budget, out_of_budget}
+use Rattle.uc_runnable.specs.Runnable.{RunsOver}
 use Rattle.uc_judge.specs.Lines.{verdict_as, line_as}
+use Rattle.uc_judge.specs.Judged.{AreJudged}
+use Rattle.uc_judge.proofs.Honest.{honest_are}
 
 from_map : {A B : Type 0} (P : B → Type 0) (g : A → B) (xs : List A) → All P (map g xs) → All (λ x. P (g x)) xs
 from_map P g [] h = All-nil (λ x. P (g x))
@@ -73,21 +77,21 @@ lines_there f (suc n) = All-append (IsOne f) (lines_below f n) (step_lines f n) 
 
 -- ---- the lines of the report
 
-same_lines : (f : Flat) (budget : ℕ) (ls : List FlatLine) → map (λ l. l.line) (map (line_as f budget) ls) ≡ map (design_line f 0) (map (λ l. (l.steps, l.formula)) ls)
-same_lines f budget [] = refl
-same_lines f budget (l ∷ ls) = ap (λ xs. design_line f 0 (l.steps, l.formula) ∷ xs) (same_lines f budget ls)
+same_lines : (f : Flat) (command budget : ℕ) (ls : List FlatLine) → map (λ l. l.line) (map (line_as f command budget) ls) ≡ map (design_line f command) (map (λ l. (l.steps, l.formula)) ls)
+same_lines f command budget [] = refl
+same_lines f command budget (l ∷ ls) = ap (λ xs. design_line f command (l.steps, l.formula) ∷ xs) (same_lines f command budget ls)
 
-pub lines_are : (system : System) (code : Module) (f : Flat) (budget before after n : ℕ) (ls : List FlatLine) → IsFlatOf system code f → AreFlatJudged f budget before after (lines_below f n) ls
-    → map (λ l. l.line) (map (line_as f budget) ls) ≡ lines_from system 0 Exactly 0 n
-lines_are system code f budget before after n ls d j =
-    same_lines f budget ls ∙ ap (map (design_line f 0)) j.are ∙ sym (order_holds system code f 0 n d)
+lines_are : (system : System) (code : Module) (f : Flat) (command budget before after n : ℕ) (ls : List FlatLine) → IsFlatOf system code f → AreFlatJudged f budget before after (lines_below f n) ls
+    → map (λ l. l.line) (map (line_as f command budget) ls) ≡ lines_from system command Exactly 0 n
+lines_are system code f command budget before after n ls d j =
+    same_lines f command budget ls ∙ ap (map (design_line f command)) j.are ∙ sym (order_holds system code f command n d)
 
 abbrev OwnCommand : LineResult → Type 0
 OwnCommand l = l.command ≡ l.line.command
 
-pub commands_are : (f : Flat) (budget : ℕ) (ls : List FlatLine) → All OwnCommand (map (line_as f budget) ls)
-commands_are f budget [] = All-nil OwnCommand
-commands_are f budget (l ∷ ls) = All-cons OwnCommand (line_as f budget l) (map (line_as f budget) ls) refl (commands_are f budget ls)
+commands_are : (f : Flat) (command budget : ℕ) (ls : List FlatLine) → All OwnCommand (map (line_as f command budget) ls)
+commands_are f command budget [] = All-nil OwnCommand
+commands_are f command budget (l ∷ ls) = All-cons OwnCommand (line_as f command budget l) (map (line_as f command budget) ls) refl (commands_are f command budget ls)
 
 abbrev RightLine : System → LineResult → Type 0
 RightLine system l = IsRightVerdict system l.line l.verdict
@@ -97,12 +101,12 @@ right_as system budget line Passed h = h
 right_as system budget line (Failed t) h = h
 right_as system budget line (Undef why) h = tt
 
-pub verdicts_are : (system : System) (code : Module) (f : Flat) (budget before after n : ℕ) (ls : List FlatLine) → IsFlatOf system code f → AreFlatJudged f budget before after (lines_below f n) ls
-    → All (RightLine system) (map (line_as f budget) ls)
-verdicts_are system code f budget before after n ls d j =
-    All-map (RightLine system) (line_as f budget) ls
-    (weaker (λ l. IsThere f l.formula × IsRightLine f l) (λ l. RightLine system (line_as f budget l)) ls
-    (λ l h. right_as system budget (design_line f 0 (l.steps, l.formula)) l.verdict (verdict_holds system code f 0 l h.0.0 d h.0.1 h.0.2 h.1))
+verdicts_are : (system : System) (code : Module) (f : Flat) (command budget before after n : ℕ) (ls : List FlatLine) → IsFlatOf system code f → AreFlatJudged f budget before after (lines_below f n) ls
+    → All (RightLine system) (map (line_as f command budget) ls)
+verdicts_are system code f command budget before after n ls d j =
+    All-map (RightLine system) (line_as f command budget) ls
+    (weaker (λ l. IsThere f l.formula × IsRightLine f l) (λ l. RightLine system (line_as f command budget l)) ls
+    (λ l h. right_as system budget (design_line f command (l.steps, l.formula)) l.verdict (verdict_holds system code f command l h.0.0 d h.0.1 h.0.2 h.1))
     (both (λ l. IsThere f l.formula) (IsRightLine f) ls there j.right))
   where
     there : All (λ (l : FlatLine). IsThere f l.formula) ls
@@ -117,9 +121,22 @@ out_as budget (Undef Memory) = refl
 count_cons : {A : Type 0} (p : A → Bool) (x : A) (xs : List A) → count_by p (x ∷ xs) ≡ 0 + cond (p x) 1 0 + count_by p xs
 count_cons p x xs = sum_by-append (λ y. cond (p y) 1 0) (x ∷ []) xs
 
-pub out_are : (f : Flat) (budget : ℕ) (ls : List FlatLine) → out_of_budget (map (line_as f budget) ls) ≡ count_by (λ l. is_flat_out l.verdict) ls
-out_are f budget [] = refl
-out_are f budget (l ∷ ls) =
-    count_cons (λ (x : LineResult). is_out_of_budget x.verdict) (line_as f budget l) (map (line_as f budget) ls)
-    ∙ (λ i. 0 + cond (out_as budget l.verdict i) 1 0 + out_are f budget ls i)
+out_are : (f : Flat) (command budget : ℕ) (ls : List FlatLine) → out_of_budget (map (line_as f command budget) ls) ≡ count_by (λ l. is_flat_out l.verdict) ls
+out_are f command budget [] = refl
+out_are f command budget (l ∷ ls) =
+    count_cons (λ (x : LineResult). is_out_of_budget x.verdict) (line_as f command budget l) (map (line_as f command budget) ls)
+    ∙ (λ i. 0 + cond (out_as budget l.verdict i) 1 0 + out_are f command budget ls i)
     ∙ sym (count_cons (λ (x : FlatLine). is_flat_out x.verdict) l ls)
+
+-- the judged lines of an unrolling are those of its command
+pub unrolling_judged : (system : System) (f : Flat) (command budget before after depth : ℕ) (js : List FlatLine) (ls : List LineResult) → RunsOver system f → AreFlatJudged f budget before after (lines_below f (depth + 1)) js
+    → ls ≡ map (line_as f command budget) js → AreJudged system budget before after (lines_from system command Exactly 0 (depth + 1)) ls
+unrolling_judged system f command budget before after depth js ls r j is = subst (AreJudged system budget before after (lines_from system command Exactly 0 (depth + 1))) (sym is) (record {
+  are = lines_are system r.code f command budget before after (depth + 1) js r.is_flat j;
+  commands = commands_are f command budget js;
+  verdicts = verdicts_are system r.code f command budget before after (depth + 1) js r.is_flat j;
+  honest = honest_are system r.code f command budget before after (depth + 1) js r.is_flat j;
+  spent = subst (λ k. before + budget * k ≤ after) (sym (out_are f command budget js)) j.spent;
+  few = subst (λ k. after ≤ before + 2 ^ 32 * k) (sym (length-map js (line_as f command budget))) j.few;
+  within = subst (λ k. after ≤ before + budget * k) (sym (length-map js (line_as f command budget))) j.within;
+})

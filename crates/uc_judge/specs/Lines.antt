@@ -25,6 +25,6 @@ verdict_as budget FlatPassed = Passed
 verdict_as budget (FlatFailed t) = Failed (trace_of t)
 verdict_as budget (FlatUndef why) = Undef (why_as budget why)
 
--- the line of the formula's declaration after so many steps, with its verdict
-abbrev pub line_as : Flat → ℕ → FlatLine → LineResult
-line_as f budget l = record { command = 0; line = design_line f 0 (l.steps, l.formula); verdict = verdict_as budget l.verdict }
+-- the line of the formula's declaration after so many steps, with its verdict, of the command of a number
+abbrev pub line_as : Flat → ℕ → ℕ → FlatLine → LineResult
+line_as f command budget l = record { command = command; line = design_line f command (l.steps, l.formula); verdict = verdict_as budget l.verdict }

@@ -78,16 +78,22 @@ fn decl_of(f: &Flat, number: u32) -> u32
     }
 }
 
-/// A line over cells as one of the report, of the first command.
-fn line_as(alloc: Global, f: &Flat, budget: u64, line: FlatLine) -> Result<LineResult, AllocError>
-    ensures { IfOk result (λ l. l ≡ line_as f.now budget line) }
+/// A line over cells as one of the report, of the command of a number.
+fn line_as(
+    alloc: Global,
+    f: &Flat,
+    command: u32,
+    budget: u64,
+    line: FlatLine,
+) -> Result<LineResult, AllocError>
+    ensures { IfOk result (λ l. l ≡ line_as f.now command budget line) }
 {
     let decl = decl_of(f, line.formula);
     let verdict = verdict_as(alloc, budget, line.verdict)?;
     Ok(LineResult {
-        command: 0,
+        command,
         line: Line {
-            command: 0,
+            command,
             at: At::Exactly(line.steps),
             what: What::Formula {
                 path: Path::main(alloc),
@@ -103,14 +109,15 @@ fn line_as(alloc: Global, f: &Flat, budget: u64, line: FlatLine) -> Result<LineR
 pub(crate) fn lines_as(
     alloc: Global,
     f: &Flat,
+    command: u32,
     budget: u64,
     lines: Items<FlatLine>,
 ) -> Result<Items<LineResult>, AllocError>
-    ensures { IfOk result (λ ls. ls ≡ map (line_as f.now budget) lines) }
+    ensures { IfOk result (λ ls. ls ≡ map (line_as f.now command budget) lines) }
 {
     let mut all = Items::new(alloc);
     for line in lines.into_vec() {
-        let one = line_as(alloc, f, budget, line)?;
+        let one = line_as(alloc, f, command, budget, line)?;
         all.push(one)?;
     }
     Ok(all)
