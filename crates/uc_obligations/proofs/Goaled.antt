@@ -110,6 +110,7 @@ positions_each f start m zero k p h = cc
 positions_each f start m (suc n) k p h = position_is f start m n k p (positions_each f start m n k p) h (nat_le (length (positions f start m n)) k) refl
 
 positions_placed : (f : Flat) (start : Start) (m : Model) (n : ℕ) → ArePlaces f start n m (positions f start m (suc n))
+unfolding position
 positions_placed f start m n = record {
   count = omega (arith, positions_count f start m (suc n));
   each = λ k p at.

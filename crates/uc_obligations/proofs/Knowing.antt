@@ -165,7 +165,7 @@ state_at (y ∷ xs) (suc k) x l q = state_at xs k x (omega (arith, l)) q
 last_known : (f : Flat) (now : List Node) (n : ℕ) (u : Unrolling) (run : List SymState) (s : SymState) → IsUnrolled f now n u → run ≡ u.states → s ≡ get_or run n s → ReadsOwnTypes f → KnowsState (supply_from f u.start n) now s u.fresh.next
 last_known f now n u run s h i j reads = (h.known reads).last s (state_at u.states n s (omega (arith, h.run.states.count)) (j ∙ ap (λ ss. get_or ss n s) i))
 
-known_state_grows : (supply : List Ty) (now new : List Node) (s : SymState) (next : ℕ) → Grows now new → KnowsState supply now s next → KnowsState supply new s next
+pub known_state_grows : (supply : List Ty) (now new : List Node) (s : SymState) (next : ℕ) → Grows now new → KnowsState supply now s next → KnowsState supply new s next
 known_state_grows supply now new s next g a = record { cells = all_known_grow supply now new g s.cells a.cells; path = known_grows supply now new g s.path a.path; next = a.next }
 
 pub advanced_known : (f : Flat) (now mid b c : List Node) (n next assumed : ℕ) (u : Unrolling) (run more : List SymState) (r s t : SymState) → IsUnrolled f now n u → run ≡ u.states → r ≡ get_or run n r → Grows now mid → Grows mid b → Grows b c

@@ -14,13 +14,16 @@ use Rattle.uc_values.specs.declared.value.Value.TheVariants.{Bool as Boolean}
 use Rattle.uc_values.specs.Values.{truth_of}
 use Rattle.uc_ops.specs.declared.model.Model.{Model}
 use Rattle.uc_ops.specs.declared.node.Node.{Node}
+use Rattle.uc_ops.specs.Typing.{type_at}
 use Rattle.uc_ops.proofs.Lists.{at_place}
 use Rattle.uc_terms.specs.Values.{value}
 use Rattle.uc_flat.specs.declared.flat.Flat.{Flat}
 use Rattle.uc_flat.specs.declared.flat.Formula.{Formula}
 use Rattle.uc_flat.specs.Flats.{cell_types}
 use Rattle.uc_flat.specs.Unrolled.{formula_in, holds_in}
-use Rattle.uc_flat_copies.specs.Lines.{is_supposed, supposed}
+use Rattle.uc_flat_copies.specs.declared.trace.Start.{Start}
+use Rattle.uc_flat_copies.specs.declared.trace.Start.TheVariants.{Initially}
+use Rattle.uc_flat_copies.specs.Lines.{is_supposed, supposed, before_of}
 use Rattle.uc_symstep.specs.declared.state.SymState.{SymState}
 use Rattle.uc_symstep.specs.Growing.{Grows, IsTerm}
 use Rattle.uc_symstep.specs.Stands.{holds, IsTruth}
@@ -54,6 +57,10 @@ and_assoc false b c = refl
 -- where nothing is added, the term stays
 pub same_tells : (f : Flat) (nodes : List Node) (t : ℕ) (s : SymState) → IsTruth nodes t → Tells nodes nodes t (λ m. holds m nodes t && all_hold f nodes s [] m)
 same_tells f nodes t s h = record { grown = grows_not nodes nodes refl; truth = h; tells = λ m. sym (and_true_right (holds m nodes t)) }
+
+-- a line from an initial state assumes nothing
+pub not_before : (f : Flat) (start : Start) (nodes : List Node) (t : ℕ) (s : SymState) → start ≡ Initially → IsTruth nodes t → Tells nodes nodes t (λ m. holds m nodes t && all_hold f nodes s (before_of f start 1) m)
+not_before f start nodes t s is h = subst (λ b. Tells nodes nodes t (λ m. holds m nodes t && all_hold f nodes s (before_of f b 1) m)) (sym is) (same_tells f nodes t s h)
 
 take_none : (xs : List Formula) → take 0 xs ≡ []
 take_none [] = refl
@@ -91,8 +98,8 @@ supposed_end f old now t assumed k s l a = subst (λ xs. Tells old now t (λ m. 
 
 -- One formula: it is not assumed where it speaks of another number of copies.
 
-pub one_at : (f : Flat) (k : ℕ) (x y : Formula) (formulas : List Formula) → formulas ≡ f.formulas → x ≡ get_or formulas k x → k < length f.formulas → slice_get f.formulas k ≡ Some y → x ≡ y
-one_at f k x y formulas i j l at = j ∙ ap (λ xs. get_or xs k x) i ∙ get_or_from_slice_get f.formulas k y x at
+one_at : (f : Flat) (k : ℕ) (x y : Formula) (formulas : List Formula) → formulas ≡ f.formulas → slice_get f.formulas k ≡ Some y → get_or formulas k x ≡ y
+one_at f k x y formulas i at = ap (λ xs. get_or xs k x) i ∙ get_or_from_slice_get f.formulas k y x at
 
 none_kept : (b : Truth) (x : Formula) → b ≡ false → cond (b || b) (x ∷ []) [] ≡ []
 none_kept b x e = ap (λ c. cond (c || c) (x ∷ []) []) e
@@ -107,15 +114,15 @@ differs n h = by_test (nat_eq n 1) refl
     by_test true e = absurd (h (grind (arith, nat_tests, e)))
     by_test false e = refl
 
-pub not_supposed : (f : Flat) (nodes : List Node) (k t : ℕ) (s : SymState) (x : Formula) (formulas : List Formula) → IsTruth nodes t → formulas ≡ f.formulas → x ≡ get_or formulas k x → k < length f.formulas → (x.copies ≡ 1 → ⊥)
+pub not_supposed : (f : Flat) (nodes : List Node) (k t : ℕ) (s : SymState) (x : Formula) (formulas : List Formula) → IsTruth nodes t → formulas ≡ f.formulas → ((get_or formulas k x).copies ≡ 1 → ⊥)
     → (y : Formula) → slice_get f.formulas k ≡ Some y → SupposedOne f nodes nodes t t s y
-not_supposed f nodes k t s x formulas h i j l no y at =
-    let e : x ≡ y = one_at f k x y formulas i j l at in
-    let none : filter (is_supposed 1) (y ∷ []) ≡ [] = none_kept (nat_eq y.copies 1) y (ap (λ (z : Formula). nat_eq z.copies 1) (sym e) ∙ differs x.copies no) in
+not_supposed f nodes k t s x formulas h i other y at =
+    let e : get_or formulas k x ≡ y = one_at f k x y formulas i at in
+    let none : filter (is_supposed 1) (y ∷ []) ≡ [] = none_kept (nat_eq y.copies 1) y (ap (λ (z : Formula). nat_eq z.copies 1) (sym e) ∙ differs (get_or formulas k x).copies other) in
     subst (λ xs. Tells nodes nodes t (λ m. holds m nodes t && all_hold f nodes s xs m)) (sym none) (same_tells f nodes t s h)
 
-pub one_copy : (f : Flat) (k : ℕ) (x : Formula) (formulas : List Formula) → formulas ≡ f.formulas → x ≡ get_or formulas k x → k < length f.formulas → x.copies ≡ 1 → (y : Formula) → slice_get f.formulas k ≡ Some y → y.copies ≡ 1
-one_copy f k x formulas i j l c y at = ap (λ (z : Formula). z.copies) (sym (one_at f k x y formulas i j l at)) ∙ c
+pub one_copy : (f : Flat) (k : ℕ) (x : Formula) (formulas : List Formula) → formulas ≡ f.formulas → (get_or formulas k x).copies ≡ 1 → (y : Formula) → slice_get f.formulas k ≡ Some y → y.copies ≡ 1
+one_copy f k x formulas i c y at = ap (λ (z : Formula). z.copies) (sym (one_at f k x y formulas i at)) ∙ c
 
 -- the terms of both are there
 pub both_ready : (f : Flat) (now mid : List Node) (k all one : ℕ) (cells : List ℕ) → k < length f.formulas → IsTruth now all → OfFormula f k now mid one cells

@@ -108,9 +108,10 @@ pub fn advance(
         mut fresh,
     } = run;
     let so_far = states.as_slice();
-    let assumed = more_assumed(terms, alloc, f, start, assumed, &so_far[steps as usize])?;
+    let last = &so_far[steps as usize];
+    let assumed = more_assumed(terms, alloc, f, start, assumed, last)?;
     let before = terms.len();
-    let state = sym_step(terms, alloc, f, &so_far[steps as usize], &mut fresh)?;
+    let state = sym_step(terms, alloc, f, last, &mut fresh)?;
     let state = simpler(terms, alloc, f, before, state)?;
     states.push(state)?;
     Ok(Unrolling {
