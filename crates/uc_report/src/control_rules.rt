@@ -1,6 +1,6 @@
 //! The rules on control blocks, and the first that main breaks.
 
-ghost use Rattle.std.specs.Prelude.{◌≡◌, ◌++◌, [], not, Some, fold, IsOk, IfErr};
+ghost use Rattle.std.specs.Prelude.{◌≡◌, ◌++◌, ◌||◌, [], not, fold, IsOk, IfErr};
 ghost use Rattle.std.specs.List.{list_any, flat_map};
 ghost use Rattle.uc_meaning.specs.Lines.{commands_in, is_check};
 ghost use Rattle.uc_report.specs.declared.control_rules.ControlRule.TheVariants.{NotChecked, UnknownCommand};
@@ -77,11 +77,7 @@ fn first_fault(d: &DesignView<'_>, decls: &[Decl]) -> Option<ControlFault>
 }
 
 /// The first fault of commands behind those of other declarations.
-fn fault_behind(
-    d: &DesignView<'_>,
-    others: &[Decl],
-    commands: &[Command],
-) -> Option<ControlFault>
+fn fault_behind(d: &DesignView<'_>, others: &[Decl], commands: &[Command]) -> Option<ControlFault>
     ensures { result ≡ first_fault (described d.now) (flat_map commands_in others.now) commands.now }
 {
     let mut checked = has_check_in(others);
@@ -90,7 +86,7 @@ fn fault_behind(
         if found.is_some() {
             return found;
         }
-        checked = checked || is_check(&commands[place]);
+        checked = is_checked(checked, &commands[place]);
     }
     None
 }
@@ -172,11 +168,7 @@ fn broken_behind_all(
 }
 
 /// What such a print breaks behind one more command.
-fn broken_behind(
-    name: u32,
-    broken: Option<ControlRule>,
-    command: &Command,
-) -> Option<ControlRule>
+fn broken_behind(name: u32, broken: Option<ControlRule>, command: &Command) -> Option<ControlRule>
     ensures { result ≡ broken_behind name broken command.now }
 {
     match broken {
@@ -217,6 +209,13 @@ fn has_check_in(decls: &[Decl]) -> bool
         }
     }
     false
+}
+
+/// Whether a `check` is among commands and one more.
+fn is_checked(checked: bool, command: &Command) -> bool
+    ensures { result ≡ (checked || is_check command.now) }
+{
+    checked || is_check(command)
 }
 
 fn has_check(commands: &[Command]) -> bool
