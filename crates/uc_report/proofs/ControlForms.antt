@@ -119,6 +119,11 @@ checked_turn before cs k c checked within is so_far =
 
 -- ---- a walk over declarations
 
+-- a `check` among the commands of declarations
+pub any_in : (ds : List Decl) → list_any (λ d. list_any is_check (commands_in d)) ds ≡ list_any is_check (all_in ds)
+any_in [] = refl
+any_in (d ∷ ds) = ap (λ b. list_any is_check (commands_in d) || b) (any_in ds) ∙ sym (list_any-append is_check (commands_in d) (all_in ds))
+
 or_or : (a b c : Option ControlFault) → option_or (option_or a b) c ≡ option_or a (option_or b c)
 or_or None b c = refl
 or_or (Some f) b c = refl

@@ -200,15 +200,11 @@ fn fault_at(place: Place, broken: Option<ControlRule>) -> Option<ControlFault>
 }
 
 /// Whether a `check` is among the commands of declarations.
+#[tactic(auto, using(crate::proofs::ControlForms::any_in))]
 fn has_check_in(decls: &[Decl]) -> bool
     ensures { result ≡ list_any is_check (flat_map commands_in decls.now) }
 {
-    for decl in decls {
-        if has_check(commands_in(decl)) {
-            return true;
-        }
-    }
-    false
+    decls.iter().any(|decl| has_check(commands_in(decl)))
 }
 
 /// Whether a `check` is among commands and one more.
