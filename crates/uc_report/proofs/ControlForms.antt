@@ -119,6 +119,14 @@ checked_turn before cs k c checked within is so_far =
 
 -- ---- a walk over declarations
 
+-- a `check` among the commands of the declarations before the next turn
+pub checked_decls : (ds : List Decl) (k : ℕ) (d : Decl) (checked : Bool) → k < length ds → d ≡ get_or ds k d → checked ≡ list_any is_check (all_in (take k ds)) →
+    (checked || list_any is_check (commands_in d)) ≡ list_any is_check (all_in (take (k + 1) ds))
+checked_decls ds k d checked within is so_far =
+    ap (λ b. b || list_any is_check (commands_in d)) so_far
+    ∙ sym (list_any-append is_check (all_in (take k ds)) (commands_in d))
+    ∙ ap (list_any is_check) (sym (all_turn ds k d within is))
+
 or_or : (a b c : Option ControlFault) → option_or (option_or a b) c ≡ option_or a (option_or b c)
 or_or None b c = refl
 or_or (Some f) b c = refl

@@ -1,6 +1,6 @@
 //! The rules on control blocks, and the first that main breaks.
 
-ghost use Rattle.std.specs.Prelude.{◌≡◌, ◌++◌, [], not, Some, fold, IsOk, IfErr};
+ghost use Rattle.std.specs.Prelude.{◌≡◌, ◌++◌, ◌||◌, [], not, fold, IsOk, IfErr};
 ghost use Rattle.std.specs.List.{list_any, flat_map};
 ghost use Rattle.uc_meaning.specs.Lines.{commands_in, is_check};
 ghost use Rattle.uc_report.specs.declared.control_rules.ControlRule.TheVariants.{NotChecked, UnknownCommand};
@@ -67,30 +67,35 @@ pub fn check_control(d: &DesignView<'_>) -> Result<(), ControlFault>
 fn first_fault(d: &DesignView<'_>, decls: &[Decl]) -> Option<ControlFault>
     ensures { result ≡ first_fault (described d.now) [] (flat_map commands_in decls.now) }
 {
+    let mut checked = false;
     for place in 0..decls.len() {
-        let found = fault_behind(d, &decls[..place], commands_in(&decls[place]));
+        let commands = commands_in(&decls[place]);
+        let found = fault_behind(d, &decls[..place], checked, commands);
         if found.is_some() {
             return found;
         }
+        checked = has_check(checked, commands);
     }
     None
 }
 
-/// The first fault of commands behind those of other declarations.
+/// The first fault of commands behind those of other declarations. `checked` tells whether a `check` is among these.
 fn fault_behind(
     d: &DesignView<'_>,
     others: &[Decl],
+    checked: bool,
     commands: &[Command],
 ) -> Option<ControlFault>
+    requires { checked ≡ list_any is_check (flat_map commands_in others.now) }
     ensures { result ≡ first_fault (described d.now) (flat_map commands_in others.now) commands.now }
 {
-    let mut checked = has_check_in(others);
+    let mut checked = checked;
     for place in 0..commands.len() {
         let found = command_fault(d, others, &commands[..place], checked, &commands[place]);
         if found.is_some() {
             return found;
         }
-        checked = checked || is_check(&commands[place]);
+        checked = is_checked(checked, &commands[place]);
     }
     None
 }
@@ -172,11 +177,7 @@ fn broken_behind_all(
 }
 
 /// What such a print breaks behind one more command.
-fn broken_behind(
-    name: u32,
-    broken: Option<ControlRule>,
-    command: &Command,
-) -> Option<ControlRule>
+fn broken_behind(name: u32, broken: Option<ControlRule>, command: &Command) -> Option<ControlRule>
     ensures { result ≡ broken_behind name broken command.now }
 {
     match broken {
@@ -207,22 +208,18 @@ fn fault_at(place: Place, broken: Option<ControlRule>) -> Option<ControlFault>
     }
 }
 
-/// Whether a `check` is among the commands of declarations.
-fn has_check_in(decls: &[Decl]) -> bool
-    ensures { result ≡ list_any is_check (flat_map commands_in decls.now) }
+/// Whether a `check` is among commands and one more.
+fn is_checked(checked: bool, command: &Command) -> bool
+    ensures { result ≡ (checked || is_check command.now) }
 {
-    for decl in decls {
-        if has_check(commands_in(decl)) {
-            return true;
-        }
-    }
-    false
+    checked || is_check(command)
 }
 
-fn has_check(commands: &[Command]) -> bool
-    ensures { result ≡ list_any is_check commands.now }
+/// Whether a `check` is among commands and some more.
+fn has_check(checked: bool, commands: &[Command]) -> bool
+    ensures { result ≡ (checked || list_any is_check commands.now) }
 {
-    commands.iter().any(is_check)
+    checked || commands.iter().any(is_check)
 }
 
 fn has_procedure(decls: &[Decl], name: u32) -> bool
