@@ -1,10 +1,10 @@
 -- Walks over commands, and over those of declarations.
 use Rattle.std.proofs.Common.{◌≡◌, ℕ, ◌+◌, ◌<◌, ◌≤◌, Bool, true, false, not, ◌||◌, List, [], ◌∷◌, ◌++◌, take, drop, length, get_or, fold, Option, Some, None, refl, sym, ap, ◌∙◌}
 use Rattle.std.specs.Prelude.{if◌then◌else◌}
-use Rattle.std.specs.Option.{option_or}
+use Rattle.std.specs.Option.{option_or, is_some}
 use Rattle.std.specs.List.{list_any, flat_map}
 use Rattle.std.proofs.lemmas.Grind.{flat_map-append}
-use Rattle.std.proofs.lemmas.List.{take_more, drop_all, append-nil, append_assoc}
+use Rattle.std.proofs.lemmas.List.{take_more, take_all, drop_all, append-nil, append_assoc}
 use Rattle.std.proofs.lemmas.List.Sums.{fold-append}
 use Rattle.std.proofs.lemmas.List.Folds.{fold_stays, list_any-append}
 use Rattle.uc_syntax.specs.declared.declaration.Command.{Command}
@@ -54,20 +54,11 @@ behind_all x (c ∷ cs) = by_test (is_run_named x c) (behind_all x cs)
     by_test true more = behind_named x cs
     by_test false more = more
 
-pub named_turn : (x : ℕ) (ds : List Decl) (k : ℕ) (d : Decl) (broken after : Option ControlRule) → k < length ds → d ≡ get_or ds k d →
-    broken ≡ fold (broken_behind x) (Some UnknownCommand) (all_in (take k ds)) → after ≡ fold (broken_behind x) broken (commands_in d) →
-    after ≡ fold (broken_behind x) (Some UnknownCommand) (all_in (take (k + 1) ds))
-named_turn x ds k d broken after within is so_far more =
+pub named_end : (x : ℕ) (ds : List Decl) (k : ℕ) (cs : List Command) (broken after : Option ControlRule) → length ds ≤ k →
+    broken ≡ fold (broken_behind x) (Some UnknownCommand) (all_in (take k ds)) → after ≡ fold (broken_behind x) broken cs → after ≡ broken_by_name x (all_in ds ++ cs)
+named_end x ds k cs broken after past so_far more =
     more
-    ∙ ap (λ b. fold (broken_behind x) b (commands_in d)) so_far
-    ∙ sym (fold-append (broken_behind x) (Some UnknownCommand) (all_in (take k ds)) (commands_in d))
-    ∙ ap (fold (broken_behind x) (Some UnknownCommand)) (sym (all_turn ds k d within is))
-
-pub named_end : (x : ℕ) (ds : List Decl) (cs : List Command) (broken after : Option ControlRule) → broken ≡ fold (broken_behind x) (Some UnknownCommand) (all_in ds) →
-    after ≡ fold (broken_behind x) broken cs → after ≡ broken_by_name x (all_in ds ++ cs)
-named_end x ds cs broken after so_far more =
-    more
-    ∙ ap (λ b. fold (broken_behind x) b cs) so_far
+    ∙ ap (λ b. fold (broken_behind x) b cs) (so_far ∙ ap (λ xs. fold (broken_behind x) (Some UnknownCommand) (all_in xs)) (take_all k ds past))
     ∙ sym (fold-append (broken_behind x) (Some UnknownCommand) (all_in ds) cs)
     ∙ behind_all x (all_in ds ++ cs)
 
@@ -90,14 +81,20 @@ walk_turn s before cs k c within is so_far =
     ∙ so_far
 
 pub walk_goes_on : (s : System) (before cs : List Command) (k : ℕ) (c : Command) (found : Option ControlFault) → k < length cs → c ≡ get_or cs k c → IsWalked s before cs k →
-    found ≡ command_fault s (before ++ take k cs) c → found ≡ None → IsWalked s before cs (k + 1)
-walk_goes_on s before cs k c found within is so_far fault none =
-    ap (λ o. option_or o (first_fault s (before ++ take (k + 1) cs) (drop (k + 1) cs))) (sym none ∙ fault) ∙ walk_turn s before cs k c within is so_far
+    found ≡ command_fault s (before ++ take k cs) c → is_some found ≡ false → IsWalked s before cs (k + 1)
+walk_goes_on s before cs k c found within is so_far fault none = by found fault none
+  where
+    by : (o : Option ControlFault) → o ≡ command_fault s (before ++ take k cs) c → is_some o ≡ false → IsWalked s before cs (k + 1)
+    by None e h = ap (λ o. option_or o (first_fault s (before ++ take (k + 1) cs) (drop (k + 1) cs))) e ∙ walk_turn s before cs k c within is so_far
+    by (Some f) e h = absurd cc
 
-pub walk_finds : (s : System) (before cs : List Command) (k : ℕ) (c : Command) (f : ControlFault) → k < length cs → c ≡ get_or cs k c → IsWalked s before cs k →
-    Some f ≡ command_fault s (before ++ take k cs) c → Some f ≡ first_fault s before cs
-walk_finds s before cs k c f within is so_far fault =
-    ap (λ o. option_or o (first_fault s (before ++ take (k + 1) cs) (drop (k + 1) cs))) fault ∙ walk_turn s before cs k c within is so_far
+pub walk_finds : (s : System) (before cs : List Command) (k : ℕ) (c : Command) (found : Option ControlFault) → k < length cs → c ≡ get_or cs k c → IsWalked s before cs k →
+    found ≡ command_fault s (before ++ take k cs) c → is_some found ≡ true → found ≡ first_fault s before cs
+walk_finds s before cs k c found within is so_far fault there = by found fault there
+  where
+    by : (o : Option ControlFault) → o ≡ command_fault s (before ++ take k cs) c → is_some o ≡ true → o ≡ first_fault s before cs
+    by None e h = absurd cc
+    by (Some f) e h = ap (λ o. option_or o (first_fault s (before ++ take (k + 1) cs) (drop (k + 1) cs))) e ∙ walk_turn s before cs k c within is so_far
 
 pub walk_ends : (s : System) (before cs : List Command) (k : ℕ) → length cs ≤ k → IsWalked s before cs k → None ≡ first_fault s before cs
 unfolding first_fault
@@ -120,10 +117,11 @@ checked_turn before cs k c checked within is so_far =
 -- ---- a walk over declarations
 
 -- a `check` among the commands of the declarations before the next turn
-pub checked_decls : (ds : List Decl) (k : ℕ) (d : Decl) (checked : Bool) → k < length ds → d ≡ get_or ds k d → checked ≡ list_any is_check (all_in (take k ds)) →
-    (checked || list_any is_check (commands_in d)) ≡ list_any is_check (all_in (take (k + 1) ds))
-checked_decls ds k d checked within is so_far =
-    ap (λ b. b || list_any is_check (commands_in d)) so_far
+pub checked_decls : (ds : List Decl) (k : ℕ) (d : Decl) (cs : List Command) (checked : Bool) → k < length ds → d ≡ get_or ds k d → cs ≡ commands_in d →
+    checked ≡ list_any is_check (all_in (take k ds)) → (checked || list_any is_check cs) ≡ list_any is_check (all_in (take (k + 1) ds))
+checked_decls ds k d cs checked within is are so_far =
+    ap (λ b. b || list_any is_check cs) so_far
+    ∙ ap (λ xs. list_any is_check (all_in (take k ds)) || list_any is_check xs) are
     ∙ sym (list_any-append is_check (all_in (take k ds)) (commands_in d))
     ∙ ap (list_any is_check) (sym (all_turn ds k d within is))
 
@@ -143,23 +141,30 @@ first_behind s before (x ∷ xs) ys =
 abbrev pub AreWalked : System → List Decl → ℕ → Type 0
 AreWalked s ds k = first_fault s (all_in (take k ds)) (all_in (drop k ds)) ≡ first_fault s [] (all_in ds)
 
-decls_turn : (s : System) (ds : List Decl) (k : ℕ) (d : Decl) → k < length ds → d ≡ get_or ds k d → AreWalked s ds k →
-    option_or (first_fault s (all_in (take k ds)) (commands_in d)) (first_fault s (all_in (take (k + 1) ds)) (all_in (drop (k + 1) ds))) ≡ first_fault s [] (all_in ds)
-decls_turn s ds k d within is so_far =
-    ap (λ b. option_or (first_fault s (all_in (take k ds)) (commands_in d)) (first_fault s b (all_in (drop (k + 1) ds)))) (all_turn ds k d within is)
-    ∙ sym (first_behind s (all_in (take k ds)) (commands_in d) (all_in (drop (k + 1) ds)))
+decls_turn : (s : System) (ds : List Decl) (k : ℕ) (d : Decl) (cs : List Command) → k < length ds → d ≡ get_or ds k d → cs ≡ commands_in d → AreWalked s ds k →
+    option_or (first_fault s (all_in (take k ds)) cs) (first_fault s (all_in (take (k + 1) ds)) (all_in (drop (k + 1) ds))) ≡ first_fault s [] (all_in ds)
+decls_turn s ds k d cs within is are so_far =
+    ap (λ b. option_or (first_fault s (all_in (take k ds)) cs) (first_fault s b (all_in (drop (k + 1) ds)))) (all_turn ds k d within is ∙ ap (λ xs. all_in (take k ds) ++ xs) (sym are))
+    ∙ sym (first_behind s (all_in (take k ds)) cs (all_in (drop (k + 1) ds)))
+    ∙ ap (λ xs. first_fault s (all_in (take k ds)) (xs ++ all_in (drop (k + 1) ds))) are
     ∙ ap (λ xs. first_fault s (all_in (take k ds)) (all_in xs)) (sym (drop_turn ds k d within is))
     ∙ so_far
 
-pub decls_go_on : (s : System) (ds : List Decl) (k : ℕ) (d : Decl) (found : Option ControlFault) → k < length ds → d ≡ get_or ds k d → AreWalked s ds k →
-    found ≡ first_fault s (all_in (take k ds)) (commands_in d) → found ≡ None → AreWalked s ds (k + 1)
-decls_go_on s ds k d found within is so_far fault none =
-    ap (λ o. option_or o (first_fault s (all_in (take (k + 1) ds)) (all_in (drop (k + 1) ds)))) (sym none ∙ fault) ∙ decls_turn s ds k d within is so_far
+pub decls_go_on : (s : System) (ds : List Decl) (k : ℕ) (d : Decl) (cs : List Command) (found : Option ControlFault) → k < length ds → d ≡ get_or ds k d → cs ≡ commands_in d → AreWalked s ds k →
+    found ≡ first_fault s (all_in (take k ds)) cs → is_some found ≡ false → AreWalked s ds (k + 1)
+decls_go_on s ds k d cs found within is are so_far fault none = by found fault none
+  where
+    by : (o : Option ControlFault) → o ≡ first_fault s (all_in (take k ds)) cs → is_some o ≡ false → AreWalked s ds (k + 1)
+    by None e h = ap (λ o. option_or o (first_fault s (all_in (take (k + 1) ds)) (all_in (drop (k + 1) ds)))) e ∙ decls_turn s ds k d cs within is are so_far
+    by (Some f) e h = absurd cc
 
-pub decls_find : (s : System) (ds : List Decl) (k : ℕ) (d : Decl) (f : ControlFault) → k < length ds → d ≡ get_or ds k d → AreWalked s ds k →
-    Some f ≡ first_fault s (all_in (take k ds)) (commands_in d) → Some f ≡ first_fault s [] (all_in ds)
-decls_find s ds k d f within is so_far fault =
-    ap (λ o. option_or o (first_fault s (all_in (take (k + 1) ds)) (all_in (drop (k + 1) ds)))) fault ∙ decls_turn s ds k d within is so_far
+pub decls_find : (s : System) (ds : List Decl) (k : ℕ) (d : Decl) (cs : List Command) (found : Option ControlFault) → k < length ds → d ≡ get_or ds k d → cs ≡ commands_in d → AreWalked s ds k →
+    found ≡ first_fault s (all_in (take k ds)) cs → is_some found ≡ true → found ≡ first_fault s [] (all_in ds)
+decls_find s ds k d cs found within is are so_far fault there = by found fault there
+  where
+    by : (o : Option ControlFault) → o ≡ first_fault s (all_in (take k ds)) cs → is_some o ≡ true → o ≡ first_fault s [] (all_in ds)
+    by None e h = absurd cc
+    by (Some f) e h = ap (λ o. option_or o (first_fault s (all_in (take (k + 1) ds)) (all_in (drop (k + 1) ds)))) e ∙ decls_turn s ds k d cs within is are so_far
 
 pub decls_end : (s : System) (ds : List Decl) (k : ℕ) → length ds ≤ k → AreWalked s ds k → None ≡ first_fault s [] (all_in ds)
 unfolding first_fault
