@@ -15,12 +15,14 @@
 //! conflict takes one for each variable and for each step of the trail, besides what propagation takes.
 #![tactic(auto)]
 
+mod acceptance;
 mod analysis;
 mod learn;
 mod learner;
 mod order;
 mod preferences;
 mod propagation;
+mod proposal;
 mod state;
 
 pub use learn::{LearnError, Search};
