@@ -104,12 +104,7 @@ fn from_second(trail: &[Step], places: &[usize], clause: &[Lit]) -> Option<usize
 }
 
 /// The decision at which the clause forces its first literal, where it does so at no decision before.
-fn taught_at(
-    trail: &[Step],
-    places: &[usize],
-    choices: &[bool],
-    clause: &[Lit],
-) -> Option<usize>
+fn taught_at(trail: &[Step], places: &[usize], choices: &[bool], clause: &[Lit]) -> Option<usize>
     ensures { IfSome result (λ t. (s : State) → s.trail.items ≡ trail.now → s.inputs.items ≡ choices.now → Sound s → CanTeach s clause.now t) }
 {
     let asserted = *clause.first()?;

@@ -127,12 +127,7 @@ impl State {
 
     /// Takes over a learnt clause, and asserts its first literal behind the steps that stay. The variables took part in the
     /// conflict.
-    fn learn(
-        &mut self,
-        clause: &[Lit],
-        variables: &[u32],
-        target: usize,
-    ) -> Result<(), AllocError>
+    fn learn(&mut self, clause: &[Lit], variables: &[u32], target: usize) -> Result<(), AllocError>
         requires ready { Ready self.old }
         requires some { 0 < length clause.now }
         requires taught { IsTaught self.old clause.now target }

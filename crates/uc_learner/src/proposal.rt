@@ -54,10 +54,7 @@ impl Draft {
     }
 
     fn has(&self, variable: u32) -> bool {
-        self.marked
-            .get(variable as usize)
-            .copied()
-            .unwrap_or(false)
+        self.marked.get(variable as usize).copied().unwrap_or(false)
     }
 
     /// Marks the variable of a false literal, which stands at that place of the trail.
@@ -146,10 +143,7 @@ impl State {
     }
 
     fn may_decide(&self, variable: u32) -> bool {
-        self.inputs
-            .get(variable as usize)
-            .copied()
-            .unwrap_or(false)
+        self.inputs.get(variable as usize).copied().unwrap_or(false)
     }
 
     /// The asserted literal, and of the others those that do not follow from marked ones. That which became false last stands second.
