@@ -67,14 +67,16 @@ impl Draft {
         }
         *mark = true;
         if place < self.root {
-            return self.fixed.push(literal.var);
+            self.fixed.push(literal.var)?;
+            return Ok(());
         }
         if place >= self.last {
             self.open = self.open.saturating_add(1);
         } else {
             self.lower.push(literal)?;
         }
-        self.variables.push(literal.var)
+        self.variables.push(literal.var)?;
+        Ok(())
     }
 }
 
@@ -236,5 +238,6 @@ fn add_literal(
             mem::swap(second, &mut last);
         }
     }
-    clause.push(last)
+    clause.push(last)?;
+    Ok(())
 }
