@@ -1,0 +1,3 @@
+pub mod Moved
+pub mod Below
+pub mod Copied
