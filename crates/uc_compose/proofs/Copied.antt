@@ -21,7 +21,7 @@ use Rattle.uc_simplify_steps.proofs.Features.{part_before, brings-keeps, brings-
 use Rattle.uc_compose.specs.Below.{AreBelow}
 use Rattle.uc_compose.specs.Copies.{Grows, IsCopy, ComesFrom, AreCopies, none, one, IsCopied, moved, moved_op, moved_feature, read_by}
 use Rattle.uc_compose.proofs.Moved.{moved_apply, moved_type, moved_suits, moved_shows}
-use Rattle.uc_compose.proofs.Below.{below_there, below_under, falls_few, falls_behind}
+use Rattle.uc_compose.proofs.Listing.{below_there, below_under, falls_few, falls_behind}
 
 pub Grows-none : (nodes : List Node) → Grows nodes nodes
 Grows-none nodes = record { more = []; is = sym (append-nil nodes) }

@@ -1,3 +1,3 @@
 pub mod Moved
-pub mod Below
+pub mod Listing
 pub mod Copied
