@@ -1,16 +1,16 @@
 -- Traces of a design and traces over cells refute alike.
 use Rattle.std.proofs.Common.{◌≡◌, ℕ, zero, suc, ◌+◌, List, [], ◌∷◌, ◌++◌, map, length, refl, sym, ap, ◌∙◌, subst, true, false, Bool, Some, None, arith, append-nil, get_or, take}
-use Rattle.std.specs.Prelude.{◌&&◌, slice_get, Contains}
+use Rattle.std.specs.Prelude.{◌&&◌, ◌||◌, ◌<◌, ◌≤◌, cond, filter, nat_eq, not, slice_get, Contains}
 use Rattle.std.specs.Option.{option_map, option_and_then}
 use Rattle.std.specs.List.{flat_map, filter_map, list_all, cons_option, All}
-use Rattle.std.proofs.lemmas.Option.{slice_get-get_or, get_or_from_slice_get}
+use Rattle.std.proofs.lemmas.Option.{slice_get-get_or, slice_get-map, slice_get_within, get_or_from_slice_get}
 use Rattle.std.proofs.lemmas.List.{length-map}
 use Rattle.std.proofs.lemmas.List.Elements.{All-head, All-tail, All-cons, All-nil, All-append, All-weaker, All-contains}
 use Rattle.uc_lexer.specs.declared.place.Place.{Place}
 use Rattle.uc_syntax.specs.declared.place.Identifier.{Identifier}
 use Rattle.uc_syntax.specs.declared.expression.Expr.{Expr}
 use Rattle.uc_syntax.specs.declared.declaration.Decl.{Decl}
-use Rattle.uc_syntax.specs.declared.declaration.Decl.TheVariants.{Function, Invariant, Axiom, Hyperaxiom}
+use Rattle.uc_syntax.specs.declared.declaration.Decl.TheVariants.{Function, Invariant, Axiom, Hyperinvariant, Hyperaxiom}
 use Rattle.uc_syntax.specs.declared.declaration.Module.{Module}
 use Rattle.uc_values.specs.declared.value.Value.{Value}
 use Rattle.uc_values.specs.Values.{truth_of}
@@ -18,13 +18,17 @@ use Rattle.uc_values.proofs.Shapes.{and_true}
 use Rattle.uc_meaning.specs.declared.scope.Interp.{Interp}
 use Rattle.uc_meaning.specs.declared.scope.Site.{Site}
 use Rattle.uc_meaning.specs.declared.scope.State.{State}
-use Rattle.uc_meaning.specs.Lookup.{System, axiom_in as axiom_of_decl, hyperaxiom_in, module_at, module_from}
-use Rattle.uc_meaning.specs.Cells.{main_instance, instances, functions_in, functions_of, FitTables, IsState}
+use Rattle.uc_meaning.specs.Lookup.{System, axiom_in as axiom_of_decl, invariant_in as invariant_of_decl, hyperinvariant_in, hyperaxiom_in, module_at, module_from}
+use Rattle.uc_meaning.specs.Cells.{InstanceAt, main_instance, instances, functions_in, functions_of, FitTables, IsState}
 use Rattle.uc_meaning.specs.Expressions.{value, is_true}
 use Rattle.uc_meaning.specs.Steps.{scope_of, state_of, IsStep}
-use Rattle.uc_meaning.specs.Runs.{Position, no_state, no_position, position_at, states_at, Continues, IsRunListing, IsRun, AxiomsAt, IsAdmitted, HyperaxiomsIn, HyperaxiomsAt, of_arity, copies_scope}
-use Rattle.uc_meaning.specs.Lines.{formula_in as formula_of_decl, formula_of, IsFalseAt, FailsAfter, Refutes}
+use Rattle.uc_meaning.specs.Runs.{Position, no_state, no_position, position_at, states_at, Continues, IsRunListing, IsRun, AxiomsAt, IsAdmitted, HyperaxiomsIn, HyperaxiomsAt, AreInStep, of_arity, copies_scope}
+use Rattle.uc_meaning.specs.declared.line.At.{At}
+use Rattle.uc_meaning.specs.declared.line.At.TheVariants.{Exactly, Base, Step, Body}
+use Rattle.uc_meaning.specs.Lines.{formula_in as formula_of_decl, formula_of, IsFalseAt, FailsAfter, FailsInduction, FailsIn, AreLinked, InvariantsIn, HyperinvariantsIn, Refutes}
 use Rattle.uc_ops.specs.declared.model.Model.{Model}
+use Rattle.uc_ops.specs.Meaning.{fitting}
+use Rattle.uc_ops.proofs.Lists.{at_place}
 use Rattle.uc_flat.specs.declared.flat.Flat.{Flat}
 use Rattle.uc_flat.specs.declared.flat.Formula.{Formula}
 use Rattle.uc_flat.specs.Flats.{cell_types, repeated, axioms_of}
@@ -32,8 +36,14 @@ use Rattle.uc_flat.specs.Reading.{value_of}
 use Rattle.uc_flat.specs.Unrolled.{holds_in, axioms_hold}
 use Rattle.uc_flat.specs.Executions.{FitAll, IsInitial as IsInitialOver, IsStep as IsStepOver}
 use Rattle.uc_flat.specs.declared.trace.FlatPosition.{FlatPosition}
-use Rattle.uc_flat.specs.declared.trace.FlatTrace.{FlatTrace}
-use Rattle.uc_flat.specs.Traces.{HasConstants, IsRun as IsRunOver, RefutesFlat}
+use Rattle.uc_flat.specs.Laws.{AgreeBelow}
+use Rattle.uc_flat.specs.Traces.{HasConstants}
+use Rattle.uc_flat_copies.specs.declared.trace.FlatCopies.{FlatCopies}
+use Rattle.uc_flat_copies.specs.declared.trace.Start.{Start}
+use Rattle.uc_flat_copies.specs.declared.trace.Start.TheVariants.{Initially, Anywhere}
+use Rattle.uc_flat_copies.specs.Traces.{asks, ask_all, IsAny, Starts, IsLinked, IsCopy, cells_in, cells_at, RefutesCopies}
+use Rattle.uc_flat_copies.specs.Lines.{is_supposed, supposed, before_of, line_over}
+use Rattle.uc_flat_copies.proofs.Single.{asks_one, ask_all_one}
 use Rattle.uc_flat_expressions.specs.declared.typed.TypedExpression.{TypedExpression}
 use Rattle.uc_flat_expressions.specs.declared.typed.Meant.{Meant}
 use Rattle.uc_flat_expressions.specs.Types.{is_boolean}
@@ -49,8 +59,8 @@ use Rattle.uc_flat_design.specs.Design.{is_built, condition_of, invariant_in, ax
 use Rattle.uc_flat_design.proofs.Formulas.{formula_of as own_formula, invariants_read}
 use Rattle.uc_flat_design.proofs.Tables.{fit_cells, fit_types, init_said, axiom_says}
 use Rattle.uc_flat_design.proofs.Laws.{main_is, alone_of, flat_types, flat_constant_types, initial_holds, step_holds}
-use Rattle.uc_flat_laws.specs.FlatRefutationsLaws.{line_of, interpretation_of, FoundLaw, RefutedLaw}
-use Rattle.uc_flat_laws.proofs.Judging.{axioms_copied}
+use Rattle.uc_flat_laws.specs.FlatRefutationsLaws.{singles_of, IsOfSteps, start_at, steps_at, line_of, interpretation_of, positions_of, FoundLaw, RefutedLaw}
+use Rattle.uc_flat_laws.proofs.Judging.{axioms_copied, singles_are}
 
 shifted : (k : ℕ) → suc (k + 1) ≡ suc k + 1
 shifted k = omega arith
@@ -107,6 +117,36 @@ module _ (names : List Meant) (told : Expr → Bool) (holds : Formula → Bool) 
       let t = map_some (λ ys. s.0 ++ ys) (formulas_from (axiom_in names) (k + 1) decls) fs s.2 in
       ap (list_all holds) (sym t.2) ∙ one_axiom k d s.0 s.1 t.0 (filter_map axiom_of_decl decls) (axioms_alike (k + 1) decls t.0 t.1)
 
+-- invariants over cells hold where those that are written do
+module _ (names : List Meant) (told : Expr → Bool) (holds : Formula → Bool) (alike : (k : ℕ) (e : Expr) (t : TypedExpression) → flat_of names e ≡ Some t → holds (own_formula 1 k t) ≡ told e) where
+  one_invariant : (k : ℕ) (d : Decl) (xs : List Formula) → invariant_in names k d ≡ Some xs → (ys : List Formula) (es : List Expr) → list_all holds ys ≡ list_all told es
+      → list_all holds (xs ++ ys) ≡ list_all told (cons_option (invariant_of_decl d) es)
+  one_invariant k (Invariant place name e) xs h ys es g =
+      let s = then_some (condition_of 1 k) (flat_of names e) xs h in
+      let x = own_formula 1 k s.0 in
+      let t = if_some (is_boolean s.0.ty) (Some (x ∷ [])) xs s.2 in
+      ap (λ zs. list_all holds (zs ++ ys)) (sym (some_same (x ∷ []) xs t.1))
+      ∙ ap (λ b. b && list_all holds ys) (alike k e s.0 s.1)
+      ∙ ap (λ b. told e && b) g
+  one_invariant k other xs h ys es g = ap (λ zs. list_all holds (zs ++ ys)) (sym (some_same [] xs h)) ∙ g
+
+  invariants_alike : (k : ℕ) (decls : List Decl) (fs : List Formula) → formulas_from (invariant_in names) k decls ≡ Some fs → list_all holds fs ≡ list_all told (filter_map invariant_of_decl decls)
+  unfolding formulas_from
+  invariants_alike k [] fs h = ap (list_all holds) (sym (some_same [] fs h))
+  invariants_alike k (d ∷ decls) fs h =
+      let s = then_some (λ xs. option_map (λ ys. xs ++ ys) (formulas_from (invariant_in names) (k + 1) decls)) (invariant_in names k d) fs h in
+      let t = map_some (λ ys. s.0 ++ ys) (formulas_from (invariant_in names) (k + 1) decls) fs s.2 in
+      ap (list_all holds) (sym t.2) ∙ one_invariant k d s.0 s.1 t.0 (filter_map invariant_of_decl decls) (invariants_alike (k + 1) decls t.0 t.1)
+
+-- a test twice is the test
+either_same : (b : Bool) → (b || b) ≡ b
+either_same true = refl
+either_same false = refl
+
+same_filter : (fs : List Formula) → filter (is_supposed 1) fs ≡ filter (λ (x : Formula). nat_eq x.copies 1) fs
+same_filter [] = refl
+same_filter (x ∷ fs) = λ i. cond (either_same (nat_eq x.copies 1) i) (x ∷ same_filter fs i) (same_filter fs i)
+
 take_front : {A : Type 0} (xs ys : List A) → take (length xs) (xs ++ ys) ≡ xs
 take_front [] ys = refl
 take_front (x ∷ xs) ys = ap (λ zs. x ∷ zs) (take_front xs ys)
@@ -120,6 +160,14 @@ no_hyperaxiom other h = refl
 no_hyperaxioms : (decls : List Decl) → list_all is_built decls ≡ true → filter_map hyperaxiom_in decls ≡ []
 no_hyperaxioms [] h = refl
 no_hyperaxioms (d ∷ decls) h = ap (λ o. cons_option o (filter_map hyperaxiom_in decls)) (no_hyperaxiom d (and_true h).0) ∙ no_hyperaxioms decls (and_true h).1
+
+no_hyperinvariant : (d : Decl) → is_built d ≡ true → hyperinvariant_in d ≡ None
+no_hyperinvariant (Hyperinvariant place n name e) h = absurd (cc)
+no_hyperinvariant other h = refl
+
+no_hyperinvariants : (decls : List Decl) → list_all is_built decls ≡ true → filter_map hyperinvariant_in decls ≡ []
+no_hyperinvariants [] h = refl
+no_hyperinvariants (d ∷ decls) h = ap (λ o. cons_option o (filter_map hyperinvariant_in decls)) (no_hyperinvariant d (and_true h).0) ∙ no_hyperinvariants decls (and_true h).1
 
 no_function : (system : System) (code : Module) (d : Decl) → is_built d ≡ true → functions_in system code d ≡ []
 no_function system code (Function place i ps type) h = absurd (cc)
@@ -147,6 +195,10 @@ module _ (system : System) (code : Module) (f : Flat) (d : IsFlatOf system code 
   hyper_none i n states = subst (All (HyperaxiomsIn system i n states)) (sym (alone_instances system code (alone_of system code f d)))
       (All-cons (HyperaxiomsIn system i n states) (main_instance code) [] (subst (All (Agrees i n states)) (sym (no_hyperaxioms code.decls d.declarations)) (All-nil (Agrees i n states))) (All-nil (HyperaxiomsIn system i n states)))
 
+  hypers_none : (i : Interp) (n : ℕ) (states : List State) → All (HyperinvariantsIn system i n states) (instances system)
+  hypers_none i n states = subst (All (HyperinvariantsIn system i n states)) (sym (alone_instances system code (alone_of system code f d)))
+      (All-cons (HyperinvariantsIn system i n states) (main_instance code) [] (subst (All (Agrees i n states)) (sym (no_hyperinvariants code.decls d.declarations)) (All-nil (Agrees i n states))) (All-nil (HyperinvariantsIn system i n states)))
+
   -- ---- formulas
 
   abbrev names : List Meant
@@ -168,6 +220,10 @@ module _ (system : System) (code : Module) (f : Flat) (d : IsFlatOf system code 
   invariant_at x c =
       All-contains FromInvariant (d.axioms ++ d.formulas) x (All-append FromInvariant d.axioms d.formulas axioms_from formulas_from_invariants)
       (subst (λ (g : Flat). Contains g.formulas x) d.is c)
+
+  -- what a line from any state assumes is the formulas of the invariants
+  supposed_is : supposed f 1 ≡ d.formulas
+  supposed_is = same_filter f.formulas ∙ singles_are system code f d
 
   module_there : module_at system [] ≡ Some code
   unfolding module_from
@@ -206,14 +262,42 @@ module _ (system : System) (code : Module) (f : Flat) (d : IsFlatOf system code 
     axioms_here h = subst (All (AxiomsAt system i)) (sym (alone_instances system code (alone_of system code f d)))
         (All-cons (AxiomsAt system i) (main_instance code) [] (all_true told (filter_map axiom_of_decl code.decls) (sym axioms_same ∙ h)) (All-nil (AxiomsAt system i)))
 
-    says_same : (x : Formula) → x.copies ≡ 1 → (a : IsInvariantOf names code.decls x) (cells : List Value) → IsState system (state_of cells) → is_true system (scope_of i [] (state_of cells)) a.formula ≡ holds_in f x m cells
+    says_formula : (k : ℕ) (e : Expr) (t : TypedExpression) → flat_of names e ≡ Some t → (cells : List Value) → IsState system (state_of cells) → is_true system (scope_of i [] (state_of cells)) e ≡ holds_in f (own_formula 1 k t) m cells
     unfolding repeated
+    says_formula k e t flat cells fit =
+        truth_holds (value system (scope_of i [] (state_of cells)) e)
+        ∙ ap truth_of ((init_said system code (alone_of system code f d) m d.types d.constants i shares cells (fit_cells (types_of system) cells fit) e t flat).same
+        ∙ ap (λ ts. value_of m ts cells t.expression) (sym (append-nil (types_of system)) ∙ ap (λ ts. ts ++ []) (sym (flat_types system code f d))))
+
+    says_same : (x : Formula) → x.copies ≡ 1 → (a : IsInvariantOf names code.decls x) (cells : List Value) → IsState system (state_of cells) → is_true system (scope_of i [] (state_of cells)) a.formula ≡ holds_in f x m cells
     says_same x single a cells fit =
-        truth_holds (value system (scope_of i [] (state_of cells)) a.formula)
-        ∙ ap truth_of ((init_said system code (alone_of system code f d) m d.types d.constants i shares cells (fit_cells (types_of system) cells fit) a.formula a.typed a.flat).same
-        ∙ ap (λ ts. value_of m ts cells a.typed.expression) (sym (append-nil (types_of system)) ∙ ap (λ ts. ts ++ []) (sym (flat_types system code f d)))
-        ∙ ap (λ n. value_of m (repeated n (cell_types f)) cells a.typed.expression) (sym single)
-        ∙ ap (value_of m (repeated x.copies (cell_types f)) cells) (sym a.is_condition))
+        says_formula x.decl a.formula a.typed a.flat cells fit
+        ∙ ap (λ n. truth_of (value_of m (repeated n (cell_types f)) cells a.typed.expression)) (sym single)
+        ∙ ap (λ c. truth_of (value_of m (repeated x.copies (cell_types f)) cells c)) (sym a.is_condition)
+
+    -- ---- the invariants
+
+    abbrev holds_with : List Value → Formula → Bool
+    holds_with cells x = holds_in f x m cells
+
+    abbrev told_of : State → Expr → Bool
+    told_of s e = is_true system (scope_of i [] s) e
+
+    invariants_same : (cells : List Value) → IsState system (state_of cells) → list_all (holds_with cells) (supposed f 1) ≡ list_all (told_of (state_of cells)) (filter_map invariant_of_decl code.decls)
+    invariants_same cells fit =
+        ap (list_all (holds_with cells)) supposed_is
+        ∙ invariants_alike names (told_of (state_of cells)) (holds_with cells) (λ k e t h. sym (says_formula k e t h cells fit)) 0 code.decls d.formulas d.formulas_are
+
+    invariants_there : (s : State) → IsState system s → All (InvariantsIn system i s) (instances system) → list_all (holds_with s.cells) (supposed f 1) ≡ true
+    invariants_there s fit h =
+        let here = All-head (InvariantsIn system i s) (main_instance code) [] (subst (All (InvariantsIn system i s)) (alone_instances system code (alone_of system code f d)) h) in
+        invariants_same s.cells fit ∙ true_all (told_of s) (filter_map invariant_of_decl code.decls) here
+
+    invariants_here : (cells : List Value) → IsState system (state_of cells) → list_all (holds_with cells) (supposed f 1) ≡ true → All (InvariantsIn system i (state_of cells)) (instances system)
+    invariants_here cells fit h =
+        let one : InstanceAt → Type 0 = InvariantsIn system i (state_of cells) in
+        subst (All one) (sym (alone_instances system code (alone_of system code f d)))
+        (All-cons one (main_instance code) [] (all_true (told_of (state_of cells)) (filter_map invariant_of_decl code.decls) (sym (invariants_same cells fit) ∙ h)) (All-nil one))
 
     -- ---- from a trace of the design
 
@@ -239,34 +323,76 @@ module _ (system : System) (code : Module) (f : Flat) (d : IsFlatOf system code 
     states_fit s choices sites listed [] fit h (suc k) q a = absurd (none_some q a)
     states_fit s choices sites listed (r ∷ ps) fit h (suc k) q a = states_fit r.0 r.1 h.1 listed ps h.0 h.3 k q a
 
+    -- a state of a run, over cells
+    cells_there : (run : List Position) (k : ℕ) → k < length run → cells_in (slice_get (map flat_position run) k) ≡ (position_at k run).0.cells
+    cells_there run k l = ap cells_in (slice_get-map flat_position run k) ∙ ap (λ o. cells_in (option_map flat_position o)) (slice_get-get_or run k no_position l)
+
+    copy_found : (start : Start) (steps : ℕ) (p : Position) (ps : List Position) (first listed : List Site) → IsState system p.0 → Starts f m start (flat_position p) → Continues system i p.0 first ps listed
+        → length (p ∷ ps) ≡ steps + 1 → IsCopy f m start steps (map flat_position (p ∷ ps))
+    copy_found start steps p ps first listed fit begins goes n = record {
+      own = m;
+      agrees = record { symbols = λ k l. refl; tables = refl };
+      linked = record {
+        count = length-map (p ∷ ps) flat_position ∙ n;
+        begins = λ q b. subst (Starts f m start) (some_same (flat_position p) q b) begins;
+        goes_on = links p.0 p.1 first listed ps fit goes;
+      };
+    }
+
+    -- one copy, over cells
+    found_of : (values : List Value) → HasConstants f values m → axioms_hold f m ≡ true → (start : Start) (steps : ℕ) (x : Formula) (one : x.copies ≡ 1) (a : IsInvariantOf names code.decls x) (p : Position) (ps : List Position) (first listed : List Site)
+        → IsState system p.0 → Starts f m start (flat_position p) → Continues system i p.0 first ps listed → length (p ∷ ps) ≡ steps + 1
+        → ((k : ℕ) → k < steps → list_all (holds_with (position_at k (p ∷ ps)).0.cells) (before_of f start 1) ≡ true)
+        → is_true system (scope_of i [] (position_at steps (p ∷ ps)).0) a.formula ≡ false → (t : FlatCopies) × RefutesCopies f (line_over f start steps x) t
+    found_of values has axioms start steps x one a p ps first listed fit begins goes n before fails =
+        let run = p ∷ ps in
+        let flat = map flat_position run in
+        let end : slice_get run steps ≡ Some (position_at steps run) = slice_get-get_or run steps no_position (omega (arith, n)) in
+        let last = states_fit p.0 p.1 first listed ps fit goes steps (position_at steps run) end in (
+          record { constants = values; copies = flat ∷ [] },
+          record {
+            model = m;
+            constants = has;
+            axioms = axioms;
+            number = sym one;
+            linked = All-cons (IsCopy f m start steps) flat [] (copy_found start steps p ps first listed fit begins goes n) (All-nil (IsCopy f m start steps));
+            before = λ k l.
+                ask_all_one f m (cells_in (slice_get flat k)) (before_of f start x.copies)
+                ∙ ap (λ cs. list_all (holds_with cs) (before_of f start x.copies)) (cells_there run k (omega (arith, l, n)))
+                ∙ ap (λ c. list_all (holds_with (position_at k run).0.cells) (before_of f start c)) one
+                ∙ before k l;
+            throughout = λ k l. refl;
+            fails =
+                ap not (asks_one f m (cells_in (slice_get flat steps)) x
+                ∙ ap (λ cs. holds_in f x m cs) (cells_there run steps (omega (arith, n)))
+                ∙ sym (says_same x one a (position_at steps run).0.cells last)
+                ∙ fails);
+          },
+        )
+
     found_in_run : (values : List Value) → HasConstants f values m → axioms_hold f m ≡ true → (steps : ℕ) (x : Formula) (one : x.copies ≡ 1) (a : IsInvariantOf names code.decls x) (run : List Position) → IsRun system i run → length run ≡ steps + 1
-        → is_true system (scope_of i [] (position_at steps run).0) a.formula ≡ false → (t : FlatTrace) × RefutesFlat f x steps t
+        → is_true system (scope_of i [] (position_at steps run).0) a.formula ≡ false → (t : FlatCopies) × RefutesCopies f (line_over f Initially steps x) t
     unfolding IsRunListing
     found_in_run values has axioms steps x one a [] r n fails = absurd r.1
     found_in_run values has axioms steps x one a (p ∷ ps) r n fails =
         let start = r.1 in
         let first = start.1 in
-        let initial = initial_holds.there system code f i m p.0 p.1 first d shares start.2 in (
-          record { constants = values; positions = map flat_position (p ∷ ps) },
-          record {
-            model = m;
-            constants = has;
-            axioms = axioms;
-            run = record {
-              begins = λ q b. subst (λ (z : FlatPosition). IsInitialOver f m z.cells z.choices z.sites) (some_same (flat_position p) q b) initial.initial;
-              goes_on = links p.0 p.1 first r.0 ps start.0 start.3;
-            };
-            steps = length-map (p ∷ ps) flat_position ∙ n;
-            fails = λ q b.
-                let y = mapped_at flat_position (p ∷ ps) steps q b in
-                let fit = states_fit p.0 p.1 first r.0 ps start.0 start.3 steps y.0 y.1 in
-                let there : position_at steps (p ∷ ps) ≡ y.0 = get_or_from_slice_get (p ∷ ps) steps y.0 no_position y.1 in
-                ap (λ (z : FlatPosition). holds_in f x m z.cells) (sym y.2)
-                ∙ sym (says_same x one a y.0.0.cells fit)
-                ∙ ap (λ (z : Position). is_true system (scope_of i [] z.0) a.formula) (sym there)
-                ∙ fails;
-          },
-        )
+        let initial = initial_holds.there system code f i m p.0 p.1 first d shares start.2 in
+        found_of values has axioms Initially steps x one a p ps first r.0 start.0 initial.initial start.3 n (λ k l. refl) fails
+
+    found_in_links : (values : List Value) → HasConstants f values m → axioms_hold f m ≡ true → (steps : ℕ) (x : Formula) (one : x.copies ≡ 1) (a : IsInvariantOf names code.decls x) (run : List Position) → (listed : List Site) × AreLinked system i run listed
+        → length run ≡ steps + 1 → ((k : ℕ) → k < steps → All (InvariantsIn system i (position_at k run).0) (instances system))
+        → is_true system (scope_of i [] (position_at steps run).0) a.formula ≡ false → (t : FlatCopies) × RefutesCopies f (line_over f Anywhere steps x) t
+    found_in_links values has axioms steps x one a [] r n before fails = absurd r.1
+    found_in_links values has axioms steps x one a (p ∷ ps) r n before fails =
+        let linked = r.1 in
+        let run = p ∷ ps in
+        let any : IsAny f (flat_position p) = record { fits = subst (λ ts. FitAll ts p.0.cells) (sym (flat_types system code f d)) (fit_cells (types_of system) p.0.cells linked.0); no_choices = linked.1; no_sites = refl } in
+        found_of values has axioms Anywhere steps x one a p ps [] r.0 linked.0 any linked.2 n
+        (λ k l.
+        let at : slice_get run k ≡ Some (position_at k run) = slice_get-get_or run k no_position (omega (arith, l, n)) in
+        invariants_there (position_at k run).0 (states_fit p.0 p.1 [] r.0 ps linked.0 linked.2 k (position_at k run) at) (before k l))
+        fails
 
   -- ---- the constants of an interpretation, and of a trace over cells
 
@@ -286,13 +412,13 @@ module _ (system : System) (code : Module) (f : Flat) (d : IsFlatOf system code 
     symbols = sym (append-nil i.consts);
   }
 
-  trace_fit : (t : FlatTrace) (m : Model) → HasConstants f t.constants m → FitAll (constant_types system) t.constants
+  trace_fit : (t : FlatCopies) (m : Model) → HasConstants f t.constants m → FitAll (constant_types system) t.constants
   trace_fit t m has = subst (λ ts. FitAll ts t.constants) (flat_constant_types system code f d) has.fit
 
-  trace_shares : (t : FlatTrace) (m : Model) → HasConstants f t.constants m → SharesConstants system (interpretation_of t) m
+  trace_shares : (t : FlatCopies) (m : Model) → HasConstants f t.constants m → SharesConstants system (interpretation_of t) m
   trace_shares t m has = shares_first system (interpretation_of t) m has.others (trace_fit t m has) has.symbols
 
-  admitted : (t : FlatTrace) (m : Model) → HasConstants f t.constants m → axioms_hold f m ≡ true → IsAdmitted system (interpretation_of t)
+  admitted : (t : FlatCopies) (m : Model) → HasConstants f t.constants m → axioms_hold f m ≡ true → IsAdmitted system (interpretation_of t)
   unfolding FitTables
   admitted t m has axioms = record {
     fits = record {
@@ -303,20 +429,47 @@ module _ (system : System) (code : Module) (f : Flat) (d : IsFlatOf system code 
   }
 
 pub found_holds : FoundLaw
-found_holds system code f command steps x trace d c one r = by_copies trace.copies r.fails
+found_holds system code f command at x trace d c one of r = by_moment at of r.fails
   where
-    by_copies : (copies : List (List Position)) → FailsAfter system (line_of command steps x) steps trace.interp copies → (t : FlatTrace) × RefutesFlat f x steps t
-    by_copies [] h = absurd (omega (arith, h.runs.copied.number))
-    by_copies (run ∷ (other ∷ rest)) h = absurd (omega (arith, h.runs.copied.number))
-    by_copies (run ∷ []) h =
-        let a = invariant_at system code f d x c one in
-        let false_there = subst (λ o. IsFalseAt system trace.interp [] (run ∷ []) steps o) (formula_is system code f d x a) h.fails in
-        let m = model_of system code f d trace.interp in
-        let shares = model_shares system code f d trace.interp r.admitted in
-        found_in_run system code f d trace.interp m shares trace.interp.consts (model_has system code f d trace.interp r.admitted) (axioms_there system code f d trace.interp m shares r.admitted.axioms) steps x one a run
+    a : IsInvariantOf (names_over_cells system code) code.decls x
+    a = invariant_at system code f d x c one
+
+    m : Model
+    m = model_of system code f d trace.interp
+
+    shares : SharesConstants system trace.interp m
+    shares = model_shares system code f d trace.interp r.admitted
+
+    axioms : axioms_hold f m ≡ true
+    axioms = axioms_there system code f d trace.interp m shares r.admitted.axioms
+
+    false_in : (copies : List (List Position)) (steps : ℕ) → IsFalseAt system trace.interp [] copies steps (formula_of system [] x.decl) → All (λ run. is_true system (scope_of trace.interp [] (position_at steps run).0) a.formula ≡ false) copies
+    false_in copies steps h = subst (λ o. IsFalseAt system trace.interp [] copies steps o) (formula_is system code f d x a) h
+
+    after : (line : ℕ) (moment : At) (steps : ℕ) (copies : List (List Position)) → FailsAfter system (line_of line moment x) steps trace.interp copies → (t : FlatCopies) × RefutesCopies f (line_over f Initially steps x) t
+    after line moment steps [] h = absurd (omega (arith, h.runs.copied.number))
+    after line moment steps (run ∷ (other ∷ rest)) h = absurd (omega (arith, h.runs.copied.number))
+    after line moment steps (run ∷ []) h =
+        found_in_run system code f d trace.interp m shares trace.interp.consts (model_has system code f d trace.interp r.admitted) axioms steps x one a run
         (All-head (IsRun system trace.interp) run [] h.runs.runs)
         (All-head (λ r. length r ≡ steps + 1) run [] h.runs.copied.even)
-        (All-head (λ r. is_true system (scope_of trace.interp [] (position_at steps r).0) a.formula ≡ false) run [] false_there)
+        (All-head (λ r. is_true system (scope_of trace.interp [] (position_at steps r).0) a.formula ≡ false) run [] (false_in (run ∷ []) steps h.fails))
+
+    linked : (line : ℕ) (moment : At) (steps : ℕ) (copies : List (List Position)) → FailsInduction system (line_of line moment x) steps trace.interp copies → (t : FlatCopies) × RefutesCopies f (line_over f Anywhere steps x) t
+    linked line moment steps [] h = absurd (omega (arith, h.copied.number))
+    linked line moment steps (run ∷ (other ∷ rest)) h = absurd (omega (arith, h.copied.number))
+    linked line moment steps (run ∷ []) h =
+        found_in_links system code f d trace.interp m shares trace.interp.consts (model_has system code f d trace.interp r.admitted) axioms steps x one a run
+        (All-head (λ r. (listed : List Site) × AreLinked system trace.interp r listed) run [] h.linked)
+        (All-head (λ r. length r ≡ steps + 1) run [] h.copied.even)
+        (λ k l. All-head (λ s. All (InvariantsIn system trace.interp s) (instances system)) (position_at k run).0 [] (h.invariants k l))
+        (All-head (λ r. is_true system (scope_of trace.interp [] (position_at steps r).0) a.formula ≡ false) run [] (false_in (run ∷ []) steps h.fails))
+
+    by_moment : (moment : At) → IsOfSteps moment → FailsIn system (line_of command at x) moment trace.interp trace.copies → (t : FlatCopies) × RefutesCopies f (line_over f (start_at moment) (steps_at moment) x) t
+    by_moment (Exactly n) o h = after command at n trace.copies h
+    by_moment (Base n) o h = after command at n trace.copies h
+    by_moment (Step n) o h = linked command at n trace.copies h
+    by_moment (Body n) o h = absurd o
 
 -- ---- from a trace over cells
 
@@ -325,58 +478,168 @@ mapped_some g [] k y h = absurd (none_some y h)
 mapped_some g (z ∷ xs) zero y h = ap (λ w. Some (g w)) (some_same z y h)
 mapped_some g (z ∷ xs) (suc k) y h = mapped_some g xs k y h
 
-module _ (system : System) (code : Module) (f : Flat) (d : IsFlatOf system code f) (i : Interp) (m : Model) (shares : SharesConstants system i m) where
+-- a model that agrees on the constants shares them too
+shares_too : (system : System) (code : Module) (f : Flat) → IsFlatOf system code f → (i : Interp) (m own : Model) → SharesConstants system i m → AgreeBelow (length f.constants) m own → SharesConstants system i own
+shares_too system code f d i m own shares agrees = record {
+  same = λ k ty at.
+      let count : length f.constants ≡ length (constant_types system) = sym (length-map f.constants (λ c. c.ty)) ∙ ap length (flat_constant_types system code f d) in
+      let within : k < length f.constants = omega (arith, count, slice_get_within (constant_types system) k ty at) in
+      shares.same k ty at ∙ ap (fitting ty) (agrees.symbols k within);
+}
+
+module _ (system : System) (code : Module) (f : Flat) (d : IsFlatOf system code f) (i : Interp) (own : Model) (shares : SharesConstants system i own) where
   abbrev position : FlatPosition → Position
   position p = (state_of p.cells, p.choices)
 
   continues : (p : FlatPosition) (ps : List FlatPosition) → IsState system (state_of p.cells)
-      → ((k : ℕ) (q r : FlatPosition) → slice_get (p ∷ ps) k ≡ Some q → slice_get (p ∷ ps) (k + 1) ≡ Some r → IsStepOver f m q.cells r.cells r.choices r.sites)
+      → ((k : ℕ) (q r : FlatPosition) → slice_get (p ∷ ps) k ≡ Some q → slice_get (p ∷ ps) (k + 1) ≡ Some r → IsStepOver f own q.cells r.cells r.choices r.sites)
       → Continues system i (state_of p.cells) [] (map position ps) []
   unfolding Continues
   continues p [] fit h = refl
   continues p (q ∷ ps) fit h =
-      let step = step_holds.here system code f i m p.cells q.cells q.choices q.sites d shares fit (h 0 p q refl refl) in (
+      let step = step_holds.here system code f i own p.cells q.cells q.choices q.sites d shares fit (h 0 p q refl refl) in (
         step.fits,
         [],
         subst (λ cs. IsStep system i (state_of p.cells) (state_of q.cells) cs []) (sym step.no_choices) step.step,
         continues q ps step.fits (λ k a b x y. h (suc k) a b x (ap (slice_get (p ∷ (q ∷ ps))) (sym (shifted k)) ∙ y)),
       )
 
-  run_there : (p : FlatPosition) (ps : List FlatPosition) → IsRunOver f m (p ∷ ps) → IsRunListing system i (map position (p ∷ ps)) []
+  run_there : (steps : ℕ) (p : FlatPosition) (ps : List FlatPosition) → IsLinked f own Initially steps (p ∷ ps) → IsRunListing system i (positions_of (p ∷ ps)) []
   unfolding IsRunListing
-  run_there p ps h =
-      let initial = initial_holds.here system code f i m p.cells p.choices p.sites d shares (h.begins p refl) in
+  run_there steps p ps h =
+      let initial = initial_holds.here system code f i own p.cells p.choices p.sites d shares (h.begins p refl) in
       (initial.fits, [], initial.initial, continues p ps initial.fits h.goes_on)
 
-  refutes_there : (command steps : ℕ) (x : Formula) → x.copies ≡ 1 → IsInvariantOf (names_over_cells system code) code.decls x → IsAdmitted system i
-      → (ps : List FlatPosition) → IsRunOver f m ps → length ps ≡ steps + 1 → ((p : FlatPosition) → slice_get ps steps ≡ Some p → holds_in f x m p.cells ≡ false)
-      → Refutes system (line_of command steps x) (record { interp = i; copies = map position ps ∷ [] })
+  links_there : (steps : ℕ) (p : FlatPosition) (ps : List FlatPosition) → IsLinked f own Anywhere steps (p ∷ ps) → AreLinked system i (positions_of (p ∷ ps)) []
+  links_there steps p ps h =
+      let any = h.begins p refl in
+      let fit = fit_types (types_of system) p.cells (subst (λ ts. FitAll ts p.cells) (flat_types system code f d) any.fits) in
+      (fit, any.no_choices, continues p ps fit h.goes_on)
+
+  -- every state fits
+  all_fit : (p : FlatPosition) (ps : List FlatPosition) → IsState system (state_of p.cells) → Continues system i (state_of p.cells) [] (map position ps) []
+      → (k : ℕ) (q : FlatPosition) → slice_get (p ∷ ps) k ≡ Some q → IsState system (state_of q.cells)
+  all_fit p ps fit goes k q at = states_fit system code f d i own shares (state_of p.cells) p.choices [] [] (map position ps) fit goes k (position q) (mapped_some position (p ∷ ps) k q at)
+
+  -- the states of a copy that starts so, and that all of them fit
+  record Stood (start : Start) (ps : List FlatPosition) : Type 0 where
+    fits : (k : ℕ) (q : FlatPosition) → slice_get ps k ≡ Some q → IsState system (state_of q.cells)
+
+  stood : (start : Start) (steps : ℕ) (ps : List FlatPosition) → IsLinked f own start steps ps → Stood start ps
   unfolding IsRunListing
-  refutes_there command steps x one a admits [] run n fails = absurd (omega (arith, n))
-  refutes_there command steps x one a admits (p ∷ ps) run n fails =
-      let whole = map position (p ∷ ps) in
-      let listing = run_there p ps run in
-      let last : slice_get (p ∷ ps) steps ≡ Some (get_or (p ∷ ps) steps p) = slice_get-get_or (p ∷ ps) steps p (omega (arith, n)) in
-      let end = get_or (p ∷ ps) steps p in
-      let there : slice_get whole steps ≡ Some (position end) = mapped_some position (p ∷ ps) steps end last in
-      let at : position_at steps whole ≡ position end = get_or_from_slice_get whole steps (position end) no_position there in
-      let fit = states_fit system code f d i m shares (state_of p.cells) p.choices listing.1 [] (map position ps) listing.0 listing.3 steps (position end) there in
-      let false_there : is_true system (scope_of i [] (position_at steps whole).0) a.formula ≡ false =
-      ap (λ (z : Position). is_true system (scope_of i [] z.0) a.formula) at ∙ says_same system code f d i m shares x one a end.cells fit ∙ fails end last in
+  stood start steps [] h = absurd (omega (arith, h.count))
+  stood Initially steps (p ∷ ps) h = let r = run_there steps p ps h in record { fits = all_fit p ps r.0 r.3 }
+  stood Anywhere steps (p ∷ ps) h = let r = links_there steps p ps h in record { fits = all_fit p ps r.0 r.2 }
+
+  is_run : (steps : ℕ) (ps : List FlatPosition) → IsLinked f own Initially steps ps → IsRun system i (positions_of ps)
+  is_run steps [] h = absurd (omega (arith, h.count))
+  is_run steps (p ∷ ps) h = ([], run_there steps p ps h)
+
+  are_linked : (steps : ℕ) (ps : List FlatPosition) → IsLinked f own Anywhere steps ps → (listed : List Site) × AreLinked system i (positions_of ps) listed
+  are_linked steps [] h = absurd (omega (arith, h.count))
+  are_linked steps (p ∷ ps) h = ([], links_there steps p ps h)
+
+module _ (system : System) (code : Module) (f : Flat) (d : IsFlatOf system code f) (i : Interp) (m : Model) (shares : SharesConstants system i m) where
+  -- the states of the copy, as states of the design
+  end_there : (ps : List FlatPosition) (k : ℕ) (q : FlatPosition) → slice_get ps k ≡ Some q → position_at k (positions_of ps) ≡ (state_of q.cells, q.choices)
+  end_there ps k q at =
+      let g : FlatPosition → Position = λ p. (state_of p.cells, p.choices) in
+      get_or_from_slice_get (positions_of ps) k (g q) no_position (mapped_some g ps k q at)
+
+  module _ (start : Start) (steps : ℕ) (x : Formula) (one : x.copies ≡ 1) (a : IsInvariantOf (names_over_cells system code) code.decls x) (ps : List FlatPosition) (count : length ps ≡ steps + 1)
+      (fits : (k : ℕ) (q : FlatPosition) → slice_get ps k ≡ Some q → IsState system (state_of q.cells)) where
+    at : (k : ℕ) → k < steps + 1 → (q : FlatPosition) × (slice_get ps k ≡ Some q)
+    at k l = at_place ps k (omega (arith, l, count))
+
+    false_here : not (asks f m (cells_at steps (ps ∷ [])) x) ≡ true → is_true system (scope_of i [] (position_at steps (positions_of ps)).0) a.formula ≡ false
+    false_here h =
+        let q = at steps (omega arith) in
+        let here : asks f m (cells_at steps (ps ∷ [])) x ≡ holds_in f x m q.0.cells = asks_one f m (cells_in (slice_get ps steps)) x ∙ ap (λ o. holds_in f x m (cells_in o)) q.1 in
+        ap (λ (z : Position). is_true system (scope_of i [] z.0) a.formula) (end_there ps steps q.0 q.1)
+        ∙ says_same system code f d i m shares x one a q.0.cells (fits steps q.0 q.1)
+        ∙ sym here ∙ not_true (asks f m (cells_at steps (ps ∷ [])) x) h
+      where
+        not_true : (b : Bool) → not b ≡ true → b ≡ false
+        not_true true e = cc
+        not_true false e = refl
+
+    false_at : not (asks f m (cells_at steps (ps ∷ [])) x) ≡ true → IsFalseAt system i [] (positions_of ps ∷ []) steps (formula_of system [] x.decl)
+    false_at h =
+        let P : List Position → Type 0 = λ run. is_true system (scope_of i [] (position_at steps run).0) a.formula ≡ false in
+        subst (λ o. IsFalseAt system i [] (positions_of ps ∷ []) steps o) (sym (formula_is system code f d x a)) (All-cons P (positions_of ps) [] (false_here h) (All-nil P))
+
+    invariants_before : (k : ℕ) → k < steps → ask_all f m (cells_at k (ps ∷ [])) (supposed f x.copies) ≡ true → All (InvariantsIn system i (position_at k (positions_of ps)).0) (instances system)
+    invariants_before k l h =
+        let q = at k (omega (arith, l)) in
+        let holds : list_all (λ y. holds_in f y m q.0.cells) (supposed f 1) ≡ true =
+        sym (ask_all_one f m (cells_in (slice_get ps k)) (supposed f x.copies) ∙ ap (λ o. list_all (λ y. holds_in f y m (cells_in o)) (supposed f x.copies)) q.1 ∙ ap (λ c. list_all (λ y. holds_in f y m q.0.cells) (supposed f c)) one) ∙ h in
+        subst (λ (z : Position). All (InvariantsIn system i z.0) (instances system)) (sym (end_there ps k q.0 q.1)) (invariants_here system code f d i m shares q.0.cells (fits k q.0 q.1) holds)
+
+  abbrev Even : ℕ → List Position → Type 0
+  Even steps run = length run ≡ steps + 1
+
+  -- a copy from an initial state, and from any
+  after_here : (line : ℕ) (moment : At) (steps : ℕ) (x : Formula) (t : FlatCopies) → x.copies ≡ 1 → IsInvariantOf (names_over_cells system code) code.decls x → (own : Model) → SharesConstants system i own
+      → (ps : List FlatPosition) → IsLinked f own Initially steps ps → not (asks f m (cells_at steps (ps ∷ [])) x) ≡ true → FailsAfter system (line_of line moment x) steps i (positions_of ps ∷ [])
+  after_here line moment steps x t one a own too ps h fails =
+      let run = positions_of ps in
+      let s = stood system code f d i own too Initially steps ps h in
       record {
-        admitted = admits;
-        fails = record {
-          runs = record {
-            copied = record { number = refl; even = All-cons (λ q. length q ≡ steps + 1) whole [] (length-map (p ∷ ps) position ∙ n) (All-nil (λ q. length q ≡ steps + 1)) };
-            runs = All-cons (IsRun system i) whole [] ([], listing) (All-nil (IsRun system i));
-            agree = λ k l. hyper_none system code f d i 1 (states_at k (whole ∷ []));
-          };
-          fails = subst (λ o. IsFalseAt system i [] (whole ∷ []) steps o) (sym (formula_is system code f d x a))
-              (All-cons (λ q. is_true system (scope_of i [] (position_at steps q).0) a.formula ≡ false) whole [] false_there (All-nil (λ q. is_true system (scope_of i [] (position_at steps q).0) a.formula ≡ false)));
+        runs = record {
+          copied = record { number = refl; even = All-cons (Even steps) run [] (length-map ps (λ p. (state_of p.cells, p.choices)) ∙ h.count) (All-nil (Even steps)) };
+          runs = All-cons (IsRun system i) run [] (is_run system code f d i own too steps ps h) (All-nil (IsRun system i));
+          agree = λ k l. hyper_none system code f d i 1 (states_at k (run ∷ []));
         };
+        fails = false_at Initially steps x one a ps h.count s.fits fails;
+      }
+
+  linked_here : (line : ℕ) (moment : At) (steps : ℕ) (x : Formula) (t : FlatCopies) → x.copies ≡ 1 → IsInvariantOf (names_over_cells system code) code.decls x → (own : Model) → SharesConstants system i own
+      → (ps : List FlatPosition) → IsLinked f own Anywhere steps ps → ((k : ℕ) → k < steps → ask_all f m (cells_at k (ps ∷ [])) (supposed f x.copies) ≡ true)
+      → not (asks f m (cells_at steps (ps ∷ [])) x) ≡ true → FailsInduction system (line_of line moment x) steps i (positions_of ps ∷ [])
+  linked_here line moment steps x t one a own too ps h before fails =
+      let run = positions_of ps in
+      let s = stood system code f d i own too Anywhere steps ps h in
+      let Links : List Position → Type 0 = λ r. (listed : List Site) × AreLinked system i r listed in
+      let Invariants : State → Type 0 = λ z. All (InvariantsIn system i z) (instances system) in
+      record {
+        copied = record { number = refl; even = All-cons (Even steps) run [] (length-map ps (λ p. (state_of p.cells, p.choices)) ∙ h.count) (All-nil (Even steps)) };
+        linked = All-cons Links run [] (are_linked system code f d i own too steps ps h) (All-nil Links);
+        invariants = λ k l. All-cons Invariants (position_at k run).0 [] (invariants_before Anywhere steps x one a ps h.count s.fits k l (before k l)) (All-nil Invariants);
+        hyperinvariants = λ k l. hypers_none system code f d i 1 (states_at k (run ∷ []));
+        hyperaxioms = λ k l. hyper_none system code f d i 1 (states_at k (run ∷ []));
+        fails = false_at Anywhere steps x one a ps h.count s.fits fails;
       }
 
 pub refuted_holds : RefutedLaw
-refuted_holds system code f command steps x t d c one r =
-    refutes_there system code f d (interpretation_of t) r.model (trace_shares system code f d t r.model r.constants) command steps x one (invariant_at system code f d x c one)
-    (admitted system code f d t r.model r.constants r.axioms) t.positions r.run r.steps r.fails
+refuted_holds system code f command at x t d c one of r = record { admitted = admits; fails = by_moment at of r }
+  where
+    a : IsInvariantOf (names_over_cells system code) code.decls x
+    a = invariant_at system code f d x c one
+
+    i : Interp
+    i = interpretation_of t
+
+    admits : IsAdmitted system i
+    admits = admitted system code f d t r.model r.constants r.axioms
+
+    after : (moment : At) (steps : ℕ) (copies : List (List FlatPosition)) → RefutesCopies f (line_over f Initially steps x) (record { constants = t.constants; copies = copies }) → FailsAfter system (line_of command moment x) steps i (map positions_of copies)
+    after moment steps [] h = absurd (omega (arith, h.number, one))
+    after moment steps (ps ∷ (other ∷ rest)) h = absurd (omega (arith, h.number, one))
+    after moment steps (ps ∷ []) h =
+        let copy = All-head (IsCopy f h.model Initially steps) ps [] h.linked in
+        let shares = trace_shares system code f d t h.model h.constants in
+        after_here system code f d i h.model shares command moment steps x t one a copy.own (shares_too system code f d i h.model copy.own shares copy.agrees) ps copy.linked h.fails
+
+    linked : (moment : At) (steps : ℕ) (copies : List (List FlatPosition)) → RefutesCopies f (line_over f Anywhere steps x) (record { constants = t.constants; copies = copies }) → FailsInduction system (line_of command moment x) steps i (map positions_of copies)
+    linked moment steps [] h = absurd (omega (arith, h.number, one))
+    linked moment steps (ps ∷ (other ∷ rest)) h = absurd (omega (arith, h.number, one))
+    linked moment steps (ps ∷ []) h =
+        let copy = All-head (IsCopy f h.model Anywhere steps) ps [] h.linked in
+        let shares = trace_shares system code f d t h.model h.constants in
+        linked_here system code f d i h.model shares command moment steps x t one a copy.own (shares_too system code f d i h.model copy.own shares copy.agrees) ps copy.linked h.before h.fails
+
+    by_moment : (moment : At) → IsOfSteps moment → RefutesCopies f (line_over f (start_at moment) (steps_at moment) x) t → FailsIn system (line_of command at x) moment i (map positions_of t.copies)
+    by_moment (Exactly n) o h = after at n t.copies h
+    by_moment (Base n) o h = after at n t.copies h
+    by_moment (Step n) o h = linked at n t.copies h
+    by_moment (Body n) o h = absurd o

@@ -9,4 +9,4 @@ mod flat_verdicts;
 pub use flat_fits::{fits, init, init_typed, reads, reads_typed, step};
 pub use flat_refutations::{found, lines, refuted};
 pub use flat_sound::{has_valid_constants, is_sound, reads_own_types};
-pub use flat_verdicts::{lines_in_order, verdicts};
+pub use flat_verdicts::{lines_in_order, linked_lines, verdicts};

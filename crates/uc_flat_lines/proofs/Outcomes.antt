@@ -8,11 +8,14 @@ use Rattle.uc_ops.specs.Typing.{AllValid}
 use Rattle.uc_flat.specs.declared.flat.Flat.{Flat}
 use Rattle.uc_flat.specs.declared.flat.Formula.{Formula}
 use Rattle.uc_symstep.specs.Growing.{Grows}
-use Rattle.uc_symstep.specs.Known.{IsKnown, supply_after}
+use Rattle.uc_symstep.specs.Known.{IsKnown, supply_from}
 use Rattle.uc_symstep.proofs.Grown.{grows_value}
 use Rattle.uc_symstep.proofs.Known.{known_grows}
-use Rattle.uc_flat.specs.declared.trace.FlatTrace.{FlatTrace}
-use Rattle.uc_flat.specs.Traces.{constant_types, RefutesFlat}
+use Rattle.uc_flat.specs.Traces.{constant_types}
+use Rattle.uc_flat_copies.specs.declared.trace.FlatCopies.{FlatCopies}
+use Rattle.uc_flat_copies.specs.declared.trace.Start.{Start}
+use Rattle.uc_flat_copies.specs.Traces.{RefutesCopies}
+use Rattle.uc_flat_copies.specs.Lines.{line_over}
 use Rattle.uc_log.specs.Problems.{Question}
 use Rattle.uc_obligations.specs.Goals.{IsGoal, IsObligation, IsTold}
 use Rattle.uc_obligations.proofs.Goaled.{goal_grows}
@@ -22,50 +25,50 @@ use Rattle.uc_flat_lines.specs.Deciding.{IsSolution, IsOutcome, IsSpentFor, IsSp
 use Rattle.uc_flat_lines.specs.Lines.{IsFlatVerdict, IsHonestVerdict}
 
 -- where no model makes the goal true, no trace refutes the formula
-pub none_all : (f : Flat) (k n : ℕ) (nodes : List Node) (goal : ℕ) → ((x : Formula) → slice_get f.formulas k ≡ Some x → IsObligation f x n nodes goal) → IsSolution nodes goal None → (x : Formula) → slice_get f.formulas k ≡ Some x
-    → IsOutcome f x n None
-none_all f k n nodes goal o never x at t r = let m = (o x at).found t r in never m.0 m.1
+pub none_all : (f : Flat) (start : Start) (k n : ℕ) (nodes : List Node) (goal : ℕ) → ((x : Formula) → slice_get f.formulas k ≡ Some x → IsObligation f start x n nodes goal) → IsSolution nodes goal None → (x : Formula) → slice_get f.formulas k ≡ Some x
+    → IsOutcome f start x n None
+none_all f start k n nodes goal o never x at t r = let m = (o x at).found t r in never m.0 m.1
 
 -- the trace that is built of a model refutes it
-pub one_all : (f : Flat) (k n : ℕ) (old new : List Node) (goal : ℕ) (t : FlatTrace) → Grows old new → goal < length old → ((x : Formula) → slice_get f.formulas k ≡ Some x → IsGoal f x n old goal)
-    → ((x : Formula) → IsGoal f x n new goal → RefutesFlat f x n t) → (x : Formula) → slice_get f.formulas k ≡ Some x → IsOutcome f x n (Some t)
-one_all f k n old new goal t grown l g built x at = built x (goal_grows f x n old new goal grown l (g x at))
+pub one_all : (f : Flat) (start : Start) (k n : ℕ) (old new : List Node) (goal : ℕ) (t : FlatCopies) → Grows old new → goal < length old → ((x : Formula) → slice_get f.formulas k ≡ Some x → x.copies ≡ 1) → ((x : Formula) → slice_get f.formulas k ≡ Some x → IsGoal f start x n old goal)
+    → ((x : Formula) → x.copies ≡ 1 → IsGoal f start x n new goal → RefutesCopies f (line_over f start n x) t) → (x : Formula) → slice_get f.formulas k ≡ Some x → IsOutcome f start x n (Some t)
+one_all f start k n old new goal t grown l single g built x at = built x (single x at) (goal_grows f start x n old new goal grown l (g x at))
 
-pub honest_after : (f : Flat) (budget n : ℕ) (nodes : List Node) (goal : ℕ) (why : FlatWhy) → IsKnown (supply_after f n) nodes goal → IsHonestFor budget nodes goal why → IsHonestAfter f budget n why
-honest_after f budget n nodes goal Budget k h = h (supply_after f n) k
-honest_after f budget n nodes goal Memory k h = tt
+pub honest_after : (f : Flat) (start : Start) (budget n : ℕ) (nodes : List Node) (goal : ℕ) (why : FlatWhy) → IsKnown (supply_from f start n) nodes goal → IsHonestFor budget nodes goal why → IsHonestAfter f start budget n why
+honest_after f start budget n nodes goal Budget k h = h (supply_from f start n) k
+honest_after f start budget n nodes goal Memory k h = tt
 
 -- the problem of a goal is that of its formula
-pub opened_after : (f : Flat) (k n : ℕ) (old new : List Node) (goal : ℕ) (opened : Option Question) (here budget : ℕ) (why : FlatWhy) → Grows old new → goal < length old
-    → ((x : Formula) → slice_get f.formulas k ≡ Some x → IsGoal f x n old goal) → IsOpenedFor new goal opened here budget why → IsOpenedAfter f k n new opened here budget why
-opened_after f k n old new goal opened here budget Budget g l is h = (goal, (λ x at. goal_grows f x n old new goal g l (is x at)), h.0, h.1)
-opened_after f k n old new goal opened here budget Memory g l is h = tt
+pub opened_after : (f : Flat) (start : Start) (k n : ℕ) (old new : List Node) (goal : ℕ) (opened : Option Question) (here budget : ℕ) (why : FlatWhy) → Grows old new → goal < length old
+    → ((x : Formula) → slice_get f.formulas k ≡ Some x → IsGoal f start x n old goal) → IsOpenedFor new goal opened here budget why → IsOpenedAfter f start k n new opened here budget why
+opened_after f start k n old new goal opened here budget Budget g l is h = (goal, (λ x at. goal_grows f start x n old new goal g l (is x at)), h.0, h.1)
+opened_after f start k n old new goal opened here budget Memory g l is h = tt
 
 -- a model of a known goal tells a trace
-pub never_untold : (f : Flat) (n : ℕ) (old new : List Node) (goal : ℕ) (m : Model) → Grows old new → goal < length old → IsSolution old goal (Some m) → IsKnown (supply_after f n) old goal → AllValid (constant_types f)
-    → IsTold f n new goal m None → ⊥
-never_untold f n old new goal m g l s k valid t = t valid (known_grows (supply_after f n) old new g goal k) (ap truth_of (grows_value old new g m goal l) ∙ s)
+pub never_untold : (f : Flat) (start : Start) (n : ℕ) (old new : List Node) (goal : ℕ) (m : Model) → Grows old new → goal < length old → IsSolution old goal (Some m) → IsKnown (supply_from f start n) old goal → AllValid (constant_types f)
+    → IsTold f start n new goal m None → ⊥
+never_untold f start n old new goal m g l s k valid t = t valid (known_grows (supply_from f start n) old new g goal k) (ap truth_of (grows_value old new g m goal l) ∙ s)
 
 -- from what is found of a formula to its verdict
-pub verdict_right : (f : Flat) (x : Formula) (n k : ℕ) (r : Result (Option FlatTrace) FlatWhy) → IfOk r (λ o. (y : Formula) → slice_get f.formulas k ≡ Some y → IsOutcome f y n o) → slice_get f.formulas k ≡ Some x
-    → IsFlatVerdict f x n (verdict_of r)
-verdict_right f x n k (Ok None) h at = h x at
-verdict_right f x n k (Ok (Some t)) h at = h x at
-verdict_right f x n k (Err why) h at = tt
+pub verdict_right : (f : Flat) (start : Start) (x : Formula) (n k : ℕ) (r : Result (Option FlatCopies) FlatWhy) → IfOk r (λ o. (y : Formula) → slice_get f.formulas k ≡ Some y → IsOutcome f start y n o) → slice_get f.formulas k ≡ Some x
+    → IsFlatVerdict f start x n (verdict_of r)
+verdict_right f start x n k (Ok None) h at = h x at
+verdict_right f start x n k (Ok (Some t)) h at = h x at
+verdict_right f start x n k (Err why) h at = tt
 
-pub verdict_spent : (budget before after : ℕ) (r : Result (Option FlatTrace) FlatWhy) → before ≤ after → IfErr r (IsSpentFor budget before after) → IsSpentOn budget before after (verdict_of r)
+pub verdict_spent : (budget before after : ℕ) (r : Result (Option FlatCopies) FlatWhy) → before ≤ after → IfErr r (IsSpentFor budget before after) → IsSpentOn budget before after (verdict_of r)
 verdict_spent budget before after (Ok None) l h = l
 verdict_spent budget before after (Ok (Some t)) l h = l
 verdict_spent budget before after (Err why) l h = h
 
-pub verdict_honest : (f : Flat) (budget n : ℕ) (r : Result (Option FlatTrace) FlatWhy) → IfErr r (IsHonestAfter f budget n) → IsHonestVerdict f budget n (verdict_of r)
-verdict_honest f budget n (Ok None) h = tt
-verdict_honest f budget n (Ok (Some t)) h = tt
-verdict_honest f budget n (Err Budget) h = h
-verdict_honest f budget n (Err Memory) h = tt
+pub verdict_honest : (f : Flat) (start : Start) (budget n : ℕ) (r : Result (Option FlatCopies) FlatWhy) → IfErr r (IsHonestAfter f start budget n) → IsHonestVerdict f start budget n (verdict_of r)
+verdict_honest f start budget n (Ok None) h = tt
+verdict_honest f start budget n (Ok (Some t)) h = tt
+verdict_honest f start budget n (Err Budget) h = h
+verdict_honest f start budget n (Err Memory) h = tt
 
-pub verdict_opened : (f : Flat) (k n : ℕ) (nodes : List Node) (opened : Option Question) (here budget : ℕ) (r : Result (Option FlatTrace) FlatWhy) → IfErr r (IsOpenedAfter f k n nodes opened here budget)
-    → IsOpenedOn f k n nodes opened here budget (verdict_of r)
-verdict_opened f k n nodes opened here budget (Ok None) h = tt
-verdict_opened f k n nodes opened here budget (Ok (Some t)) h = tt
-verdict_opened f k n nodes opened here budget (Err why) h = h
+pub verdict_opened : (f : Flat) (start : Start) (k n : ℕ) (nodes : List Node) (opened : Option Question) (here budget : ℕ) (r : Result (Option FlatCopies) FlatWhy) → IfErr r (IsOpenedAfter f start k n nodes opened here budget)
+    → IsOpenedOn f start k n nodes opened here budget (verdict_of r)
+verdict_opened f start k n nodes opened here budget (Ok None) h = tt
+verdict_opened f start k n nodes opened here budget (Ok (Some t)) h = tt
+verdict_opened f start k n nodes opened here budget (Err why) h = h

@@ -14,8 +14,10 @@ use Rattle.uc_solver.specs.declared.answer.Answer.{Answer}
 use Rattle.uc_solver.specs.declared.answer.Answer.TheVariants.{Model as Found, Refuted}
 use Rattle.uc_solver.specs.declared.answer.SolveError.{SolveError}
 use Rattle.uc_solver.specs.declared.answer.SolveError.TheVariants.{NoMemory, Budget as SpentBudget}
-use Rattle.uc_flat.specs.declared.trace.FlatTrace.{FlatTrace}
-use Rattle.uc_flat.specs.Traces.{RefutesFlat}
+use Rattle.uc_flat_copies.specs.declared.trace.FlatCopies.{FlatCopies}
+use Rattle.uc_flat_copies.specs.declared.trace.Start.{Start}
+use Rattle.uc_flat_copies.specs.Traces.{RefutesCopies}
+use Rattle.uc_flat_copies.specs.Lines.{line_over}
 use Rattle.uc_obligations.specs.Goals.{IsGoal}
 use Rattle.uc_flat_lines.specs.Lines.{free_bits}
 use Rattle.uc_flat_lines.specs.declared.line.FlatVerdict.{FlatVerdict}
@@ -33,9 +35,9 @@ IsSolution nodes goal None = (m : Model) → holds m nodes goal ≡ true → ⊥
 IsSolution nodes goal (Some m) = holds m nodes goal ≡ true
 
 -- a trace refutes the formula after n steps, or none does
-abbrev pub IsOutcome : Flat → Formula → ℕ → Option FlatTrace → Type 0
-IsOutcome f x n None = (t : FlatTrace) → RefutesFlat f x n t → ⊥
-IsOutcome f x n (Some t) = RefutesFlat f x n t
+abbrev pub IsOutcome : Flat → Start → Formula → ℕ → Option FlatCopies → Type 0
+IsOutcome f start x n None = (t : FlatCopies) → RefutesCopies f (line_over f start n x) t → ⊥
+IsOutcome f start x n (Some t) = RefutesCopies f (line_over f start n x) t
 
 -- the entries that were spent: at least the budget where there is no answer by it
 abbrev pub IsSpentFor : ℕ → ℕ → ℕ → FlatWhy → Type 0
@@ -52,9 +54,9 @@ IsHonestFor budget nodes goal Budget = (supply : List Ty) → IsKnown supply nod
 IsHonestFor budget nodes goal Memory = Unit {0}
 
 -- So is a formula after n steps, with the free bits of its line.
-abbrev pub IsHonestAfter : Flat → ℕ → ℕ → FlatWhy → Type 0
-IsHonestAfter f budget n Budget = budget < 2 ^ free_bits f n
-IsHonestAfter f budget n Memory = Unit {0}
+abbrev pub IsHonestAfter : Flat → Start → ℕ → ℕ → FlatWhy → Type 0
+IsHonestAfter f start budget n Budget = budget < 2 ^ free_bits f start n
+IsHonestAfter f start budget n Memory = Unit {0}
 
 -- A goal is undecided by its budget: the opened problem stands for it, and the budget was spent on that problem.
 abbrev pub IsOpenedFor : List Node → ℕ → Option Question → ℕ → ℕ → FlatWhy → Type 0
@@ -62,14 +64,14 @@ IsOpenedFor nodes goal opened here budget Budget = OpenedStands nodes goal opene
 IsOpenedFor nodes goal opened here budget other = Unit {0}
 
 -- So is formula k after n steps: the problem stands for a term that is its goal.
-abbrev pub IsOpenedAfter : Flat → ℕ → ℕ → List Node → Option Question → ℕ → ℕ → FlatWhy → Type 0
-IsOpenedAfter f k n nodes opened here budget Budget =
-    (goal : ℕ) × ((x : Formula) → slice_get f.formulas k ≡ Some x → IsGoal f x n nodes goal) × OpenedStands nodes goal opened × (here ≡ budget)
-IsOpenedAfter f k n nodes opened here budget other = Unit {0}
+abbrev pub IsOpenedAfter : Flat → Start → ℕ → ℕ → List Node → Option Question → ℕ → ℕ → FlatWhy → Type 0
+IsOpenedAfter f start k n nodes opened here budget Budget =
+    (goal : ℕ) × ((x : Formula) → slice_get f.formulas k ≡ Some x → IsGoal f start x n nodes goal) × OpenedStands nodes goal opened × (here ≡ budget)
+IsOpenedAfter f start k n nodes opened here budget other = Unit {0}
 
-abbrev pub IsOpenedOn : Flat → ℕ → ℕ → List Node → Option Question → ℕ → ℕ → FlatVerdict → Type 0
-IsOpenedOn f k n nodes opened here budget (Undef why) = IsOpenedAfter f k n nodes opened here budget why
-IsOpenedOn f k n nodes opened here budget other = Unit {0}
+abbrev pub IsOpenedOn : Flat → Start → ℕ → ℕ → List Node → Option Question → ℕ → ℕ → FlatVerdict → Type 0
+IsOpenedOn f start k n nodes opened here budget (Undef why) = IsOpenedAfter f start k n nodes opened here budget why
+IsOpenedOn f start k n nodes opened here budget other = Unit {0}
 
 -- what an answer of the solver says of a goal: there is a model, there is none, or the same cause why neither is known
 abbrev pub solution_of : Result Answer SolveError → Result (Option Model) FlatWhy
@@ -79,7 +81,7 @@ solution_of (Err SpentBudget) = Err Budget
 solution_of (Err NoMemory) = Err Memory
 
 -- the verdict where a trace refutes the formula, where none does, and the same cause where neither is known
-abbrev pub verdict_of : Result (Option FlatTrace) FlatWhy → FlatVerdict
+abbrev pub verdict_of : Result (Option FlatCopies) FlatWhy → FlatVerdict
 verdict_of (Ok (Some t)) = Failed t
 verdict_of (Ok None) = Passed
 verdict_of (Err why) = Undef why

@@ -3,10 +3,12 @@ use Rattle.std.specs.Prelude.{◌≡◌, ℕ, zero, suc, ◌+◌, ◌*◌, ◌<�
 use Rattle.uc_flat.specs.declared.flat.Flat.{Flat}
 use Rattle.uc_flat.specs.declared.flat.Formula.{Formula}
 use Rattle.uc_flat.specs.Drawn.{listed_if}
-use Rattle.uc_symstep.specs.Known.{supply_after}
+use Rattle.uc_symstep.specs.Known.{supply_from}
 use Rattle.uc_lower.specs.Bits.{type_bits}
-use Rattle.uc_flat.specs.declared.trace.FlatTrace.{FlatTrace}
-use Rattle.uc_flat.specs.Traces.{RefutesFlat}
+use Rattle.uc_flat_copies.specs.declared.trace.FlatCopies.{FlatCopies}
+use Rattle.uc_flat_copies.specs.declared.trace.Start.{Start}
+use Rattle.uc_flat_copies.specs.Traces.{RefutesCopies}
+use Rattle.uc_flat_copies.specs.Lines.{line_over}
 use Rattle.uc_flat_lines.specs.declared.line.FlatLine.{FlatLine}
 use Rattle.uc_flat_lines.specs.declared.line.FlatVerdict.{FlatVerdict}
 use Rattle.uc_flat_lines.specs.declared.line.FlatVerdict.TheVariants.{Passed, Failed, Undef}
@@ -35,36 +37,36 @@ lines_below f zero = []
 lines_below f (suc n) = lines_below f n ++ step_lines f n
 
 -- A verdict on a formula after n steps: passed where no trace refutes it, failed by a trace that does.
-abbrev pub IsFlatVerdict : Flat → Formula → ℕ → FlatVerdict → Type 0
-IsFlatVerdict f x n Passed = (t : FlatTrace) → RefutesFlat f x n t → ⊥
-IsFlatVerdict f x n (Failed t) = RefutesFlat f x n t
-IsFlatVerdict f x n (Undef why) = Unit {0}
+abbrev pub IsFlatVerdict : Flat → Start → Formula → ℕ → FlatVerdict → Type 0
+IsFlatVerdict f start x n Passed = (t : FlatCopies) → RefutesCopies f (line_over f start n x) t → ⊥
+IsFlatVerdict f start x n (Failed t) = RefutesCopies f (line_over f start n x) t
+IsFlatVerdict f start x n (Undef why) = Unit {0}
 
 -- the line has a verdict on its formula after its steps
-abbrev pub IsRightLine : Flat → FlatLine → Type 0
-IsRightLine f l = (x : Formula) → slice_get f.formulas l.formula ≡ Some x → IsFlatVerdict f x l.steps l.verdict
+abbrev pub IsRightLine : Flat → Start → FlatLine → Type 0
+IsRightLine f start l = (x : Formula) → slice_get f.formulas l.formula ≡ Some x → IsFlatVerdict f start x l.steps l.verdict
 
 abbrev pub is_out_of_budget : FlatVerdict → Bool
 is_out_of_budget (Undef Budget) = true
 is_out_of_budget other = false
 
--- The free bits of a line after n steps: those of the types of the constants, of the cells and of the free values that the init code draws, and n times those of the free values that a step draws.
-abbrev pub free_bits : Flat → ℕ → ℕ
-free_bits f n = type_bits (supply_after f n)
+-- The free bits of a line after n steps: those of the types of the constants, of the cells and, from an initial state, of the free values that the init code draws, and n times those of the free values that a step draws.
+abbrev pub free_bits : Flat → Start → ℕ → ℕ
+free_bits f start n = type_bits (supply_from f start n)
 
 -- A line is undecided by its budget only where the budget is below 2 to its free bits.
-abbrev pub IsHonestVerdict : Flat → ℕ → ℕ → FlatVerdict → Type 0
-IsHonestVerdict f budget n (Undef Budget) = budget < 2 ^ free_bits f n
-IsHonestVerdict f budget n other = Unit {0}
+abbrev pub IsHonestVerdict : Flat → Start → ℕ → ℕ → FlatVerdict → Type 0
+IsHonestVerdict f start budget n (Undef Budget) = budget < 2 ^ free_bits f start n
+IsHonestVerdict f start budget n other = Unit {0}
 
-abbrev pub IsHonestLine : Flat → ℕ → FlatLine → Type 0
-IsHonestLine f budget l = IsHonestVerdict f budget l.steps l.verdict
+abbrev pub IsHonestLine : Flat → Start → ℕ → FlatLine → Type 0
+IsHonestLine f start budget l = IsHonestVerdict f start budget l.steps l.verdict
 
--- These lines are judged, in order, each with a right verdict. Each one that is undecided by its budget spent it, and none spent more: before and after count the entries that were spent in all.
-pub record AreFlatJudged (f : Flat) (budget before after : ℕ) (lines : List (ℕ × ℕ)) (ls : List FlatLine) : Type 0 where
+-- These lines, of runs or of linked states, are judged, in order, each with a right verdict. Each one that is undecided by its budget spent it, and none spent more: before and after count the entries that were spent in all.
+pub record AreFlatJudged (f : Flat) (start : Start) (budget before after : ℕ) (lines : List (ℕ × ℕ)) (ls : List FlatLine) : Type 0 where
   pub are : map (λ l. (l.steps, l.formula)) ls ≡ lines
-  pub right : All (IsRightLine f) ls
+  pub right : All (IsRightLine f start) ls
   pub spent : before + budget * count_by (λ l. is_out_of_budget l.verdict) ls ≤ after
   pub few : after ≤ before + 2 ^ 32 * length ls
   pub within : after ≤ before + budget * length ls
-  pub honest : All (IsHonestLine f budget) ls
+  pub honest : All (IsHonestLine f start budget) ls

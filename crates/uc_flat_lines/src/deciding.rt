@@ -14,7 +14,8 @@ ghost use Rattle.uc_flat_lines.specs.Deciding.{IsOutcome, IsSpentFor, IsSpentOn,
 use crate::line::{FlatVerdict, FlatWhy};
 use crate::solving::solution;
 use std::alloc::Global;
-use uc_flat::{Flat, FlatTrace};
+use uc_flat::Flat;
+use uc_flat_copies::FlatCopies;
 use uc_log::Meter;
 use uc_obligations::{Unrolling, build, goal};
 use uc_terms::Terms;
@@ -39,10 +40,10 @@ pub fn judge<M: Meter>(
     requires valid { AllValid (constant_types f.now) }
     requires some { 1 ≤ budget }
     requires total { M.total meter.old + 2 ^ 32 ≤ 2 ^ 127 }
-    ensures right { (x : AFormula) → slice_get f.now.formulas k ≡ Some x → IsFlatVerdict f.now x steps result }
+    ensures right { (x : AFormula) → slice_get f.now.formulas k ≡ Some x → IsFlatVerdict f.now run.now.start x steps result }
     ensures spent { IsSpentOn budget (M.total meter.old) (M.total meter.new) result }
-    ensures honest { IsHonestVerdict f.now budget steps result }
-    ensures opened { IsOpenedOn f.now k steps terms.new (M.opened meter.new) (M.here meter.new) budget result }
+    ensures honest { IsHonestVerdict f.now run.now.start budget steps result }
+    ensures opened { IsOpenedOn f.now run.now.start k steps terms.new (M.opened meter.new) (M.here meter.new) budget result }
     ensures few { M.total meter.new ≤ M.total meter.old + 2 ^ 32 }
     ensures within { M.total meter.new ≤ M.total meter.old + budget }
     ensures grown { Grows terms.old terms.new }
@@ -52,7 +53,7 @@ pub fn judge<M: Meter>(
 }
 
 /// The verdict where a trace refutes the formula, where none does, and where neither is known.
-fn verdict_of(outcome: Result<Option<FlatTrace>, FlatWhy>) -> FlatVerdict
+fn verdict_of(outcome: Result<Option<FlatCopies>, FlatWhy>) -> FlatVerdict
     ensures { result ≡ verdict_of outcome }
 {
     match outcome {
@@ -72,7 +73,7 @@ fn refutation<M: Meter>(
     k: u32,
     budget: u64,
     meter: &mut M,
-) -> Result<Option<FlatTrace>, FlatWhy>
+) -> Result<Option<FlatCopies>, FlatWhy>
     requires sound { IsSound f.now }
     requires unrolled { IsUnrolled f.now terms.old steps run.now }
     requires there { k < length f.now.formulas }
@@ -81,10 +82,10 @@ fn refutation<M: Meter>(
     requires valid { AllValid (constant_types f.now) }
     requires some { 1 ≤ budget }
     requires total { M.total meter.old + 2 ^ 32 ≤ 2 ^ 127 }
-    ensures outcome { IfOk result (λ o. (x : AFormula) → slice_get f.now.formulas k ≡ Some x → IsOutcome f.now x steps o) }
+    ensures outcome { IfOk result (λ o. (x : AFormula) → slice_get f.now.formulas k ≡ Some x → IsOutcome f.now run.now.start x steps o) }
     ensures cause { IfErr result (IsSpentFor budget (M.total meter.old) (M.total meter.new)) }
-    ensures honest { IfErr result (IsHonestAfter f.now budget steps) }
-    ensures opened { IfErr result (IsOpenedAfter f.now k steps terms.new (M.opened meter.new) (M.here meter.new) budget) }
+    ensures honest { IfErr result (IsHonestAfter f.now run.now.start budget steps) }
+    ensures opened { IfErr result (IsOpenedAfter f.now run.now.start k steps terms.new (M.opened meter.new) (M.here meter.new) budget) }
     ensures later { M.total meter.old ≤ M.total meter.new }
     ensures few { M.total meter.new ≤ M.total meter.old + 2 ^ 32 }
     ensures within { M.total meter.new ≤ M.total meter.old + budget }

@@ -1,4 +1,5 @@
-//! Judges the formulas of a design over numbered cells after 0, 1 and so on up to some number of steps.
+//! Judges the formulas of a design over numbered cells: after 0, 1 and so on up to some number of steps from an initial state, and after
+//! so many states that are linked by steps from any state, in which the formulas hold.
 //!
 //! The states after each step become terms of one table, and the solver decides for each formula of one copy whether its goal
 //! is true under some model. A model that is found is read as a trace that refutes the formula.
@@ -11,6 +12,6 @@ mod line;
 mod solving;
 
 pub use deciding::judge;
-pub use judging::judge_flat;
+pub use judging::{judge_flat, judge_linked};
 pub use law::{is_even_where_known, reads_own_types};
 pub use line::{FlatLine, FlatVerdict, FlatWhy};

@@ -1,7 +1,7 @@
 //! Lines with their verdicts.
 
 use std::alloc::AllocError;
-use uc_flat::FlatTrace;
+use uc_flat_copies::FlatCopies;
 use uc_linear::LinearError;
 
 /// Why a line is not decided.
@@ -42,7 +42,7 @@ pub enum FlatVerdict {
     /// No trace refutes the formula.
     Passed,
     /// A trace that refutes it.
-    Failed(FlatTrace),
+    Failed(FlatCopies),
     /// It is not known whether there is one.
     Undef(FlatWhy),
 }

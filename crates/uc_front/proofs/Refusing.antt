@@ -9,14 +9,15 @@ use Rattle.uc_front.specs.declared.error.FrontError.{FrontError}
 use Rattle.uc_front.specs.declared.error.FrontError.TheVariants.{NoMemory, ReadFault, Refused}
 use Rattle.uc_front.specs.declared.lexing.Source.{Source}
 use Rattle.uc_front.specs.declared.refusal.Refusal.{Refusal}
-use Rattle.uc_front.specs.declared.refusal.Refusal.TheVariants.{NoFile, TooLong, BadByte, BadNumber, OpenComment, Syntax, TooDeep, TooManyNames, NoMain, BreaksRule, NotBuilt}
+use Rattle.uc_front.specs.declared.refusal.Refusal.TheVariants.{NoFile, TooLong, BadByte, BadNumber, OpenComment, Syntax, TooDeep, TooManyNames, NoMain, BreaksRule, BreaksControl, NotBuilt}
 use Rattle.uc_front.specs.Sources.{AreTexts, AreSources, texts_of}
 use Rattle.uc_syntax.specs.Contents.{Contents, design_of}
 use Rattle.uc_meaning.specs.Lookup.{System, system_of}
 use Rattle.uc_rules.specs.Declarations.{KeepsRules, IsFirstFault}
-use Rattle.uc_front.specs.Denotes.{names_of, AreSpelled, main_in, main_name, IsDesignOf, IsKept}
+use Rattle.uc_order_rules.specs.Order.{KeepsOrder}
+use Rattle.uc_front.specs.Denotes.{names_of, AreSpelled, main_in, main_name, IsDesignOf, IsTyped, IsKept}
 use Rattle.uc_front.specs.Refused.{IsUnread, IsUnlexed, place_at, refusal_of, IsUnspelled, IsUnbuilt, IsRefused}
-use Rattle.uc_front.specs.Errors.{IsFrontError, IsTextError, IsRuleFault, IsStopped}
+use Rattle.uc_front.specs.Errors.{IsFrontError, IsTextError, IsRuleFault, IsControlFault, IsStopped}
 
 unspelled : (files : List (List ℕ)) (sources : List Source) (r : Refusal) → IsUnspelled (names_of files sources) sources r → IsUnbuilt files sources r
 unspelled files sources r h = by h.3 h.7
@@ -61,6 +62,28 @@ by_rules files sources d main (Refused r) denoted whole h = by r h
     by (TooManyNames p) h = absurd h
     by NoMain h = absurd h
     by (NotBuilt p) h = absurd h
+    by (BreaksControl fault) h = absurd h
+
+-- of the rules on control blocks
+pub by_control : (files : List (List ℕ)) (sources : List Source) (system : System) (e : FrontError) → IsDesignOf files sources system → IsTyped system → KeepsOrder system →
+    IsTextError (IsControlFault system) e → IsTextError (IsUnbuilt files sources) e
+by_control files sources system NoMemory denoted typed ordered h = tt
+by_control files sources system ReadFault denoted typed ordered h = h
+by_control files sources system (Refused r) denoted typed ordered h = by r h
+  where
+    by : (r : Refusal) → IsControlFault system r → IsUnbuilt files sources r
+    by (BreaksControl fault) h = (system, denoted, typed, ordered, h)
+    by (BreaksRule fault) h = absurd h
+    by (NotBuilt p) h = absurd h
+    by (NoFile n) h = absurd h
+    by (TooLong n) h = absurd h
+    by (BadByte p) h = absurd h
+    by (BadNumber p) h = absurd h
+    by (OpenComment p) h = absurd h
+    by (Syntax p) h = absurd h
+    by (TooDeep p) h = absurd h
+    by (TooManyNames p) h = absurd h
+    by NoMain h = absurd h
 
 -- of running
 pub by_running : (files : List (List ℕ)) (sources : List Source) (system : System) (e : FrontError) → IsDesignOf files sources system → IsKept system → IsTextError (IsStopped system) e →
@@ -72,6 +95,7 @@ by_running files sources system (Refused r) denoted keeps h = by r h
     by : (r : Refusal) → IsStopped system r → IsUnbuilt files sources r
     by (NotBuilt p) h = (system, denoted, keeps, h.0, h.1)
     by (BreaksRule fault) h = absurd h
+    by (BreaksControl fault) h = absurd h
     by (NoFile n) h = absurd h
     by (TooLong n) h = absurd h
     by (BadByte p) h = absurd h

@@ -13,6 +13,7 @@ use Rattle.uc_meaning.specs.Lookup.{System}
 use Rattle.uc_rules.specs.declared.fault.Fault.{Fault}
 use Rattle.uc_rules.specs.Declarations.{KeepsRules, IsFirstFault}
 use Rattle.uc_order_rules.specs.Order.{KeepsOrder, IsFirstOrderFault}
+use Rattle.uc_report.specs.ControlRules.{KeepsControl}
 use Rattle.uc_runnable.specs.Runnable.{IsRunnable}
 use Rattle.uc_runnable.specs.Outside.{outside_in}
 use Rattle.uc_front.specs.declared.lexing.Source.{Source}
@@ -78,11 +79,11 @@ contents_of system = design_of system.names system.files system.modules
 abbrev pub IsTyped : System → Type 0
 IsTyped system = KeepsRules (contents_of system) main_name
 
--- the design keeps the static rules, and the rules on order and sizes
+-- the design keeps the static rules, the rules on order and sizes, and those on control blocks
 abbrev pub IsKept : System → Type 0
-IsKept system = IsTyped system × KeepsOrder system
+IsKept system = IsTyped system × KeepsOrder system × KeepsControl system
 
--- It breaks a rule: this is the first fault of the static rules, or, where these are kept, of the rules on order and sizes.
+-- It breaks a rule of the first two kinds: this is the first fault of the static rules, or, where these are kept, of the rules on order and sizes.
 abbrev pub IsFirstBroken : System → Fault → Type 0
 IsFirstBroken system fault = IsFirstFault (contents_of system) main_name fault ⊎ (IsTyped system × IsFirstOrderFault system fault)
 

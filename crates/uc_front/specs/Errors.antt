@@ -4,10 +4,11 @@ use Rattle.uc_syntax.specs.Contents.{Contents}
 use Rattle.uc_meaning.specs.Lookup.{System, system_of}
 use Rattle.uc_rules.specs.Declarations.{KeepsRules, IsFirstFault}
 use Rattle.uc_order_rules.specs.Order.{IsFirstOrderFault}
+use Rattle.uc_report.specs.ControlRules.{IsFirstControlFault}
 use Rattle.uc_front.specs.declared.error.FrontError.{FrontError}
 use Rattle.uc_front.specs.declared.error.FrontError.TheVariants.{NoMemory, ReadFault, Refused}
 use Rattle.uc_front.specs.declared.refusal.Refusal.{Refusal}
-use Rattle.uc_front.specs.declared.refusal.Refusal.TheVariants.{NoFile, TooLong, BreaksRule, NotBuilt}
+use Rattle.uc_front.specs.declared.refusal.Refusal.TheVariants.{NoFile, TooLong, BreaksRule, BreaksControl, NotBuilt}
 use Rattle.uc_front.specs.Denotes.{main_name, RunsToday}
 use Rattle.uc_front.specs.Refused.{IsLeftAt}
 
@@ -37,6 +38,11 @@ IsRuleFault d main other = ⊥
 abbrev pub IsOrderFault : System → Refusal → Type 0
 IsOrderFault system (BreaksRule fault) = IsFirstOrderFault system fault
 IsOrderFault system other = ⊥
+
+-- a design is refused for the first fault of its control block
+abbrev pub IsControlFault : System → Refusal → Type 0
+IsControlFault system (BreaksControl fault) = IsFirstControlFault system fault
+IsControlFault system other = ⊥
 
 -- a design is refused since it does not run today, where it is at fault
 abbrev pub IsStopped : System → Refusal → Type 0

@@ -2,8 +2,9 @@
 use Rattle.std.specs.Prelude.{ℕ}
 use Rattle.uc_lexer.specs.declared.place.Place.{Place}
 use Rattle.uc_rules.specs.Faults.{number_of as rule_number}
+use Rattle.uc_report.specs.ControlRules.{control_number}
 use Rattle.uc_front.specs.declared.refusal.Refusal.{Refusal}
-use Rattle.uc_front.specs.declared.refusal.Refusal.TheVariants.{NoFile, TooLong, BadByte, BadNumber, OpenComment, Syntax, TooDeep, TooManyNames, NoMain, BreaksRule, NotBuilt}
+use Rattle.uc_front.specs.declared.refusal.Refusal.TheVariants.{NoFile, TooLong, BadByte, BadNumber, OpenComment, Syntax, TooDeep, TooManyNames, NoMain, BreaksRule, BreaksControl, NotBuilt}
 
 -- the front of the file of this number
 abbrev pub front : ℕ → Place
@@ -20,6 +21,7 @@ number_of (TooDeep p) = 7
 number_of (NoFile file) = 8
 number_of NoMain = 10
 number_of (BreaksRule fault) = rule_number fault.rule
+number_of (BreaksControl fault) = control_number fault.rule
 number_of (TooManyNames p) = 32
 number_of (NotBuilt p) = 33
 
@@ -36,3 +38,4 @@ place_of (TooManyNames p) = p
 place_of (NotBuilt p) = p
 place_of NoMain = front 0
 place_of (BreaksRule fault) = fault.place
+place_of (BreaksControl fault) = fault.place

@@ -12,14 +12,16 @@ use Rattle.uc_syntax.specs.declared.declaration.Module.{Module}
 use Rattle.uc_forms.specs.Answer.{Answer, spelled, wrong, too_deep, too_many}
 use Rattle.uc_grammar.specs.declared.word.Word.{Word}
 use Rattle.uc_meaning.specs.Lookup.{System}
+use Rattle.uc_order_rules.specs.Order.{KeepsOrder}
+use Rattle.uc_report.specs.ControlRules.{IsFirstControlFault}
 use Rattle.uc_runnable.specs.Unfit.{unfit_of}
 use Rattle.uc_runnable.specs.Outside.{outside_in}
 use Rattle.uc_front.specs.declared.lexing.Source.{Source}
 use Rattle.uc_front.specs.declared.refusal.Refusal.{Refusal}
-use Rattle.uc_front.specs.declared.refusal.Refusal.TheVariants.{NoFile, TooLong, BadByte, BadNumber, OpenComment, Syntax, TooDeep, TooManyNames, NoMain, BreaksRule, NotBuilt}
+use Rattle.uc_front.specs.declared.refusal.Refusal.TheVariants.{NoFile, TooLong, BadByte, BadNumber, OpenComment, Syntax, TooDeep, TooManyNames, NoMain, BreaksRule, BreaksControl, NotBuilt}
 use Rattle.uc_front.specs.Sources.{AreTexts, AreLexed, AreSources, texts_of}
 use Rattle.uc_front.specs.Refusals.{front}
-use Rattle.uc_front.specs.Denotes.{names_of, HasAnswer, AreSpelled, main_in, IsDesignOf, IsKept, IsFirstBroken, RunsToday}
+use Rattle.uc_front.specs.Denotes.{names_of, HasAnswer, AreSpelled, main_in, IsDesignOf, IsTyped, IsKept, IsFirstBroken, RunsToday}
 
 -- Reading refuses: no text has the name of the file of this number; or its text and those before it pass the limit.
 abbrev pub IsUnread : (List ℕ → Option (List ℕ)) → List (List ℕ) → Refusal → Type 0
@@ -63,13 +65,16 @@ abbrev pub IsLeftAt : System → Place → Type 0
 IsLeftAt system p = p ≡ unwrap_or (option_or (outside_in system.modules system.main) (unfit_of system)) (front 0)
 
 -- The passes behind lexing refuse: parsing; no module is called `main`; the design breaks a static rule, or else a rule on order or sizes, and this is the first fault, by
--- its place and then by its number; or it keeps the rules and is none that runs today.
+-- its place and then by its number; it keeps these, and a command of its control block breaks a rule on control blocks, the first that does; or it keeps all rules and is none that
+-- runs today.
 abbrev pub IsUnbuilt : List (List ℕ) → List Source → Refusal → Type 0
 IsUnbuilt files sources (Syntax p) = IsUnspelled (names_of files sources) sources (Syntax p)
 IsUnbuilt files sources (TooDeep p) = IsUnspelled (names_of files sources) sources (TooDeep p)
 IsUnbuilt files sources (TooManyNames p) = IsUnspelled (names_of files sources) sources (TooManyNames p)
 IsUnbuilt files sources NoMain = (modules : List Module) × AreSpelled (names_of files sources) sources modules × (main_in (names_of files sources) modules ≡ None)
 IsUnbuilt files sources (BreaksRule fault) = (system : System) × IsDesignOf files sources system × IsFirstBroken system fault
+IsUnbuilt files sources (BreaksControl fault) =
+    (system : System) × IsDesignOf files sources system × IsTyped system × KeepsOrder system × IsFirstControlFault system fault
 IsUnbuilt files sources (NotBuilt p) =
     (system : System) × IsDesignOf files sources system × IsKept system × (RunsToday system → ⊥) × IsLeftAt system p
 IsUnbuilt files sources other = ⊥

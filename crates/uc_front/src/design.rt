@@ -6,9 +6,11 @@ ghost use Rattle.std.specs.Str.{bytes_eq};
 ghost use Rattle.uc_meaning.specs.Lookup.{system_of};
 ghost use Rattle.uc_rules.specs.Declarations.{KeepsRules, main_number};
 ghost use Rattle.uc_order_rules.specs.Order.{KeepsOrder};
+ghost use Rattle.uc_report.specs.ControlRules.{KeepsControl};
+ghost use Rattle.uc_report.specs.Described.{described};
 ghost use Rattle.uc_syntax.specs.Contents.{design_of};
 ghost use Rattle.uc_front.specs.Denotes.{AreSpelled, IsDesignOf, IsKept, RunsToday, names_of, is_main, main_in, main_name};
-ghost use Rattle.uc_front.specs.Errors.{IsOrderFault, IsRuleFault, IsStopped, IsTextError};
+ghost use Rattle.uc_front.specs.Errors.{IsControlFault, IsOrderFault, IsRuleFault, IsStopped, IsTextError};
 ghost use Rattle.uc_front.specs.Refused.{IsUnbuilt, IsUnspelled};
 ghost use Rattle.uc_front.specs.Sources.{words_of, AreLexed, texts_of};
 
@@ -20,6 +22,7 @@ use crate::refusal::{Refusal, front};
 use std::alloc::Global;
 use uc_lexer::MAX_TEXT;
 use uc_order::{OrderError, order};
+use uc_report::{DesignView, check_control};
 use uc_runnable::{NotRunnable, Runnable, outside_in};
 use uc_syntax::{Design, Module, Names};
 use uc_types::{TypeError, TypedDesign, check};
@@ -48,7 +51,8 @@ pub(crate) fn design_of(
         drop(design);
         return Err(FrontError::NoMemory);
     };
-    let kept = checked(alloc, design, main)?;
+    let ordered = checked(alloc, design, main)?;
+    let kept = controlled(ordered, main)?;
     let runnable = running(alloc, kept, main)?;
     Ok(runnable)
 }
@@ -99,6 +103,33 @@ fn ordered(alloc: Global, typed: TypedDesign) -> Result<Design, FrontError>
         }
         Err(OrderError::NoMemory) => Err(FrontError::NoMemory),
         Err(OrderError::Fault(fault)) => Err(FrontError::Refused(Refusal::BreaksRule(fault))),
+    }
+}
+
+/// The same design, if it keeps the rules on control blocks.
+fn controlled(design: Design, main: u32) -> Result<Design, FrontError>
+    ensures same { IfOk result (λ d. d ≡ design) }
+    ensures kept { IsOk result → KeepsControl (system_of design main) }
+    ensures refused { IfErr result (IsTextError (IsControlFault (system_of design main))) }
+{
+    match check_control(&view_of(&design, main)) {
+        Ok(()) => Ok(design),
+        Err(fault) => {
+            drop(design);
+            Err(FrontError::Refused(Refusal::BreaksControl(fault)))
+        }
+    }
+}
+
+/// The design by reference, as reports look at it.
+fn view_of(design: &Design, main: u32) -> DesignView<'_>
+    ensures { described result.now ≡ system_of design.now main }
+{
+    DesignView {
+        names: design.names(),
+        files: design.files().as_slice(),
+        modules: design.modules().as_slice(),
+        main,
     }
 }
 

@@ -4,6 +4,7 @@ ghost use Rattle.std.specs.Prelude.{◌≡◌};
 ghost use Rattle.uc_front.specs.Refusals.{front, number_of, place_of};
 
 use uc_lexer::Place;
+use uc_report::ControlFault;
 use uc_rules::Fault;
 
 /// Why the texts are not accepted. Each has a number for users. Files are numbered from 0, by their places.
@@ -30,7 +31,9 @@ pub enum Refusal {
     /// The design breaks a static rule or, where it keeps these, a rule on order or sizes. This is the fault at the first place, and there the one of the
     /// least number.
     BreaksRule(Fault),
-    /// The design keeps the rules and is none of those that run today: this is the first form, in the order of the texts, that never runs today
+    /// The design keeps these, and its control block breaks a rule on control blocks. This is the fault of the first command that breaks one.
+    BreaksControl(ControlFault),
+    /// The design keeps all rules and is none of those that run today: this is the first form, in the order of the texts, that never runs today
     /// (`outside_in` of uc_runnable). Where there is none, it is the first declaration or statement that has no form over cells, or else the front of
     /// the first file.
     NotBuilt(Place),
@@ -51,6 +54,7 @@ impl Refusal {
             Refusal::NoFile(_) => 8,
             Refusal::NoMain => 10,
             Refusal::BreaksRule(fault) => fault.rule.number(),
+            Refusal::BreaksControl(fault) => fault.rule.number(),
             Refusal::TooManyNames(_) => 32,
             Refusal::NotBuilt(_) => 33,
         }
@@ -71,6 +75,7 @@ impl Refusal {
             Refusal::NoFile(file) | Refusal::TooLong(file) => front(file),
             Refusal::NoMain => front(0),
             Refusal::BreaksRule(fault) => fault.place,
+            Refusal::BreaksControl(fault) => fault.place,
         }
     }
 }

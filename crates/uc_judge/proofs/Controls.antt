@@ -1,14 +1,11 @@
 -- The commands of the one control block.
-use Rattle.std.proofs.Common.{◌≡◌, ℕ, zero, suc, ◌+◌, ◌<◌, ◌≤◌, Bool, true, false, not, ◌&&◌, ◌||◌, List, [], ◌∷◌, ◌++◌, drop, length, get_or, refl, sym, ap, subst, ◌∙◌, arith, Option}
+use Rattle.std.proofs.Common.{◌≡◌, ℕ, zero, suc, ◌+◌, ◌<◌, ◌≤◌, Bool, true, false, not, ◌&&◌, ◌||◌, List, [], ◌∷◌, ◌++◌, drop, length, get_or, refl, sym, ap, ◌∙◌, arith}
 use Rattle.std.specs.Prelude.{nat_le, slice_get}
 use Rattle.std.specs.List.{list_all, list_any, flat_map}
 use Rattle.std.proofs.lemmas.List.{append-nil}
 use Rattle.std.proofs.lemmas.Bool.Decides.{nat_tests}
 use Rattle.uc_lexer.specs.declared.place.Place.{Place}
-use Rattle.uc_syntax.specs.declared.place.Identifier.{Identifier}
 use Rattle.uc_syntax.specs.declared.declaration.Command.{Command}
-use Rattle.uc_syntax.specs.declared.declaration.Command.TheVariants.{Run, Check}
-use Rattle.uc_syntax.specs.declared.declaration.WrittenRun.TheVariants.{Unroll}
 use Rattle.uc_syntax.specs.declared.declaration.Decl.{Decl}
 use Rattle.uc_syntax.specs.declared.declaration.Decl.TheVariants.{Control}
 use Rattle.uc_syntax.specs.declared.declaration.Module.{Module}
@@ -17,10 +14,10 @@ use Rattle.uc_meaning.specs.Lookup.{System}
 use Rattle.uc_meaning.specs.Lines.{commands_in, main_declarations}
 use Rattle.uc_meaning.specs.Cells.{as_list}
 use Rattle.uc_meaning.specs.Fragment.{at_most_one, at_most_one_after, is_control, most_steps}
-use Rattle.uc_runnable.specs.Plain.{with_variables, runs_once, is_plain_decl, is_plain}
+use Rattle.uc_runnable.specs.Commands.{runs}
+use Rattle.uc_runnable.specs.Plain.{is_plain_decl, is_plain}
 use Rattle.uc_runnable.specs.Runnable.{IsRunnable}
 use Rattle.uc_meaning.proofs.Lists.{drop_turn}
-use Rattle.uc_judge.specs.Unrolling.{RunsOnce, Unrolls}
 
 or_parts : (a b : Bool) → (a || b) ≡ false → (a ≡ false) × (b ≡ false)
 or_parts true b h = cc
@@ -92,15 +89,14 @@ rest_true : (a b : Bool) → (a && b) ≡ true → b ≡ true
 rest_true true b h = h
 rest_true false b h = cc
 
--- the commands of the one control block run once
-once_in : (cells : List ℕ) (ds : List Decl) → list_all (is_plain_decl cells) ds ≡ true → at_most_one is_control ds ≡ true → runs_once cells (flat_map commands_in ds) ≡ true
-once_in cells [] h one = refl
-once_in cells (Control place commands ∷ ds) h one =
-    ap (runs_once cells) (ap (λ ys. commands ++ ys) (none_of ds (after_one (Control place commands) ds one refl)) ∙ append-nil commands) ∙ (and_true h).0
-once_in cells (other ∷ ds) h one =
-    once_in cells ds (rest_true (is_plain_decl cells other) (list_all (is_plain_decl cells) ds) h) (after_none other ds one refl)
+-- all commands of the one control block run
+runs_in : (ds : List Decl) → list_all is_plain_decl ds ≡ true → at_most_one is_control ds ≡ true → list_all runs (flat_map commands_in ds) ≡ true
+runs_in [] h one = refl
+runs_in (Control place commands ∷ ds) h one =
+    ap (list_all runs) (ap (λ ys. commands ++ ys) (none_of ds (after_one (Control place commands) ds one refl)) ∙ append-nil commands) ∙ (and_true h).0
+runs_in (other ∷ ds) h one = runs_in ds (rest_true (is_plain_decl other) (list_all is_plain_decl ds) h) (after_none other ds one refl)
 
-plain_parts : (m : Module) → is_plain m ≡ true → (list_all (is_plain_decl (with_variables [] m.decls)) m.decls ≡ true) × (at_most_one is_control m.decls ≡ true)
+plain_parts : (m : Module) → is_plain m ≡ true → (list_all is_plain_decl m.decls ≡ true) × (at_most_one is_control m.decls ≡ true)
 plain_parts m h = and_true h
 
 pub one_control : (system : System) → IsRunnable system → (ds : List Decl) → ds ≡ main_declarations system → at_most_one is_control ds ≡ true
@@ -108,30 +104,19 @@ one_control system r ds e =
     let is : ds ≡ r.over.code.decls = e ∙ only_declarations system r.over.code r.over.is_flat.only r.over.is_flat.first in
     ap (at_most_one is_control) is ∙ (plain_parts r.over.code r.over.plain).1
 
-pub runs_once_there : (system : System) → IsRunnable system → (ds : List Decl) (commands : List Command) → ds ≡ main_declarations system → commands ≡ flat_map commands_in ds → RunsOnce commands
-runs_once_there system r ds commands e are =
+pub all_run : (system : System) → IsRunnable system → (ds : List Decl) (commands : List Command) → ds ≡ main_declarations system → commands ≡ flat_map commands_in ds → list_all runs commands ≡ true
+all_run system r ds commands e are =
     let is : ds ≡ r.over.code.decls = e ∙ only_declarations system r.over.code r.over.is_flat.only r.over.is_flat.first in
     let plain = plain_parts r.over.code r.over.plain in
-    record {
-      cells = with_variables [] r.over.code.decls;
-      once = ap (runs_once (with_variables [] r.over.code.decls)) (are ∙ ap (flat_map commands_in) is)
-          ∙ once_in (with_variables [] r.over.code.decls) r.over.code.decls plain.0 plain.1;
-    }
+    ap (list_all runs) (are ∙ ap (flat_map commands_in) is) ∙ runs_in r.over.code.decls plain.0 plain.1
 
--- ---- what commands that run once ask for
+-- ---- one of them
 
-le_of : (n : ℕ) → nat_le n most_steps ≡ true → n ≤ most_steps
-le_of n h = grind (arith, nat_tests)
+pub run_there : (cs : List Command) (k : ℕ) (c : Command) → list_all runs cs ≡ true → k < length cs → c ≡ get_or cs k c → runs c ≡ true
+run_there [] k c h within at = absurd (omega (arith, within))
+run_there (x ∷ cs) zero c h within at = ap runs at ∙ (and_true h).0
+run_there (x ∷ cs) (suc k) c h within at = run_there cs k c (and_true h).1 (omega (arith, within)) at
 
-pub unrolls_there : (commands prints : List Command) (run_at check_at : Place) (name : Option Identifier) (depth n : ℕ) → RunsOnce commands → commands ≡ Run run_at name (Unroll n) ∷ (Check check_at ∷ prints) → depth ≡ n → Unrolls commands depth prints
-unrolls_there commands prints run_at check_at name depth n once are d =
-    let h = and_true (ap (runs_once once.cells) (sym are) ∙ once.once) in
-    record {
-      run_at = run_at;
-      name = name;
-      check_at = check_at;
-      are = are ∙ ap (λ k. Run run_at name (Unroll k) ∷ (Check check_at ∷ prints)) (sym d);
-      few = subst (λ k. k ≤ most_steps) (sym d) (le_of n h.0);
-      cells = once.cells;
-      print = h.1;
-    }
+-- the depth of an unrolling that runs
+pub few_steps : (n : ℕ) → nat_le n most_steps ≡ true → n ≤ most_steps
+few_steps n h = grind (arith, nat_tests)

@@ -13,15 +13,18 @@ use Rattle.uc_flat_code.specs.Init.{init_code}
 use Rattle.uc_flat_design.specs.Names.{names_over_cells, names_of_constants}
 use Rattle.uc_flat_design.specs.Next.{primed_behind}
 use Rattle.uc_flat_design.specs.Design.{next_names, next_arranged, invariant_in, axiom_in, formulas_from, flat_with, IsFlatOf}
+use Rattle.uc_flat_copies.specs.declared.trace.Start.{Start}
 use Rattle.uc_flat_lines.specs.declared.line.FlatLine.{FlatLine}
 use Rattle.uc_flat_lines.specs.declared.line.FlatVerdict.{FlatVerdict}
 use Rattle.uc_flat_lines.specs.declared.line.FlatVerdict.TheVariants.{Passed, Failed, Undef}
 use Rattle.uc_flat_lines.specs.declared.line.FlatWhy.TheVariants.{Budget, Memory}
-use Rattle.uc_flat_lines.specs.Lines.{lines_below, free_bits, IsHonestVerdict, IsHonestLine as IsHonestFlat, AreFlatJudged}
+use Rattle.uc_flat_lines.specs.Lines.{free_bits, IsHonestVerdict, IsHonestLine as IsHonestFlat, AreFlatJudged}
 use Rattle.uc_report.specs.declared.report.LineResult.{LineResult}
 use Rattle.uc_report.specs.Verdicts.{IsHonest}
-use Rattle.uc_judge.specs.Lines.{verdict_as, line_as}
-use Rattle.uc_judge.specs.Reports.{IsHonestLine}
+use Rattle.uc_judge.specs.declared.lines.Moment.{Moment}
+use Rattle.uc_judge.specs.declared.lines.Moment.TheVariants.{Unrolled, Based, Linked}
+use Rattle.uc_judge.specs.Lines.{verdict_as, at_moment, start_of, line_as}
+use Rattle.uc_judge.specs.Reports.{line_bits, IsHonestLine}
 
 -- ---- a design has one design over cells
 
@@ -40,20 +43,25 @@ one_flat system code other f g d e =
 
 -- ---- verdicts
 
-honest_as : (f : Flat) (budget n : ℕ) (v : FlatVerdict) → IsHonestVerdict f budget n v → IsHonest budget (free_bits f n) (verdict_as budget v)
-honest_as f budget n Passed h = tt
-honest_as f budget n (Failed t) h = tt
-honest_as f budget n (Undef Budget) h = (refl, h)
-honest_as f budget n (Undef Memory) h = tt
+honest_as : (f : Flat) (start : Start) (budget n : ℕ) (v : FlatVerdict) → IsHonestVerdict f start budget n v → IsHonest budget (free_bits f start n) (verdict_as budget v)
+honest_as f start budget n Passed h = tt
+honest_as f start budget n (Failed t) h = tt
+honest_as f start budget n (Undef Budget) h = (refl, h)
+honest_as f start budget n (Undef Memory) h = tt
 
-each_honest : (f : Flat) (budget : ℕ) (ls : List FlatLine) → All (IsHonestFlat f budget) ls → All (IsHonestLine f budget) (map (line_as f budget) ls)
-each_honest f budget [] h = All-nil (IsHonestLine f budget)
-each_honest f budget (l ∷ ls) h =
-    All-cons (IsHonestLine f budget) (line_as f budget l) (map (line_as f budget) ls)
-    (honest_as f budget l.steps l.verdict (All-head (IsHonestFlat f budget) l ls h))
-    (each_honest f budget ls (All-tail (IsHonestFlat f budget) l ls h))
+bits_are : (f : Flat) (moment : Moment) (n : ℕ) → free_bits f (start_of moment) n ≡ line_bits f (at_moment moment n)
+bits_are f Unrolled n = refl
+bits_are f Based n = refl
+bits_are f Linked n = refl
 
-pub honest_are : (system : System) (code : Module) (f : Flat) (budget before after n : ℕ) (ls : List FlatLine) → IsFlatOf system code f → AreFlatJudged f budget before after (lines_below f n) ls
-    → (other : Module) (g : Flat) → IsFlatOf system other g → All (IsHonestLine g budget) (map (line_as f budget) ls)
-honest_are system code f budget before after n ls d j other g e =
-    subst (λ h. All (IsHonestLine h budget) (map (line_as f budget) ls)) (one_flat system code other f g d e) (each_honest f budget ls j.honest)
+each_honest : (f : Flat) (command : ℕ) (moment : Moment) (budget : ℕ) (ls : List FlatLine) → All (IsHonestFlat f (start_of moment) budget) ls → All (IsHonestLine f budget) (map (line_as f command moment budget) ls)
+each_honest f command moment budget [] h = All-nil (IsHonestLine f budget)
+each_honest f command moment budget (l ∷ ls) h =
+    All-cons (IsHonestLine f budget) (line_as f command moment budget l) (map (line_as f command moment budget) ls)
+    (subst (λ bits. IsHonest budget bits (verdict_as budget l.verdict)) (bits_are f moment l.steps) (honest_as f (start_of moment) budget l.steps l.verdict (All-head (IsHonestFlat f (start_of moment) budget) l ls h)))
+    (each_honest f command moment budget ls (All-tail (IsHonestFlat f (start_of moment) budget) l ls h))
+
+pub honest_are : (system : System) (code : Module) (f : Flat) (command : ℕ) (moment : Moment) (budget before after : ℕ) (lines : List (ℕ × ℕ)) (ls : List FlatLine) → IsFlatOf system code f → AreFlatJudged f (start_of moment) budget before after lines ls
+    → (other : Module) (g : Flat) → IsFlatOf system other g → All (IsHonestLine g budget) (map (line_as f command moment budget) ls)
+honest_are system code f command moment budget before after lines ls d j other g e =
+    subst (λ h. All (IsHonestLine h budget) (map (line_as f command moment budget) ls)) (one_flat system code other f g d e) (each_honest f command moment budget ls j.honest)

@@ -1,7 +1,10 @@
 pub mod Controls
 pub mod Numbered
-pub mod Printed
+pub mod Listed
+pub mod Joined
 pub mod Lined
 pub mod Honest
+pub mod Printed
+pub mod Walked
 pub mod Reported
 pub mod Constants

@@ -1,29 +1,38 @@
 -- Judged lines over cells are right lines of the report.
 use Rattle.std.proofs.Common.{◌≡◌, ℕ, zero, suc, ◌+◌, ◌*◌, ◌≤◌, List, [], ◌∷◌, ◌++◌, map, length, Bool, true, false, refl, sym, ap, ◌∙◌, subst, Option, Some, None, arith}
-use Rattle.std.specs.Prelude.{cond, count_by, slice_get, nat_eq}
+use Rattle.std.specs.Prelude.{◌^◌, cond, count_by, slice_get, nat_eq}
 use Rattle.std.specs.List.{All}
 use Rattle.std.proofs.lemmas.Bool.Decides.{nat_tests}
+use Rattle.std.proofs.lemmas.List.{length-map}
 use Rattle.std.proofs.lemmas.List.Sums.{sum_by-append}
 use Rattle.std.proofs.lemmas.List.Elements.{All-nil, All-cons, All-head, All-tail, All-append, All-map}
 use Rattle.uc_syntax.specs.declared.declaration.Module.{Module}
-use Rattle.uc_meaning.specs.declared.line.At.TheVariants.{Exactly}
+use Rattle.uc_meaning.specs.declared.line.At.TheVariants.{Base, Step}
 use Rattle.uc_meaning.specs.declared.line.Line.{Line}
 use Rattle.uc_meaning.specs.Lookup.{System}
-use Rattle.uc_meaning.specs.Lines.{lines_from}
+use Rattle.uc_meaning.specs.Lines.{lines_at, lines_from, all_judged, step_sites, induction_lines}
 use Rattle.uc_flat.specs.declared.flat.Flat.{Flat}
 use Rattle.uc_flat.specs.declared.flat.Formula.{Formula}
 use Rattle.uc_flat.specs.Drawn.{listed_if}
+use Rattle.uc_flat_copies.specs.declared.trace.Start.TheVariants.{Initially, Anywhere}
 use Rattle.uc_flat_design.specs.Design.{IsFlatOf}
 use Rattle.uc_flat_lines.specs.declared.line.FlatLine.{FlatLine}
 use Rattle.uc_flat_lines.specs.declared.line.FlatVerdict.{FlatVerdict}
 use Rattle.uc_flat_lines.specs.declared.line.FlatVerdict.TheVariants.{Passed, Failed, Undef}
 use Rattle.uc_flat_lines.specs.declared.line.FlatWhy.TheVariants.{Budget, Memory}
-use Rattle.uc_flat_lines.specs.Lines.{speaks_of_one, singles_below, lines_of, step_lines, lines_below, IsRightLine, is_out_of_budget as is_flat_out, AreFlatJudged}
+use Rattle.uc_flat_lines.specs.Lines.{speaks_of_one, singles_below, step_lines, lines_below, IsRightLine, is_out_of_budget as is_flat_out, AreFlatJudged}
+use Rattle.uc_flat_laws.specs.FlatRefutationsLaws.{IsOfSteps, start_at, steps_at}
 use Rattle.uc_flat_laws.specs.FlatVerdictsLaws.{design_line, IsRightOf}
-use Rattle.uc_flat_laws.proofs.Judged.{order_holds, verdict_holds}
+use Rattle.uc_flat_laws.proofs.Judged.{order_holds, linked_hold, verdict_holds}
 use Rattle.uc_report.specs.declared.report.LineResult.{LineResult}
 use Rattle.uc_report.specs.Verdicts.{IsRightVerdict, is_out_of_budget, out_of_budget}
-use Rattle.uc_judge.specs.Lines.{verdict_as, line_as}
+use Rattle.uc_runnable.specs.Runnable.{RunsOver}
+use Rattle.uc_judge.specs.declared.lines.Moment.{Moment}
+use Rattle.uc_judge.specs.declared.lines.Moment.TheVariants.{Unrolled, Based, Linked}
+use Rattle.uc_judge.specs.Lines.{verdict_as, at_moment, start_of, line_as}
+use Rattle.uc_judge.specs.Judged.{AreJudged}
+use Rattle.uc_judge.proofs.Honest.{honest_are}
+use Rattle.uc_judge.proofs.Joined.{both_judged}
 
 from_map : {A B : Type 0} (P : B → Type 0) (g : A → B) (xs : List A) → All P (map g xs) → All (λ x. P (g x)) xs
 from_map P g [] h = All-nil (λ x. P (g x))
@@ -71,23 +80,35 @@ unfolding lines_below
 lines_there f zero = All-nil (IsOne f)
 lines_there f (suc n) = All-append (IsOne f) (lines_below f n) (step_lines f n) (lines_there f n) (step_there f n (singles_below f (length f.formulas)) (singles_there f (length f.formulas)))
 
+-- ---- the moments of runs and of linked states
+
+of_steps : (moment : Moment) (n : ℕ) → IsOfSteps (at_moment moment n)
+of_steps Unrolled n = tt
+of_steps Based n = tt
+of_steps Linked n = tt
+
+steps_are : (moment : Moment) (n : ℕ) → steps_at (at_moment moment n) ≡ n
+steps_are Unrolled n = refl
+steps_are Based n = refl
+steps_are Linked n = refl
+
+start_is : (moment : Moment) (n : ℕ) → start_of moment ≡ start_at (at_moment moment n)
+start_is Unrolled n = refl
+start_is Based n = refl
+start_is Linked n = refl
+
 -- ---- the lines of the report
 
-same_lines : (f : Flat) (budget : ℕ) (ls : List FlatLine) → map (λ l. l.line) (map (line_as f budget) ls) ≡ map (design_line f 0) (map (λ l. (l.steps, l.formula)) ls)
-same_lines f budget [] = refl
-same_lines f budget (l ∷ ls) = ap (λ xs. design_line f 0 (l.steps, l.formula) ∷ xs) (same_lines f budget ls)
-
-pub lines_are : (system : System) (code : Module) (f : Flat) (budget before after n : ℕ) (ls : List FlatLine) → IsFlatOf system code f → AreFlatJudged f budget before after (lines_below f n) ls
-    → map (λ l. l.line) (map (line_as f budget) ls) ≡ lines_from system 0 Exactly 0 n
-lines_are system code f budget before after n ls d j =
-    same_lines f budget ls ∙ ap (map (design_line f 0)) j.are ∙ sym (order_holds system code f 0 n d)
+same_lines : (f : Flat) (command : ℕ) (moment : Moment) (budget : ℕ) (ls : List FlatLine) → map (λ l. l.line) (map (line_as f command moment budget) ls) ≡ map (design_line f command (at_moment moment)) (map (λ l. (l.steps, l.formula)) ls)
+same_lines f command moment budget [] = refl
+same_lines f command moment budget (l ∷ ls) = ap (λ xs. design_line f command (at_moment moment) (l.steps, l.formula) ∷ xs) (same_lines f command moment budget ls)
 
 abbrev OwnCommand : LineResult → Type 0
 OwnCommand l = l.command ≡ l.line.command
 
-pub commands_are : (f : Flat) (budget : ℕ) (ls : List FlatLine) → All OwnCommand (map (line_as f budget) ls)
-commands_are f budget [] = All-nil OwnCommand
-commands_are f budget (l ∷ ls) = All-cons OwnCommand (line_as f budget l) (map (line_as f budget) ls) refl (commands_are f budget ls)
+commands_are : (f : Flat) (command : ℕ) (moment : Moment) (budget : ℕ) (ls : List FlatLine) → All OwnCommand (map (line_as f command moment budget) ls)
+commands_are f command moment budget [] = All-nil OwnCommand
+commands_are f command moment budget (l ∷ ls) = All-cons OwnCommand (line_as f command moment budget l) (map (line_as f command moment budget) ls) refl (commands_are f command moment budget ls)
 
 abbrev RightLine : System → LineResult → Type 0
 RightLine system l = IsRightVerdict system l.line l.verdict
@@ -97,16 +118,18 @@ right_as system budget line Passed h = h
 right_as system budget line (Failed t) h = h
 right_as system budget line (Undef why) h = tt
 
-pub verdicts_are : (system : System) (code : Module) (f : Flat) (budget before after n : ℕ) (ls : List FlatLine) → IsFlatOf system code f → AreFlatJudged f budget before after (lines_below f n) ls
-    → All (RightLine system) (map (line_as f budget) ls)
-verdicts_are system code f budget before after n ls d j =
-    All-map (RightLine system) (line_as f budget) ls
-    (weaker (λ l. IsThere f l.formula × IsRightLine f l) (λ l. RightLine system (line_as f budget l)) ls
-    (λ l h. right_as system budget (design_line f 0 (l.steps, l.formula)) l.verdict (verdict_holds system code f 0 l h.0.0 d h.0.1 h.0.2 h.1))
-    (both (λ l. IsThere f l.formula) (IsRightLine f) ls there j.right))
+verdicts_are : (system : System) (code : Module) (f : Flat) (command : ℕ) (moment : Moment) (budget before after : ℕ) (lines : List (ℕ × ℕ)) (ls : List FlatLine) → IsFlatOf system code f → All (IsOne f) lines
+    → AreFlatJudged f (start_of moment) budget before after lines ls → All (RightLine system) (map (line_as f command moment budget) ls)
+verdicts_are system code f command moment budget before after lines ls d ones j =
+    All-map (RightLine system) (line_as f command moment budget) ls
+    (weaker (λ l. IsThere f l.formula × IsRightLine f (start_of moment) l) (λ l. RightLine system (line_as f command moment budget l)) ls
+    (λ l h.
+    right_as system budget (design_line f command (at_moment moment) (l.steps, l.formula)) l.verdict
+    (verdict_holds system code f command (at_moment moment) l h.0.0 d h.0.1 h.0.2 (of_steps moment l.steps) (steps_are moment l.steps) (subst (λ s. IsRightLine f s l) (start_is moment l.steps) h.1)))
+    (both (λ l. IsThere f l.formula) (IsRightLine f (start_of moment)) ls there j.right))
   where
     there : All (λ (l : FlatLine). IsThere f l.formula) ls
-    there = from_map (IsOne f) (λ (l : FlatLine). (l.steps, l.formula)) ls (subst (All (IsOne f)) (sym j.are) (lines_there f n))
+    there = from_map (IsOne f) (λ (l : FlatLine). (l.steps, l.formula)) ls (subst (All (IsOne f)) (sym j.are) ones)
 
 out_as : (budget : ℕ) (v : FlatVerdict) → is_out_of_budget (verdict_as budget v) ≡ is_flat_out v
 out_as budget Passed = refl
@@ -117,9 +140,42 @@ out_as budget (Undef Memory) = refl
 count_cons : {A : Type 0} (p : A → Bool) (x : A) (xs : List A) → count_by p (x ∷ xs) ≡ 0 + cond (p x) 1 0 + count_by p xs
 count_cons p x xs = sum_by-append (λ y. cond (p y) 1 0) (x ∷ []) xs
 
-pub out_are : (f : Flat) (budget : ℕ) (ls : List FlatLine) → out_of_budget (map (line_as f budget) ls) ≡ count_by (λ l. is_flat_out l.verdict) ls
-out_are f budget [] = refl
-out_are f budget (l ∷ ls) =
-    count_cons (λ (x : LineResult). is_out_of_budget x.verdict) (line_as f budget l) (map (line_as f budget) ls)
-    ∙ (λ i. 0 + cond (out_as budget l.verdict i) 1 0 + out_are f budget ls i)
+out_are : (f : Flat) (command : ℕ) (moment : Moment) (budget : ℕ) (ls : List FlatLine) → out_of_budget (map (line_as f command moment budget) ls) ≡ count_by (λ l. is_flat_out l.verdict) ls
+out_are f command moment budget [] = refl
+out_are f command moment budget (l ∷ ls) =
+    count_cons (λ (x : LineResult). is_out_of_budget x.verdict) (line_as f command moment budget l) (map (line_as f command moment budget) ls)
+    ∙ (λ i. 0 + cond (out_as budget l.verdict i) 1 0 + out_are f command moment budget ls i)
     ∙ sym (count_cons (λ (x : FlatLine). is_flat_out x.verdict) l ls)
+
+-- judged lines over cells are judged lines of the design
+told_judged : (system : System) (f : Flat) (command : ℕ) (moment : Moment) (budget before after : ℕ) (lines : List (ℕ × ℕ)) (asked : List Line) (js : List FlatLine) (ls : List LineResult) → RunsOver system f → All (IsOne f) lines
+    → map (design_line f command (at_moment moment)) lines ≡ asked → AreFlatJudged f (start_of moment) budget before after lines js → ls ≡ map (line_as f command moment budget) js → AreJudged system budget before after asked ls
+told_judged system f command moment budget before after lines asked js ls r ones same j is = subst (AreJudged system budget before after asked) (sym is) (record {
+  are = same_lines f command moment budget js ∙ ap (map (design_line f command (at_moment moment))) j.are ∙ same;
+  commands = commands_are f command moment budget js;
+  verdicts = verdicts_are system r.code f command moment budget before after lines js r.is_flat ones j;
+  honest = honest_are system r.code f command moment budget before after lines js r.is_flat j;
+  spent = subst (λ k. before + budget * k ≤ after) (sym (out_are f command moment budget js)) j.spent;
+  few = subst (λ k. after ≤ before + 2 ^ 32 * k) (sym (length-map js (line_as f command moment budget))) j.few;
+  within = subst (λ k. after ≤ before + budget * k) (sym (length-map js (line_as f command moment budget))) j.within;
+})
+
+-- the lines of runs
+pub runs_judged : (system : System) (f : Flat) (command : ℕ) (moment : Moment) (budget before after depth : ℕ) (js : List FlatLine) (ls : List LineResult) → RunsOver system f → start_of moment ≡ Initially
+    → AreFlatJudged f Initially budget before after (lines_below f (depth + 1)) js → ls ≡ map (line_as f command moment budget) js → AreJudged system budget before after (lines_from system command (at_moment moment) 0 (depth + 1)) ls
+runs_judged system f command moment budget before after depth js ls r begins j is =
+    told_judged system f command moment budget before after (lines_below f (depth + 1)) (lines_from system command (at_moment moment) 0 (depth + 1)) js ls r (lines_there f (depth + 1))
+    (sym (order_holds system r.code f command (at_moment moment) (depth + 1) r.is_flat)) (subst (λ s. AreFlatJudged f s budget before after (lines_below f (depth + 1)) js) (sym begins) j) is
+
+-- the lines of linked states
+pub links_judged : (system : System) (f : Flat) (command budget before after depth : ℕ) (js : List FlatLine) (ls : List LineResult) → RunsOver system f → AreFlatJudged f Anywhere budget before after (step_lines f depth) js
+    → ls ≡ map (line_as f command Linked budget) js → AreJudged system budget before after (lines_at command (Step depth) (all_judged system (step_sites system))) ls
+links_judged system f command budget before after depth js ls r j is =
+    told_judged system f command Linked budget before after (step_lines f depth) (lines_at command (Step depth) (all_judged system (step_sites system))) js ls r
+    (step_there f depth (singles_below f (length f.formulas)) (singles_there f (length f.formulas))) (sym (linked_hold system r.code f command depth r.is_flat)) j is
+
+-- the lines of an induction
+pub induction_judged : (system : System) (command budget a b c depth before : ℕ) (ls ms all : List LineResult) → before + 1 ≡ depth → AreJudged system budget a b (lines_from system command Base 0 (before + 1)) ls
+    → AreJudged system budget b c (lines_at command (Step depth) (all_judged system (step_sites system))) ms → all ≡ ls ++ ms → AreJudged system budget a c (induction_lines system command depth) all
+induction_judged system command budget a b c depth before ls ms all e h g is =
+    both_judged system budget a b c (lines_from system command Base 0 depth) (lines_at command (Step depth) (all_judged system (step_sites system))) ls ms all (subst (λ n. AreJudged system budget a b (lines_from system command Base 0 n) ls) e h) g is

@@ -1,4 +1,4 @@
-pub mod Unrolling
 pub mod Prints
 pub mod Reports
 pub mod Lines
+pub mod Judged

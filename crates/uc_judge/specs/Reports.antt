@@ -4,9 +4,10 @@ use Rattle.std.specs.List.{All}
 use Rattle.uc_syntax.specs.declared.declaration.Module.{Module}
 use Rattle.uc_meaning.specs.Lookup.{System}
 use Rattle.uc_meaning.specs.declared.line.At.{At}
-use Rattle.uc_meaning.specs.declared.line.At.TheVariants.{Exactly}
+use Rattle.uc_meaning.specs.declared.line.At.TheVariants.{Exactly, Base, Step}
 use Rattle.uc_meaning.specs.Lines.{all_lines}
 use Rattle.uc_flat.specs.declared.flat.Flat.{Flat}
+use Rattle.uc_flat_copies.specs.declared.trace.Start.TheVariants.{Initially, Anywhere}
 use Rattle.uc_flat_lines.specs.Lines.{free_bits}
 use Rattle.uc_flat_design.specs.Design.{IsFlatOf}
 use Rattle.uc_report.specs.declared.report.LineResult.{LineResult}
@@ -14,9 +15,11 @@ use Rattle.uc_report.specs.declared.report.Report.{Report}
 use Rattle.uc_report.specs.Prints.{prints_of}
 use Rattle.uc_report.specs.Verdicts.{IsRightVerdict, IsHonest}
 
--- the free bits of a line: those of the constants, of the cells, of what the init code draws, and of what each step draws with its inputs
+-- the free bits of a line: those of the constants, of the cells, of what the init code draws where the states begin in an initial one, and of what each step draws with its inputs
 abbrev pub line_bits : Flat → At → ℕ
-line_bits f (Exactly steps) = free_bits f steps
+line_bits f (Exactly steps) = free_bits f Initially steps
+line_bits f (Base steps) = free_bits f Initially steps
+line_bits f (Step steps) = free_bits f Anywhere steps
 line_bits f other = 0
 
 -- a line is undecided by its budget only where that is below 2 to the line's free bits

@@ -1,32 +1,19 @@
 //! The commands of a control block.
 
-ghost use Rattle.std.specs.Prelude.{◌≡◌, [], true, MatchOption};
-ghost use Rattle.std.specs.List.{flat_map};
+ghost use Rattle.std.specs.Prelude.{◌≡◌, ◌≤◌, true, cond, length};
+ghost use Rattle.std.specs.List.{list_all, flat_map};
 ghost use Rattle.uc_meaning.specs.Fragment.{at_most_one, is_control};
-ghost use Rattle.uc_meaning.specs.Lines.{commands_in, commands_of};
-ghost use Rattle.uc_judge.specs.Unrolling.{RunsOnce, Unrolls};
+ghost use Rattle.uc_meaning.specs.Lines.{commands_in, commands_of, is_check};
+ghost use Rattle.uc_runnable.specs.Commands.{runs};
+ghost use Rattle.uc_judge.specs.Judged.{followed};
 
 use uc_runnable::Runnable;
-use uc_syntax::{Command, Decl, WrittenRun};
-
-/// How many steps a control block unrolls, and the commands behind its `check`.
-#[derive(Clone, Copy)]
-pub struct Plan<'a> {
-    pub depth: u32,
-    pub prints: &'a [Command],
-}
-
-/// What the control block of a design asks for, or nothing where there is none or an empty one.
-pub fn planned(d: &Runnable) -> Option<Plan<'_>>
-    ensures { MatchOption result (commands_of d.now ≡ []) (λ p. Unrolls (commands_of d.now) p.depth p.prints.now) }
-{
-    plan_of(commands_of(d))
-}
+use uc_syntax::{Command, Decl};
 
 /// The commands of main.
-fn commands_of(d: &Runnable) -> &[Command]
+pub(crate) fn commands_of(d: &Runnable) -> &[Command]
     ensures are { result.now ≡ commands_of d.now }
-    ensures once { RunsOnce result.now }
+    ensures run { list_all runs result.now ≡ true }
 {
     d.keeps();
     commands_in(d.declarations())
@@ -44,20 +31,25 @@ fn commands_in(decls: &[Decl]) -> &[Command]
     &[]
 }
 
-/// What commands ask for, or nothing where there are none.
-fn plan_of(commands: &[Command]) -> Option<Plan<'_>>
-    requires { RunsOnce commands.now }
-    ensures { MatchOption result (commands.now ≡ []) (λ p. Unrolls commands.now p.depth p.prints.now) }
+/// How many commands a later `check` follows.
+pub(crate) fn count_followed(commands: &[Command]) -> usize
+    ensures count { result ≡ followed commands.now }
+    ensures within { result ≤ length commands.now }
 {
-    match commands {
-        [
-            Command::Run(_, _, WrittenRun::Unroll(depth)),
-            Command::Check(_),
-            prints @ ..,
-        ] => Some(Plan {
-            depth: *depth as u32,
-            prints,
-        }),
-        _ => None,
+    let mut count = 0;
+    for number in 0..commands.len() {
+        count = last_check(&commands[number], number, count);
+    }
+    count
+}
+
+/// The number of the command where it is a `check`, else that of the last one before.
+fn last_check(command: &Command, number: usize, before: usize) -> usize
+    ensures { result ≡ cond (is_check command.now) number before }
+{
+    if matches!(command, Command::Check(_)) {
+        number
+    } else {
+        before
     }
 }

@@ -1,20 +1,19 @@
-//! The commands of a control block.
+//! The report of a control block.
 
 ghost use Rattle.std.specs.Prelude.{◌+◌, ◌*◌, ◌≤◌, ◌<◌, ◌^◌, length, IfOk};
 ghost use Rattle.uc_report.specs.Verdicts.{out_of_budget};
 ghost use Rattle.uc_judge.specs.Reports.{IsReport};
 
-use crate::lines::lines_as;
-use crate::{planned, prints_as};
+use crate::commands::{commands_of, count_followed};
+use crate::judging::judge_commands;
+use crate::walk::prints_of;
 use std::alloc::{AllocError, Global};
-use uc_flat_lines::judge_flat;
-use uc_items::Items;
 use uc_log::Meter;
 use uc_report::Report;
 use uc_runnable::Runnable;
 
 /// The report of the design's control block, with this budget of log entries for each line. Want of memory is answered too where a
-/// report would have 2^32 lines, and where the run has 2^32 free values.
+/// report would have 2^32 lines, and where a run has 2^32 free values.
 pub fn run_control<M: Meter>(
     alloc: Global,
     d: &Runnable,
@@ -28,17 +27,18 @@ pub fn run_control<M: Meter>(
     ensures within { IfOk result (λ r. M.total meter.new ≤ M.total meter.old + budget * length r.lines) }
     ensures later { M.total meter.old ≤ M.total meter.new }
 {
-    match planned(d) {
-        Some(plan) => {
-            let f = d.flat();
-            let judged = judge_flat(alloc, f, plan.depth, budget, meter)?;
-            let lines = lines_as(alloc, f, budget, judged)?;
-            let prints = prints_as(alloc, d.declarations(), plan.prints, lines.as_slice())?;
-            Ok(Report { lines, prints })
-        }
-        None => Ok(Report {
-            lines: Items::new(alloc),
-            prints: Items::new(alloc),
-        }),
-    }
+    let commands = commands_of(d);
+    let count = count_followed(commands);
+    let judged = judge_commands(alloc, d, commands, count, budget, meter)?;
+    let prints = prints_of(
+        alloc,
+        d,
+        commands,
+        judged.lines.as_slice(),
+        judged.counts.as_slice(),
+    )?;
+    Ok(Report {
+        lines: judged.lines,
+        prints,
+    })
 }

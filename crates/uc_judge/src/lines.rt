@@ -2,16 +2,39 @@
 
 ghost use Rattle.std.specs.Prelude.{◌≡◌, map, slice_get, IfOk};
 ghost use Rattle.uc_meaning.specs.Steps.{state_of};
-ghost use Rattle.uc_flat_laws.specs.FlatRefutationsLaws.{trace_of};
+ghost use Rattle.uc_flat_laws.specs.FlatRefutationsLaws.{positions_of, trace_of};
 ghost use Rattle.uc_flat_laws.specs.FlatVerdictsLaws.{decl_of};
-ghost use Rattle.uc_judge.specs.Lines.{why_as, verdict_as, line_as};
+ghost use Rattle.uc_judge.specs.Lines.{why_as, verdict_as, at_moment, line_as};
 
 use std::alloc::{AllocError, Global};
-use uc_flat::{Flat, FlatPosition, FlatTrace};
+use uc_flat::{Flat, FlatPosition};
+use uc_flat_copies::FlatCopies;
 use uc_flat_lines::{FlatLine, FlatVerdict, FlatWhy};
 use uc_items::{Items, at};
 use uc_meaning::{At, Choices, Interp, Line, Path, State, Trace, What};
 use uc_report::{LineResult, Verdict, Why};
+
+/// When lines over cells are judged, as lines of the design.
+#[derive(Clone, Copy, Drop)]
+pub(crate) enum Moment {
+    /// After just so many steps.
+    Unrolled,
+    /// The same, as the base of an induction.
+    Based,
+    /// After so many linked states.
+    Linked,
+}
+
+/// The moment of so many steps.
+fn at_moment(moment: Moment, steps: u32) -> At
+    ensures { result ≡ at_moment moment steps }
+{
+    match moment {
+        Moment::Unrolled => At::Exactly(steps),
+        Moment::Based => At::Base(steps),
+        Moment::Linked => At::Step(steps),
+    }
+}
 
 /// The states, each with the choices that led to it.
 fn states_of(
@@ -30,13 +53,26 @@ fn states_of(
     Ok(states)
 }
 
+/// The states of each copy.
+fn copies_of(
+    alloc: Global,
+    copies: Items<Items<FlatPosition>>,
+) -> Result<Items<Items<(State, Choices)>>, AllocError>
+    ensures { IfOk result (λ all. all ≡ map positions_of copies) }
+{
+    let mut all = Items::new(alloc);
+    for positions in copies.into_vec() {
+        let states = states_of(alloc, positions)?;
+        all.push(states)?;
+    }
+    Ok(all)
+}
+
 /// A trace over cells as a trace of the design, with its constants.
-fn trace_of(alloc: Global, trace: FlatTrace) -> Result<Trace, AllocError>
+fn trace_of(alloc: Global, trace: FlatCopies) -> Result<Trace, AllocError>
     ensures { IfOk result (λ t. t ≡ trace_of trace) }
 {
-    let states = states_of(alloc, trace.positions)?;
-    let mut copies = Items::new(alloc);
-    copies.push(states)?;
+    let copies = copies_of(alloc, trace.copies)?;
     Ok(Trace {
         interp: Interp {
             consts: trace.constants,
@@ -78,17 +114,24 @@ fn decl_of(f: &Flat, number: u32) -> u32
     }
 }
 
-/// A line over cells as one of the report, of the first command.
-fn line_as(alloc: Global, f: &Flat, budget: u64, line: FlatLine) -> Result<LineResult, AllocError>
-    ensures { IfOk result (λ l. l ≡ line_as f.now budget line) }
+/// A line over cells as one of the report, of the command of a number.
+fn line_as(
+    alloc: Global,
+    f: &Flat,
+    command: u32,
+    moment: Moment,
+    budget: u64,
+    line: FlatLine,
+) -> Result<LineResult, AllocError>
+    ensures { IfOk result (λ l. l ≡ line_as f.now command moment budget line) }
 {
     let decl = decl_of(f, line.formula);
     let verdict = verdict_as(alloc, budget, line.verdict)?;
     Ok(LineResult {
-        command: 0,
+        command,
         line: Line {
-            command: 0,
-            at: At::Exactly(line.steps),
+            command,
+            at: at_moment(moment, line.steps),
             what: What::Formula {
                 path: Path::main(alloc),
                 decl,
@@ -103,14 +146,16 @@ fn line_as(alloc: Global, f: &Flat, budget: u64, line: FlatLine) -> Result<LineR
 pub(crate) fn lines_as(
     alloc: Global,
     f: &Flat,
+    command: u32,
+    moment: Moment,
     budget: u64,
     lines: Items<FlatLine>,
 ) -> Result<Items<LineResult>, AllocError>
-    ensures { IfOk result (λ ls. ls ≡ map (line_as f.now budget) lines) }
+    ensures { IfOk result (λ ls. ls ≡ map (line_as f.now command moment budget) lines) }
 {
     let mut all = Items::new(alloc);
     for line in lines.into_vec() {
-        let one = line_as(alloc, f, budget, line)?;
+        let one = line_as(alloc, f, command, moment, budget, line)?;
         all.push(one)?;
     }
     Ok(all)

@@ -19,10 +19,12 @@ use Rattle.uc_flat.specs.declared.flat.Flat.{Flat}
 use Rattle.uc_flat.specs.declared.flat.Formula.{Formula}
 use Rattle.uc_flat.specs.Fine.{ReadsBelow, CodeReadsBelow, ReadsTyped}
 use Rattle.uc_flat.specs.Flats.{cell_types, init_types, IsSound, IsFormula}
+use Rattle.uc_flat_copies.specs.declared.trace.Start.{Start}
+use Rattle.uc_flat_copies.specs.declared.trace.Start.TheVariants.{Initially, Anywhere}
 use Rattle.uc_symstep.specs.declared.state.SymState.{SymState}
 use Rattle.uc_symstep.specs.Growing.{Grows}
 use Rattle.uc_symstep.specs.Unrolled.{IsSeen}
-use Rattle.uc_symstep.specs.Known.{IsKnown, known, CodeReadsTyped, constants_typed, draw_types, step_types, supply_after, ReadsOwnTypes, KnowsState}
+use Rattle.uc_symstep.specs.Known.{IsKnown, known, CodeReadsTyped, constants_typed, draw_types, step_types, supply_at, supply_from, ReadsOwnTypes, KnowsState}
 use Rattle.uc_symstep.proofs.Known.{known_grows, all_known_grow, known_later, code_reads_more}
 use Rattle.uc_symstep.proofs.Grown.{grows_on}
 use Rattle.uc_obligations.specs.declared.unrolling.Unrolling.{Unrolling}
@@ -94,47 +96,55 @@ got_front [] ys k x h = cc
 got_front (y ∷ xs) ys zero x h = h
 got_front (y ∷ xs) ys (suc k) x h = got_front xs ys k x h
 
-pub supply_next : (f : Flat) (n : ℕ) → supply_after f (suc n) ≡ supply_after f n ++ step_types f
-unfolding supply_after
-supply_next f n = refl
+pub supply_next : (f : Flat) (start : Start) (n : ℕ) → supply_from f start (suc n) ≡ supply_from f start n ++ step_types f
+unfolding supply_from
+supply_next f start n = refl
 
-pub supply_begins : (f : Flat) (n : ℕ) → (more : List Ty) × (supply_after f n ≡ constants_typed f ++ more)
-unfolding supply_after
-supply_begins f zero = (cell_types f ++ draw_types (init_types f) f.init, append_assoc (constants_typed f) (cell_types f) (draw_types (init_types f) f.init))
-supply_begins f (suc n) =
-    let r = supply_begins f n in
+first_begins : (f : Flat) (start : Start) → (more : List Ty) × (supply_at f start ≡ constants_typed f ++ more)
+first_begins f Initially = (cell_types f ++ draw_types (init_types f) f.init, append_assoc (constants_typed f) (cell_types f) (draw_types (init_types f) f.init))
+first_begins f Anywhere = (cell_types f, refl)
+
+pub supply_begins : (f : Flat) (start : Start) (n : ℕ) → (more : List Ty) × (supply_from f start n ≡ constants_typed f ++ more)
+unfolding supply_from
+supply_begins f start zero = first_begins f start
+supply_begins f start (suc n) =
+    let r = supply_begins f start n in
     (r.0 ++ step_types f, ap (λ ts. ts ++ step_types f) r.1 ∙ append_assoc (constants_typed f) r.0 (step_types f))
 
-pub formulas_read : (f : Flat) (n : ℕ) → ReadsOwnTypes f → AllReadTyped (supply_after f n) f.formulas
-formulas_read f n r =
-    let b = supply_begins f n in
+pub formulas_read : (f : Flat) (start : Start) (n : ℕ) → ReadsOwnTypes f → AllReadTyped (supply_from f start n) f.formulas
+formulas_read f start n r =
+    let b = supply_begins f start n in
     let P : Formula → Type 0 = λ x. ReadsTyped (constants_typed f) x.condition in
-    let Q : Formula → Type 0 = λ x. ReadsTyped (supply_after f n) x.condition in
+    let Q : Formula → Type 0 = λ x. ReadsTyped (supply_from f start n) x.condition in
     All-weaker P Q (λ x h number ty ps d. ap (λ ts. slice_get ts number) b.1 ∙ got_front (constants_typed f) b.0 number ty (h number ty ps d)) f.formulas r.formulas
 
-pub step_reads : (f : Flat) (n : ℕ) → ReadsOwnTypes f → CodeReadsTyped (supply_after f n) f.step
-step_reads f n r = let b = supply_begins f n in subst (λ ts. CodeReadsTyped ts f.step) (sym b.1) (code_reads_more (constants_typed f) b.0 f.step r.step)
+pub step_reads : (f : Flat) (start : Start) (n : ℕ) → ReadsOwnTypes f → CodeReadsTyped (supply_from f start n) f.step
+step_reads f start n r = let b = supply_begins f start n in subst (λ ts. CodeReadsTyped ts f.step) (sym b.1) (code_reads_more (constants_typed f) b.0 f.step r.step)
 
 -- The states after so many steps.
 
 -- a supply knows what the first supply knows
-pub later_supply : (f : Flat) (n : ℕ) (nodes : List Node) (t : ℕ) → IsKnown (supply_after f n) nodes t → IsKnown (supply_after f (n + 1)) nodes t
-later_supply f n nodes t h =
-    let next : supply_after f n ++ step_types f ≡ supply_after f (n + 1) = sym (supply_next f n) ∙ ap (supply_after f) (sym (add-one n)) in
-    subst (λ ts. IsKnown ts nodes t) next (known_later (supply_after f n) (step_types f) nodes nodes (record { more = []; is = sym (append-nil nodes) }) t h)
+pub later_supply : (f : Flat) (start : Start) (n : ℕ) (nodes : List Node) (t : ℕ) → IsKnown (supply_from f start n) nodes t → IsKnown (supply_from f start (n + 1)) nodes t
+later_supply f start n nodes t h =
+    let next : supply_from f start n ++ step_types f ≡ supply_from f start (n + 1) = sym (supply_next f start n) ∙ ap (supply_from f start) (sym (add-one n)) in
+    subst (λ ts. IsKnown ts nodes t) next (known_later (supply_from f start n) (step_types f) nodes nodes (record { more = []; is = sym (append-nil nodes) }) t h)
 
 one_last : (t s : SymState) (states : List SymState) → states ≡ t ∷ [] → slice_get states 0 ≡ Some s → t ≡ s
 one_last t s states i at = let e : Some t ≡ Some s = sym (ap (λ ss. slice_get ss 0) i) ∙ at in cc
 
-pub begun_known : (f : Flat) (a b c : List Node) (axioms first next : ℕ) (s t : SymState) (states : List SymState) → Grows a b → Grows b c → first ≡ length f.constants
+pub begun_known : (f : Flat) (start : Start) (mid a b c : List Node) (assumed axioms first next : ℕ) (s t : SymState) (states : List SymState) → Grows mid a → Grows a b → Grows b c → first ≡ length f.constants
+    → ((supply : List Ty) → IsKnown supply mid assumed)
     → ((supply : List Ty) → AllReadTyped supply f.formulas → IsKnown supply a axioms)
-    → (All (ReadsTyped (constants_typed f)) f.further → CodeReadsTyped (constants_typed f) f.init → first ≡ length f.constants → KnowsState (supply_after f 0) b s next)
+    → (ReadsOwnTypes f → first ≡ length f.constants → KnowsState (supply_from f start 0) b s next)
     → ((supply : List Ty) (k : ℕ) → KnowsState supply b s k → KnowsState supply c t k) → states ≡ t ∷ []
-    → ReadsOwnTypes f → KnowsLast f c 0 (record { axioms = axioms; states = states; fresh = record { next = next } })
-begun_known f a b c axioms first next s t states g h i p q simpler j r = record {
-  axioms = known_grows (supply_after f 0) a c (grows_on a b c g h) axioms (p (supply_after f 0) (formulas_read f 0 r));
-  last = λ u at. subst (λ v. KnowsState (supply_after f 0) c v next) (one_last t u states j at) (simpler (supply_after f 0) next (q r.further r.init i));
-}
+    → ReadsOwnTypes f → KnowsLast f c 0 (record { start = start; axioms = axioms; assumed = assumed; states = states; fresh = record { next = next } })
+begun_known f start mid a b c assumed axioms first next s t states e g h i z p q simpler j r =
+    let supply = supply_from f start 0 in
+    record {
+      axioms = known_grows supply a c (grows_on a b c g h) axioms (p supply (formulas_read f start 0 r));
+      assumed = known_grows supply mid c (grows_on mid a c e (grows_on a b c g h)) assumed (z supply);
+      last = λ u at. subst (λ v. KnowsState supply c v next) (one_last t u states j at) (simpler supply next (q r i));
+    }
 
 last_of : (run more : List SymState) (n : ℕ) (t s : SymState) → length run ≡ n + 1 → more ≡ run ++ t ∷ [] → slice_get more (n + 1) ≡ Some s → t ≡ s
 last_of run more n t s count i at = let e : Some t ≡ Some s = sym (ap (λ ss. slice_get ss (n + 1)) i ∙ at_end run (n + 1) (sym count)) ∙ at in cc
@@ -146,48 +156,57 @@ last_of run more n t s count i at = let e : Some t ≡ Some s = sym (ap (λ ss. 
         ends [] = refl
         ends (y ∷ ys) = ends ys
 
-pub advanced_known : (f : Flat) (now b c : List Node) (n next : ℕ) (u : Unrolling) (run more : List SymState) (r s t : SymState) → IsUnrolled f now n u → run ≡ u.states → r ≡ get_or run n r → Grows now b → Grows b c
-    → ((supply : List Ty) → CodeReadsTyped supply f.step → KnowsState supply now r u.fresh.next → KnowsState (supply ++ step_types f) b s next)
+state_at : (xs : List SymState) (k : ℕ) (x : SymState) → k < length xs → x ≡ get_or xs k x → slice_get xs k ≡ Some x
+state_at [] k x l q = absurd (omega (arith, l))
+state_at (y ∷ xs) zero x l q = ap Some (sym q)
+state_at (y ∷ xs) (suc k) x l q = state_at xs k x (omega (arith, l)) q
+
+-- the last state is known
+last_known : (f : Flat) (now : List Node) (n : ℕ) (u : Unrolling) (run : List SymState) (s : SymState) → IsUnrolled f now n u → run ≡ u.states → s ≡ get_or run n s → ReadsOwnTypes f → KnowsState (supply_from f u.start n) now s u.fresh.next
+last_known f now n u run s h i j reads = (h.known reads).last s (state_at u.states n s (omega (arith, h.run.states.count)) (j ∙ ap (λ ss. get_or ss n s) i))
+
+pub known_state_grows : (supply : List Ty) (now new : List Node) (s : SymState) (next : ℕ) → Grows now new → KnowsState supply now s next → KnowsState supply new s next
+known_state_grows supply now new s next g a = record { cells = all_known_grow supply now new g s.cells a.cells; path = known_grows supply now new g s.path a.path; next = a.next }
+
+pub advanced_known : (f : Flat) (now mid b c : List Node) (n next assumed : ℕ) (u : Unrolling) (run more : List SymState) (r s t : SymState) → IsUnrolled f now n u → run ≡ u.states → r ≡ get_or run n r → Grows now mid → Grows mid b → Grows b c
+    → ((supply : List Ty) (k : ℕ) → AllReadTyped supply f.formulas → IsKnown supply now u.assumed → KnowsState supply now r k → IsKnown supply mid assumed)
+    → ((supply : List Ty) → CodeReadsTyped supply f.step → KnowsState supply mid r u.fresh.next → KnowsState (supply ++ step_types f) b s next)
     → ((supply : List Ty) (k : ℕ) → KnowsState supply b s k → KnowsState supply c t k) → more ≡ u.states ++ t ∷ []
-    → ReadsOwnTypes f → KnowsLast f c (n + 1) (record { axioms = u.axioms; states = more; fresh = record { next = next } })
-advanced_known f now b c n next u run more r s t h i j g g' step simpler e reads =
+    → ReadsOwnTypes f → KnowsLast f c (n + 1) (record { start = u.start; axioms = u.axioms; assumed = assumed; states = more; fresh = record { next = next } })
+advanced_known f now mid b c n next assumed u run more r s t h i j gm g g' suppose step simpler e reads =
     let k = h.known reads in
-    let supply = supply_after f n in
-    let at : slice_get u.states n ≡ Some r = place u.states n r (omega (arith, h.run.states.count)) (j ∙ ap (λ ss. get_or ss n r) i) in
-    let stepped : KnowsState (supply ++ step_types f) b s next = step supply (step_reads f n reads) (k.last r at) in
-    let all : supply ++ step_types f ≡ supply_after f (n + 1) = sym (supply_next f n) ∙ ap (supply_after f) (sym (add-one n)) in
+    let supply = supply_from f u.start n in
+    let before : KnowsState supply now r u.fresh.next = last_known f now n u run r h i j reads in
+    let stepped : KnowsState (supply ++ step_types f) b s next = step supply (step_reads f u.start n reads) (known_state_grows supply now mid r u.fresh.next gm before) in
+    let all : supply ++ step_types f ≡ supply_from f u.start (n + 1) = sym (supply_next f u.start n) ∙ ap (supply_from f u.start) (sym (add-one n)) in
+    let on = grows_on mid b c g g' in
     record {
-      axioms = known_grows (supply_after f (n + 1)) now c (grows_on now b c g g') u.axioms (later_supply f n now u.axioms k.axioms);
-      last = λ v there. subst (λ x. KnowsState (supply_after f (n + 1)) c x next) (last_of u.states more n t v h.run.states.count e there)
-          (simpler (supply_after f (n + 1)) next (subst (λ ts. KnowsState ts b s next) all stepped));
+      axioms = known_grows (supply_from f u.start (n + 1)) now c (grows_on now mid c gm on) u.axioms (later_supply f u.start n now u.axioms k.axioms);
+      assumed = known_grows (supply_from f u.start (n + 1)) mid c on assumed (later_supply f u.start n mid assumed (suppose supply u.fresh.next (formulas_read f u.start n reads) k.assumed before));
+      last = λ v there. subst (λ x. KnowsState (supply_from f u.start (n + 1)) c x next) (last_of u.states more n t v h.run.states.count e there)
+          (simpler (supply_from f u.start (n + 1)) next (subst (λ ts. KnowsState ts b s next) all stepped));
     }
-  where
-    place : (xs : List SymState) (k : ℕ) (x : SymState) → k < length xs → x ≡ get_or xs k x → slice_get xs k ≡ Some x
-    place [] k x l q = absurd (omega (arith, l))
-    place (y ∷ xs) zero x l q = ap Some (sym q)
-    place (y ∷ xs) (suc k) x l q = place xs k x (omega (arith, l)) q
 
 pub last_grows : (f : Flat) (now new : List Node) (n : ℕ) (u : Unrolling) → Grows now new → KnowsLast f now n u → KnowsLast f new n u
-last_grows f now new n u g k = record {
-  axioms = known_grows (supply_after f n) now new g u.axioms k.axioms;
-  last = λ s at.
-      let a = k.last s at in
-      record { cells = all_known_grow (supply_after f n) now new g s.cells a.cells; path = known_grows (supply_after f n) now new g s.path a.path; next = a.next };
-}
+last_grows f now new n u g k =
+    let supply = supply_from f u.start n in
+    record {
+      axioms = known_grows supply now new g u.axioms k.axioms;
+      assumed = known_grows supply now new g u.assumed k.assumed;
+      last = λ s at. known_state_grows supply now new s u.fresh.next g (k.last s at);
+    }
+
+-- what is assumed of one formula more
+pub supposed_known : (supply : List Ty) (now mid new : List Node) (s : SymState) (all next : ℕ) → Grows now mid → KnowsState supply now s next → (KnowsState supply mid s next → IsKnown supply new all) → IsKnown supply new all
+supposed_known supply now mid new s all next g k h = h (known_state_grows supply now mid s next g k)
 
 -- Goals.
 
 pub goal_known : (f : Flat) (now new : List Node) (n : ℕ) (u : Unrolling) (run : List SymState) (s : SymState) (goal : ℕ) → IsUnrolled f now n u → run ≡ u.states → s ≡ get_or run n s
-    → ((supply : List Ty) (next : ℕ) → AllReadTyped supply f.formulas → IsKnown supply now u.axioms → KnowsState supply now s next → IsKnown supply new goal) → ReadsOwnTypes f → IsKnown (supply_after f n) new goal
+    → ((supply : List Ty) (next : ℕ) → AllReadTyped supply f.formulas → IsKnown supply now u.axioms → IsKnown supply now u.assumed → KnowsState supply now s next → IsKnown supply new goal) → ReadsOwnTypes f → IsKnown (supply_from f u.start n) new goal
 goal_known f now new n u run s goal h i j made reads =
     let k = h.known reads in
-    let at : slice_get u.states n ≡ Some s = place u.states n s (omega (arith, h.run.states.count)) (j ∙ ap (λ ss. get_or ss n s) i) in
-    made (supply_after f n) u.fresh.next (formulas_read f n reads) k.axioms (k.last s at)
-  where
-    place : (xs : List SymState) (k : ℕ) (x : SymState) → k < length xs → x ≡ get_or xs k x → slice_get xs k ≡ Some x
-    place [] k x l q = absurd (omega (arith, l))
-    place (y ∷ xs) zero x l q = ap Some (sym q)
-    place (y ∷ xs) (suc k) x l q = place xs k x (omega (arith, l)) q
+    made (supply_from f u.start n) u.fresh.next (formulas_read f u.start n reads) k.axioms k.assumed (last_known f now n u run s h i j reads)
 
 pub axiom_read : (supply : List Ty) (formulas : List Formula) (k : ℕ) (x : Formula) → slice_get formulas k ≡ Some x → AllReadTyped supply formulas → ReadsTyped supply x.condition
 axiom_read supply formulas k x at h =

@@ -1,5 +1,6 @@
 pub mod KnownTerms
 pub mod Terms
+pub mod Supposing
 pub mod Unrollings
 pub mod Read
 pub mod Knowing

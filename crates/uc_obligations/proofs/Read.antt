@@ -30,7 +30,8 @@ use Rattle.uc_symstep.specs.Designs.{AreStates}
 use Rattle.uc_symstep.proofs.States.{flat_map_push}
 use Rattle.uc_flat.specs.declared.trace.FlatPosition.{FlatPosition}
 use Rattle.uc_flat.specs.Traces.{constant_types}
-use Rattle.uc_flat.specs.FlatTracesLaws.{ArePositions}
+use Rattle.uc_flat_copies.specs.declared.trace.Start.{Start}
+use Rattle.uc_flat_copies.specs.Laws.{ArePlaces}
 use Rattle.uc_obligations.specs.Reading.{choice_read, hit_read, position_read, IsFitting, AreRead, beginning_with, AreNumbers, AreValues, IsTraceOf}
 
 pub part_some : (values : List Value) (k : ℕ) (v : Value) → slice_get values k ≡ Some v → part values k ≡ v
@@ -213,11 +214,11 @@ pub position_is : (values : List Value) (s : SymState) (cells choices : List Val
     → record { cells = cells; choices = choices; sites = sites } ≡ position_read values s
 position_is values s cells choices sites a b c = λ i. record { cells = a i; choices = b i; sites = c i }
 
-pub trace_is : (f : Flat) (nodes : List Node) (goal n : ℕ) (states : List SymState) (constants own vs all : List Value) (ts others : List ℕ) (m b : Model) (positions : List FlatPosition)
+pub trace_is : (f : Flat) (nodes : List Node) (goal n : ℕ) (states : List SymState) (constants own vs all : List Value) (ts others : List ℕ) (m b : Model) (positions : List FlatPosition) (copies : List (List FlatPosition))
     → AreRead f m constants → own ≡ constants → b ≡ beginning_with own m → n ≡ length nodes → AreNumbers n ts → others ≡ ts → vs ≡ values_at b nodes others → all ≡ vs
-    → goal < length nodes → truth_of (part all goal) ≡ true → positions ≡ map (position_read all) states
-    → IsTraceOf f nodes goal states (record { constants = constants; positions = positions })
-trace_is f nodes goal n states constants own vs all ts others m b positions r i is j a e v g l t p =
+    → goal < length nodes → truth_of (part all goal) ≡ true → positions ≡ map (position_read all) states → copies ≡ positions ∷ []
+    → IsTraceOf f nodes goal states (record { constants = constants; copies = copies })
+trace_is f nodes goal n states constants own vs all ts others m b positions copies r i is j a e v g l t p c =
     let are : AreValues b nodes all = subst (AreValues b nodes) (sym g) (values_are b nodes n ts others vs j a e v) in
     record {
       model = b;
@@ -229,7 +230,7 @@ trace_is f nodes goal n states constants own vs all ts others m b positions r i 
       };
       are = are;
       goal_true = ap truth_of (sym (are goal l)) ∙ t;
-      positions = p;
+      copies = c ∙ ap (λ ps. ps ∷ []) p;
     }
 
 record Mapped (values : List Value) (states : List SymState) (k : ℕ) (p : FlatPosition) : Type 0 where
@@ -244,9 +245,9 @@ mapped_at values (s ∷ states) (suc k) p h =
     let r = mapped_at values states k p h in
     record { state = r.state; at = r.at; read = r.read }
 
-pub positions_are : (f : Flat) (m : Model) (n : ℕ) (nodes : List Node) (values : List Value) (states : List SymState) (positions : List FlatPosition) → AreStates f (length f.constants) nodes n states → AreValues m nodes values
-    → positions ≡ map (position_read values) states → ArePositions f m n positions
-positions_are f m n nodes values states positions a v i = record {
+pub positions_are : (f : Flat) (start : Start) (m : Model) (n : ℕ) (nodes : List Node) (values : List Value) (states : List SymState) (positions : List FlatPosition) → AreStates f start (length f.constants) nodes n states → AreValues m nodes values
+    → positions ≡ map (position_read values) states → ArePlaces f start n m positions
+positions_are f start m n nodes values states positions a v i = record {
   count = ap length i ∙ length-map states (position_read values) ∙ a.count;
   each = λ k p at.
       let r = mapped_at values states k p (ap (λ ps. slice_get ps k) (sym i) ∙ at) in

@@ -162,14 +162,15 @@ all_cells states = flat_map (λ s. s.cells) states
 pub formula_ready : (f : Flat) (k : ℕ) (old new : List Node) (t : ℕ) (cells : List ℕ) → k < length f.formulas → OfFormula f k old new t cells → IsTruth new t
 formula_ready f k old new t cells l a = let x = at_place f.formulas k l in let b = a x.0 x.1 in record { there = b.there; typed = b.typed }
 
-pub refuted_as : (old a b c new : List Node) (f : Flat) (k axioms truth fails broken all : ℕ) (s : SymState) (states : List SymState) → IsTruth old axioms → IsSeen old (cell_types f) s → states ≡ s ∷ []
+pub refuted_as : (old a b c d new : List Node) (f : Flat) (k axioms assumed truth fails unmet broken all : ℕ) (s : SymState) (states : List SymState) → IsTruth old axioms → IsTruth old assumed → IsSeen old (cell_types f) s → states ≡ s ∷ []
     → OfFormula f k old a truth (all_cells states)
     → IsTerm a b fails Bool (λ m. Boolean (not (truth_of (value m a truth))))
-    → IsTerm b c broken Bool (λ m. Boolean (truth_of (value m b s.path) && truth_of (value m b fails)))
-    → IsTerm c new all Bool (λ m. Boolean (truth_of (value m c axioms) && truth_of (value m c broken)))
-    → (x : Formula) → slice_get f.formulas k ≡ Some x → IsTerm old new all Bool (λ m. Boolean (holds m old axioms && (holds m old s.path && not (holds_in f x m (map (value m old) s.cells)))))
-refuted_as old a b c new f k axioms truth fails broken all s states h g i p q r t x at =
-    refuted_is old a b c new f x axioms truth fails broken all s s.cells h g refl (formula_one old a f x s states truth i (p x at)) q r t
+    → IsTerm b c unmet Bool (λ m. Boolean (truth_of (value m b assumed) && truth_of (value m b fails)))
+    → IsTerm c d broken Bool (λ m. Boolean (truth_of (value m c s.path) && truth_of (value m c unmet)))
+    → IsTerm d new all Bool (λ m. Boolean (truth_of (value m d axioms) && truth_of (value m d broken)))
+    → (x : Formula) → slice_get f.formulas k ≡ Some x → IsTerm old new all Bool (λ m. Boolean (holds m old axioms && (holds m old s.path && (holds m old assumed && not (holds_in f x m (map (value m old) s.cells))))))
+refuted_as old a b c d new f k axioms assumed truth fails unmet broken all s states h z g i p q o r t x at =
+    refuted_is old a b c d new f x axioms assumed truth fails unmet broken all s s.cells h z g refl (formula_one old a f x s states truth i (p x at)) q o r t
 
 -- each answer is at its number
 pub answers_within : (old new : List Node) (answers ts own : List ℕ) → AllAnswered old new answers (length old) → All (λ t. t < length old) ts → own ≡ ts → All (λ t. t < length answers) own

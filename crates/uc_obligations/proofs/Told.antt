@@ -20,7 +20,7 @@ use Rattle.uc_flat.specs.Flats.{IsSound}
 use Rattle.uc_symstep.specs.declared.state.SymState.{SymState}
 use Rattle.uc_symstep.specs.Known.{IsKnown}
 use Rattle.uc_symstep.proofs.Models.{Agree, same_value}
-use Rattle.uc_flat.specs.declared.trace.FlatTrace.{FlatTrace}
+use Rattle.uc_flat_copies.specs.declared.trace.FlatCopies.{FlatCopies}
 use Rattle.uc_flat.specs.Traces.{constant_types}
 use Rattle.uc_obligations.specs.declared.unrolling.Unrolling.{Unrolling}
 use Rattle.uc_obligations.specs.Unrolling.{IsUnrolled}
@@ -73,6 +73,6 @@ untold f nodes goal n states constants own vs all ts others m b w r i is j a e v
     let no : false ≡ true = sym t ∙ ap truth_of (are goal l ∙ same) ∙ h in
     cc
 
-pub told_as : (f : Flat) (n : ℕ) (now : List Node) (u : Unrolling) (run : List SymState) (goal : ℕ) (m : Model) (o : Option FlatTrace) → IsSound f → IsUnrolled f now n u → run ≡ u.states → IsToldBy f now goal run m o → IsTold f n now goal m o
-told_as f n now u run goal m None s h i r = λ valid k t. let b = supply_begins f n in r valid b.0 (subst (λ ts. IsKnown ts now goal) b.1 k) t
-told_as f n now u run goal m (Some t) s h i r = λ x g. trace_refutes f x n now u run goal t s h i r g
+pub told_as : (f : Flat) (n : ℕ) (now : List Node) (u : Unrolling) (run : List SymState) (goal : ℕ) (m : Model) (o : Option FlatCopies) → IsSound f → IsUnrolled f now n u → run ≡ u.states → IsToldBy f now goal run m o → IsTold f u.start n now goal m o
+told_as f n now u run goal m None s h i r = λ valid k t. let b = supply_begins f u.start n in r valid b.0 (subst (λ ts. IsKnown ts now goal) b.1 k) t
+told_as f n now u run goal m (Some t) s h i r = λ x single g. trace_refutes f x n now u run goal t s h i r single g

@@ -1,5 +1,5 @@
 -- The trace of the states under a model.
-use Rattle.std.specs.Prelude.{◌≡◌, ℕ, ◌<◌, true, IsTrue, List, ◌++◌, drop, map, length, slice_get, Option, None, Some, All}
+use Rattle.std.specs.Prelude.{◌≡◌, ℕ, ◌<◌, true, IsTrue, List, [], ◌∷◌, ◌++◌, drop, map, length, slice_get, Option, None, Some, All}
 use Rattle.std.specs.List.{flat_map}
 use Rattle.uc_linear.specs.declared.exact.Wide.{Wide}
 use Rattle.uc_values.specs.declared.ty.Ty.{Ty}
@@ -21,8 +21,8 @@ use Rattle.uc_symstep.specs.declared.state.SymState.{SymState}
 use Rattle.uc_symstep.specs.Stands.{holds}
 use Rattle.uc_symstep.specs.Known.{IsKnown}
 use Rattle.uc_flat.specs.declared.trace.FlatPosition.{FlatPosition}
-use Rattle.uc_flat.specs.declared.trace.FlatTrace.{FlatTrace}
 use Rattle.uc_flat.specs.Traces.{HasConstants, constant_types}
+use Rattle.uc_flat_copies.specs.declared.trace.FlatCopies.{FlatCopies}
 
 -- what is read of a state, where each term has its value in a list, by its number
 abbrev pub choice_read : List Value → Choice → List Value
@@ -72,16 +72,16 @@ pub record AreNumbers (n : ℕ) (ts : List ℕ) : Type 0 where
 abbrev pub AreValues : Model → List Node → List Value → Type 0
 AreValues m nodes values = (t : ℕ) → t < length nodes → part values t ≡ value m nodes t
 
--- the trace is that of the states under a model that has its constants and makes the goal true
-pub record IsTraceOf (f : Flat) (nodes : List Node) (goal : ℕ) (states : List SymState) (t : FlatTrace) : Type 0 where
+-- the trace has one copy, that of the states under a model that has its constants and makes the goal true
+pub record IsTraceOf (f : Flat) (nodes : List Node) (goal : ℕ) (states : List SymState) (t : FlatCopies) : Type 0 where
   pub model : Model
   pub values : List Value
   pub constants : HasConstants f t.constants model
   pub are : AreValues model nodes values
   pub goal_true : holds model nodes goal ≡ true
-  pub positions : t.positions ≡ map (position_read values) states
+  pub copies : t.copies ≡ map (position_read values) states ∷ []
 
 -- A model tells such a trace. It tells none only where the goal is not true under it, where a constant is read at another type than its own, or where the type of one is not a valid one.
-abbrev pub IsToldBy : Flat → List Node → ℕ → List SymState → Model → Option FlatTrace → Type 0
+abbrev pub IsToldBy : Flat → List Node → ℕ → List SymState → Model → Option FlatCopies → Type 0
 IsToldBy f nodes goal states m None = AllValid (constant_types f) → (more : List Ty) → IsKnown (constant_types f ++ more) nodes goal → holds m nodes goal ≡ true → ⊥
 IsToldBy f nodes goal states m (Some t) = IsTraceOf f nodes goal states t

@@ -10,7 +10,8 @@ ghost use Rattle.uc_ops.specs.Meaning.{part, fitting};
 ghost use Rattle.uc_obligations.specs.Reading.{position_read, choice_read, hit_read, beginning_with, AreNumbers, IsFitting, AreConstantsOf, MeetsIn, IsToldBy};
 
 use std::alloc::{AllocError, Global};
-use uc_flat::{Flat, FlatPosition, FlatTrace};
+use uc_flat::{Flat, FlatPosition};
+use uc_flat_copies::FlatCopies;
 use uc_items::{Items, at};
 use uc_linear::LinearError;
 use uc_symstep::{Choice, Hit, SymState};
@@ -26,7 +27,7 @@ pub(crate) fn trace_of(
     goal: TermId,
     states: &[SymState],
     model: Model,
-) -> Result<Option<FlatTrace>, LinearError>
+) -> Result<Option<FlatCopies>, LinearError>
     requires { goal < length terms.now }
     ensures told { IfOk result (IsToldBy f.now terms.now goal states.now model) }
     ensures wide { OnWide result (MeetsIn f.now terms.now model) }
@@ -42,10 +43,9 @@ pub(crate) fn trace_of(
         return Ok(None);
     }
     let positions = positions(alloc, all_values, states)?;
-    Ok(Some(FlatTrace {
-        constants,
-        positions,
-    }))
+    let mut copies = Items::new(alloc);
+    copies.push(positions)?;
+    Ok(Some(FlatCopies { constants, copies }))
 }
 
 /// A value that fits its type for each constant: that of the model, where it fits. There are none where none fits.

@@ -8,3 +8,4 @@ pub mod Entered
 pub mod Held
 pub mod Listed
 pub mod Constants
+pub mod ControlForms

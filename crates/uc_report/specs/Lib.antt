@@ -9,3 +9,5 @@ pub mod Reports
 pub mod Verdicts
 pub mod Prints
 pub mod ControlText
+pub mod ControlRules
+pub mod ControlRulesParts

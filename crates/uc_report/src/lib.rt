@@ -5,10 +5,13 @@
 //! Counterexamples as text: what a trace shows of the cells of a design, state by state.
 //!
 //! The report of a design's control block: its lines with their verdicts, its prints, its text and its status.
+//!
+//! The rules on control blocks, and the first fault of main's.
 #![tactic(auto)]
 
 mod bytes;
 mod cell;
+mod control_rules;
 mod control_text;
 mod design;
 mod heads;
@@ -26,6 +29,7 @@ mod values;
 
 pub use bytes::{put, put_between, put_number};
 pub use cell::CellRef;
+pub use control_rules::{ControlFault, ControlRule, check_control};
 pub use control_text::report_text;
 pub use design::DesignView;
 pub use heads::{put_head, put_path};

@@ -1,9 +1,7 @@
 -- The first form of a design, in the order of its texts, that does not run today.
-use Rattle.std.specs.Prelude.{ℕ, zero, suc, Bool, true, false, ◌&&◌, nat_eq, nat_le, if◌then◌else◌, List, [], ◌∷◌, drop, Option, Some, None}
-use Rattle.std.specs.List.{list_all}
+use Rattle.std.specs.Prelude.{ℕ, zero, suc, Bool, true, false, if◌then◌else◌, List, [], ◌∷◌, drop, Option, Some, None}
 use Rattle.std.specs.Option.{option_or}
 use Rattle.uc_lexer.specs.declared.place.Place.{Place}
-use Rattle.uc_syntax.specs.declared.place.Identifier.{Identifier}
 use Rattle.uc_syntax.specs.declared.type_expression.TypeExpr.{TypeExpr}
 use Rattle.uc_syntax.specs.declared.type_expression.TypeExpr.TheOpen.{TypeExpr-F}
 use Rattle.uc_syntax.specs.declared.type_expression.TypeExpr.TheOpen.TypeExpr-F.{Integer, Record, Array}
@@ -26,14 +24,12 @@ use Rattle.uc_syntax.specs.declared.statement.Stmt.{Stmt}
 use Rattle.uc_syntax.specs.declared.statement.Stmt.TheOpen.{Stmt-F}
 use Rattle.uc_syntax.specs.declared.statement.Stmt.TheOpen.Stmt-F.{Local, Block, Assert, Assume, Assign, If as Choice, Case as Cases, For, Call}
 use Rattle.uc_syntax.specs.declared.statement.Stmt.TheFolds.{fold-Stmt}
-use Rattle.uc_syntax.specs.declared.declaration.WrittenRun.TheVariants.{Unroll}
 use Rattle.uc_syntax.specs.declared.declaration.Command.{Command}
-use Rattle.uc_syntax.specs.declared.declaration.Command.TheVariants.{Run, Check, PrintResults, PrintCounterexamples}
 use Rattle.uc_syntax.specs.declared.declaration.Decl.{Decl}
 use Rattle.uc_syntax.specs.declared.declaration.Decl.TheVariants.{OpaqueType, TypeAlias, TypeImport, Variables, Function, Define, Procedure, Instance, Init, Next, Invariant, Axiom, Hyperinvariant, Hyperaxiom, Control}
 use Rattle.uc_syntax.specs.declared.declaration.Module.{Module}
 use Rattle.uc_meaning.specs.Lookup.{first_some}
-use Rattle.uc_meaning.specs.Fragment.{most_steps}
+use Rattle.uc_runnable.specs.Commands.{runs, stands_at}
 
 abbrev pub first_of : List (Option Place) → Option Place
 first_of parts = first_some (λ o. o) parts
@@ -131,36 +127,13 @@ outside_block block = first_some outside_statement block
 
 -- ---- control blocks
 
--- no name, or that of the command
-abbrev pub is_own_name : Option Identifier → Option Identifier → Bool
-is_own_name name None = true
-is_own_name None (Some f) = false
-is_own_name (Some i) (Some f) = nat_eq i.name f.name
-
--- a path that leads through no instance
-abbrev pub is_own_path : List Identifier → Bool
-is_own_path (i ∷ []) = true
-is_own_path other = false
-
-abbrev pub are_own_paths : Option (List (List Identifier)) → Bool
-are_own_paths None = true
-are_own_paths (Some paths) = list_all is_own_path paths
-
--- a print of the results, or of counterexamples of the command
-abbrev pub is_print : Option Identifier → Command → Bool
-is_print name (PrintResults place) = true
-is_print name (PrintCounterexamples place f paths) = is_own_name name f && are_own_paths paths
-is_print name other = false
-
--- no commands; or `unroll(N); check;`, with a name or without one, and then prints
-abbrev pub runs_once : List Command → Bool
-runs_once [] = true
-runs_once (Run place name (Unroll n) ∷ (Check at ∷ prints)) = nat_le n most_steps && list_all (is_print name) prints
-runs_once other = false
+-- a command that does not run, at its first word
+abbrev pub outside_command : Command → Option Place
+outside_command c = if runs c then None else Some (stands_at c)
 
 -- ---- declarations
 
--- a declaration of a form that does not run as a whole, at its first word, and so a control block that does not; of the others, the first form in them
+-- a declaration of a form that does not run as a whole, at its first word; of the others, the first form in them
 abbrev pub outside_declaration : Decl → Option Place
 outside_declaration (OpaqueType place i) = Some place
 outside_declaration (TypeAlias place i type) = outside_type type
@@ -176,7 +149,7 @@ outside_declaration (Invariant place i e) = number_in e
 outside_declaration (Axiom place i e) = number_in e
 outside_declaration (Hyperinvariant place copies i e) = Some place
 outside_declaration (Hyperaxiom place copies i e) = Some place
-outside_declaration (Control place commands) = if runs_once commands then None else Some place
+outside_declaration (Control place commands) = first_some outside_command commands
 
 abbrev pub outside_module : Module → Option Place
 outside_module m = first_some outside_declaration m.decls

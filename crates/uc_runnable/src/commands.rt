@@ -1,56 +1,92 @@
-//! Control blocks that run.
+//! Commands that run.
 
 ghost use Rattle.std.specs.Prelude.{◌≡◌};
 ghost use Rattle.std.specs.List.{list_all};
-ghost use Rattle.uc_runnable.specs.Outside.{is_own_name, is_own_path, are_own_paths, is_print, runs_once};
+ghost use Rattle.uc_meaning.specs.Lookup.{first_some};
+ghost use Rattle.uc_runnable.specs.Commands.{is_linked, is_judged, is_own_path, are_own_paths, runs, stands_at};
+ghost use Rattle.uc_runnable.specs.Outside.{outside_command};
 
 use uc_items::Items;
-use uc_syntax::{Command, Identifier, WrittenRun};
+use uc_syntax::{Command, Identifier, Place, WrittenRun};
 
 /// How many steps a run may be unrolled.
 const MOST_STEPS: u128 = 1000;
 
-/// Whether commands are none, or `unroll(N); check;` and then prints.
-pub(crate) fn runs_once(commands: &[Command]) -> bool
-    ensures { result ≡ runs_once commands.now }
+/// How many states an induction may link before the last one.
+const MOST_LINKED: u128 = 100;
+
+/// Whether all commands run.
+pub(crate) fn all_run(commands: &[Command]) -> bool
+    ensures { result ≡ list_all runs commands.now }
 {
-    match commands {
-        [] => true,
-        [
-            Command::Run(_, name, WrittenRun::Unroll(steps)),
-            Command::Check(_),
-            prints @ ..,
-        ] => *steps <= MOST_STEPS && all_print(*name, prints),
-        _ => false,
-    }
+    commands.iter().all(runs)
 }
 
-fn all_print(name: Option<Identifier>, prints: &[Command]) -> bool
-    ensures { result ≡ list_all (is_print name) prints.now }
+/// The first word of the first command that does not run.
+#[tactic(auto, unfolding(uc_meaning::specs::Lookup::first_some))]
+pub(crate) fn outside_commands(commands: &[Command]) -> Option<Place>
+    ensures { result ≡ first_some outside_command commands.now }
 {
-    prints.iter().all(|print| is_print(name, print))
-}
-
-/// Whether a command prints results or counterexamples of the command of a name.
-fn is_print(name: Option<Identifier>, print: &Command) -> bool
-    ensures { result ≡ is_print name print.now }
-{
-    match print {
-        Command::PrintResults(_) => true,
-        Command::PrintCounterexamples(_, command, paths) => {
-            is_own_name(name, *command) && are_own_paths(paths)
+    for command in commands {
+        let found = outside_command(command);
+        if found.is_some() {
+            return found;
         }
-        _ => false,
+    }
+    None
+}
+
+fn outside_command(command: &Command) -> Option<Place>
+    ensures { result ≡ outside_command command.now }
+{
+    if runs(command) {
+        None
+    } else {
+        Some(stands_at(command))
     }
 }
 
-fn is_own_name(name: Option<Identifier>, command: Option<Identifier>) -> bool
-    ensures { result ≡ is_own_name name command }
+/// Whether a command runs.
+fn runs(command: &Command) -> bool
+    ensures { result ≡ runs command.now }
 {
-    match (name, command) {
-        (_, None) => true,
-        (None, Some(_)) => false,
-        (Some(own), Some(other)) => own.name == other.name,
+    match command {
+        Command::Run(_, _, run) => is_judged(*run),
+        Command::Check(_) => true,
+        Command::PrintResults(_) => true,
+        Command::PrintCounterexamples(_, _, paths) => are_own_paths(paths),
+    }
+}
+
+/// The place of the first word of a command.
+fn stands_at(command: &Command) -> Place
+    ensures { result ≡ stands_at command.now }
+{
+    match command {
+        Command::Run(place, _, _) => *place,
+        Command::Check(place) => *place,
+        Command::PrintResults(place) => *place,
+        Command::PrintCounterexamples(place, _, _) => *place,
+    }
+}
+
+/// Whether the lines of a run are judged.
+fn is_judged(run: WrittenRun) -> bool
+    ensures { result ≡ is_judged run }
+{
+    match run {
+        WrittenRun::Unroll(steps) => steps <= MOST_STEPS,
+        WrittenRun::Induction(depth) => is_linked(depth),
+        WrittenRun::Verify(_) => false,
+    }
+}
+
+fn is_linked(depth: Option<u128>) -> bool
+    ensures { result ≡ is_linked depth }
+{
+    match depth {
+        None => true,
+        Some(depth) => 1 <= depth && depth <= MOST_LINKED,
     }
 }
 

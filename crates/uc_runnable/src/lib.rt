@@ -7,7 +7,6 @@
 
 mod blocks;
 mod commands;
-mod control;
 mod declarations;
 mod fragment_types;
 mod numbers;

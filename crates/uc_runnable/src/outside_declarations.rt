@@ -5,7 +5,7 @@ ghost use Rattle.std.specs.Option.{option_or};
 ghost use Rattle.uc_meaning.specs.Lookup.{first_some};
 ghost use Rattle.uc_runnable.specs.Outside.{outside_declaration, outside_module, outside_in};
 
-use crate::commands::runs_once;
+use crate::commands::outside_commands;
 use crate::numbers::number_in;
 use crate::outside_statements::outside_block;
 use crate::outside_types::outside_type;
@@ -70,12 +70,6 @@ fn outside_declaration(declaration: &Decl) -> Option<Place>
         Decl::Axiom(_, _, formula) => number_in(formula),
         Decl::Hyperinvariant(place, _, _, _) => Some(*place),
         Decl::Hyperaxiom(place, _, _, _) => Some(*place),
-        Decl::Control(place, commands) => {
-            if runs_once(commands.as_slice()) {
-                None
-            } else {
-                Some(*place)
-            }
-        }
+        Decl::Control(_, commands) => outside_commands(commands.as_slice()),
     }
 }

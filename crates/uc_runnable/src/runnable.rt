@@ -120,7 +120,7 @@ fn over_cells(alloc: Global, tables: &Tables) -> Result<Flat, NotRunnable>
     ensures none { IfErr result (IsNoneFor tables.now) }
 {
     let system = tables.system();
-    if !is_only_plain(alloc, system.main, system.modules)? {
+    if !is_only_plain(system.main, system.modules) {
         return Err(not_built(alloc, tables));
     }
     match flat_design(alloc, tables) {
@@ -141,11 +141,11 @@ fn not_built(alloc: Global, tables: &Tables) -> NotRunnable
 }
 
 /// Whether there is one module, which is main and whose declarations are plain.
-fn is_only_plain(alloc: Global, main: u32, modules: &[Module]) -> Result<bool, AllocError>
-    ensures { IfOk result (λ b. Decides b (IsOnlyPlain main modules.now)) }
+fn is_only_plain(main: u32, modules: &[Module]) -> bool
+    ensures { Decides result (IsOnlyPlain main modules.now) }
 {
     if main != 0 || modules.len() != 1 {
-        return Ok(false);
+        return false;
     }
-    is_plain(alloc, &modules[0])
+    is_plain(&modules[0])
 }

@@ -23,11 +23,12 @@ use Rattle.uc_flat.proofs.Inside.{contains_at, part_within, within_whole, inside
 use Rattle.uc_flat.specs.declared.flat.Flat.{Flat}
 use Rattle.uc_flat.specs.declared.flat.Formula.{Formula}
 use Rattle.uc_flat.specs.Flats.{cell_types, wider_types, init_types}
+use Rattle.uc_flat_copies.specs.declared.trace.Start.TheVariants.{Initially, Anywhere}
 use Rattle.uc_symstep.specs.declared.state.Symbolic.{Symbolic}
 use Rattle.uc_symstep.specs.declared.state.SymState.{SymState}
 use Rattle.uc_symstep.specs.declared.branch.Open.{Open}
 use Rattle.uc_symstep.specs.Growing.{Grows}
-use Rattle.uc_symstep.specs.Known.{IsKnown, known, CodeReadsTyped, joined, draw_form, drawn_by, draw_types, constants_typed, step_types, supply_after, KnowsPlace, Knows, Extends, KnowsArms}
+use Rattle.uc_symstep.specs.Known.{IsKnown, known, CodeReadsTyped, joined, draw_form, drawn_by, draw_types, constants_typed, step_types, supply_from, KnowsPlace, Knows, Extends, KnowsArms}
 use Rattle.uc_symstep.proofs.Runs.{formula_is}
 
 got_front : {A : Type 0} (xs ys : List A) (k : ℕ) (x : A) → slice_get xs k ≡ Some x → slice_get (xs ++ ys) k ≡ Some x
@@ -440,9 +441,15 @@ step_of_known f types two step old new before cells own path next n i j k h supp
 
 pub init_known : (f : Flat) (new : List Node) (cells : List ℕ) (path next n : ℕ)
     → ((supply : List Ty) → All (ReadsTyped supply) f.further → CodeReadsTyped supply f.init → n ≡ length supply → KnowsPlace ((supply ++ cell_types f) ++ draw_types (init_types f) f.init) new cells path next)
-    → All (ReadsTyped (constants_typed f)) f.further → CodeReadsTyped (constants_typed f) f.init → n ≡ length f.constants → KnowsPlace (supply_after f 0) new cells path next
-unfolding supply_after
+    → All (ReadsTyped (constants_typed f)) f.further → CodeReadsTyped (constants_typed f) f.init → n ≡ length f.constants → KnowsPlace (supply_from f Initially 0) new cells path next
+unfolding supply_from
 init_known f new cells path next n h more reads l = h (constants_typed f) more reads (l ∙ sym (length-map f.constants (λ c. c.ty)))
+
+pub any_known : (f : Flat) (types : List Ty) (new : List Node) (cells : List ℕ) (path next n : ℕ) → types ≡ cell_types f
+    → ((supply : List Ty) → n ≡ length supply → KnowsPlace (supply ++ types) new cells path next) → n ≡ length f.constants → KnowsPlace (supply_from f Anywhere 0) new cells path next
+unfolding supply_from
+any_known f types new cells path next n i h l =
+    subst (λ ts. KnowsPlace (constants_typed f ++ ts) new cells path next) i (h (constants_typed f) (l ∙ sym (length-map f.constants (λ c. c.ty))))
 
 cells_known : (supply : List Ty) (nodes : List Node) (states : List SymState) → All (λ (s : SymState). All (IsKnown supply nodes) s.cells) states → All (IsKnown supply nodes) (flat_map (λ s. s.cells) states)
 cells_known supply nodes [] h = All-nil (IsKnown supply nodes)

@@ -25,10 +25,14 @@ use Rattle.uc_flat.specs.Reading.{type_of, value_of}
 use Rattle.uc_flat.specs.Drawn.{Drawn, drawn}
 use Rattle.uc_symstep.specs.declared.state.SymState.{SymState}
 use Rattle.uc_symstep.specs.Growing.{Grows, IsTerm, AreCells}
-use Rattle.uc_symstep.specs.Stands.{holds, IsTruth}
+use Rattle.uc_symstep.specs.Stands.{holds, choice_in, IsTruth, IsChoice}
 use Rattle.uc_flat.specs.declared.statement.Statement.{Statement}
-use Rattle.uc_flat.specs.Unrolled.{started, doubled, later, stepped, seen, initial, after_step, reached, formula_in, holds_in}
-use Rattle.uc_symstep.specs.Unrolled.{shows, IsSeen, StartsAs, StepsAs}
+use Rattle.uc_flat.specs.Unrolled.{started, doubled, later, stepped, seen, initial, after_step, free_values, formula_in, holds_in}
+use Rattle.uc_flat_copies.specs.declared.trace.Start.{Start}
+use Rattle.uc_flat_copies.specs.Places.{loose, begins_at, reached_from}
+use Rattle.uc_symstep.specs.declared.state.Choice.{Choice}
+use Rattle.uc_symstep.specs.declared.state.Symbolic.{Symbolic}
+use Rattle.uc_symstep.specs.Unrolled.{shows, Begins, IsSeen, StartsAs, StepsAs}
 use Rattle.uc_symstep.specs.Designs.{ShowsAt, AreStates, Unrolls, IsInitialWhereTaken, HasEachInitial, IsStepWhereTaken, HasEachStep}
 use Rattle.uc_flat.specs.Laws.{AgreeBelow}
 use Rattle.uc_flat.specs.Executions.{IsInitial, IsStep, IsAt}
@@ -37,7 +41,7 @@ use Rattle.uc_symstep.proofs.Grown.{grows_on, grows_value, grows_type, grows_val
 use Rattle.uc_symstep.specs.Known.{KnowsState}
 use Rattle.uc_symstep.proofs.Models.{agree_below, same_value, same_values}
 use Rattle.uc_symstep.proofs.Formulas.{Meaning}
-use Rattle.uc_symstep.proofs.States.{same_drawn, truth_grows, choices_grow, sites_grow, choices_keep, sites_keep}
+use Rattle.uc_symstep.proofs.States.{same_drawn, same_all, truth_grows, choices_grow, sites_grow, choices_keep, sites_keep}
 
 -- what is read of a list through a slice of it
 pub read_through : {A : Type 0} (xs ys : List A) (k : ℕ) (x : A) → xs ≡ ys → x ≡ get_or xs k x → x ≡ get_or ys k x
@@ -153,8 +157,8 @@ shows_grows old new types s n g h m =
     same_drawn _ _ _ _ _ _ _ _ _ _ n (grows_values old new g m s.cells h.cells.there) (ap truth_of (grows_value old new g m s.path h.path.there)) refl
     (choices_keep old new g m s.choices h.choices) (sites_keep old new g m s.sites h.sites)
 
-pub states_grow : (old new : List Node) (f : Flat) (first n : ℕ) (states : List SymState) → Grows old new → AreStates f first old n states → AreStates f first new n states
-states_grow old new f first n states g a = record {
+pub states_grow : (old new : List Node) (f : Flat) (start : Start) (first n : ℕ) (states : List SymState) → Grows old new → AreStates f start first old n states → AreStates f start first new n states
+states_grow old new f start first n states g a = record {
   count = a.count;
   each = λ k s h.
       let b = a.each k s h in
@@ -221,19 +225,37 @@ types_valid f types i s = subst AllValid (sym i) s.valid
 pub seen_in : (nodes : List Node) (f : Flat) (types : List Ty) (s : SymState) → types ≡ cell_types f → IsSeen nodes (cell_types f) s → IsSeen nodes types s
 seen_in nodes f types s i h = subst (λ ts. IsSeen nodes ts s) (sym i) h
 
-pub unrolls_first : (f : Flat) (first : ℕ) (old new : List Node) (s : SymState) (n : ℕ) (states : List SymState)
-    → StartsAs old new (cell_types f) (initial f first) s n → states ≡ s ∷ [] → Unrolls f first old new 0 states n
+-- any state: the cells of the state before all init code, without its choices
+pub any_state : (old new : List Node) (f : Flat) (types : List Ty) (n : ℕ) (first : Symbolic) (choices : List Choice) → types ≡ cell_types f → Begins old new types n first → choices ≡ []
+    → StartsAs old new (cell_types f) (loose f n) (record { cells = first.cells; path = first.path; sites = first.sites; choices = choices }) first.next
+any_state old new f types n first choices i b c = record {
+  grown = b.grown;
+  state = record {
+    cells = subst (λ ts. AreCells new ts first.cells) i b.state.cells;
+    path = b.state.path;
+    choices = subst (All (IsChoice new)) (sym c) (λ k d l. absurd (omega (arith, l)));
+    sites = b.state.sites;
+  };
+  same = λ m.
+      let q = b.same m in
+      same_all _ _ _ _ _ _ _ _ _ _ _ _
+      (ap (λ (d : Drawn). d.cells) q ∙ ap (λ ts. free_values m.symbols ts n) i) (ap (λ (d : Drawn). d.goes) q) refl (ap (flat_map (choice_in m new)) c) (ap (λ (d : Drawn). d.sites) q)
+      (ap (λ (d : Drawn). d.next) q ∙ ap (λ ts. n + length ts) i);
+}
+
+pub unrolls_first : (f : Flat) (start : Start) (first : ℕ) (old new : List Node) (s : SymState) (n : ℕ) (states : List SymState)
+    → StartsAs old new (cell_types f) (begins_at f start first) s n → states ≡ s ∷ [] → Unrolls f start first old new 0 states n
 unfolding seen
-unrolls_first f first old new s n states a j =
-    let here : (m : Model) → shows m new s n ≡ reached f first m 0 = λ m. a.same m in
-    let one = without_number f new (λ m. reached f first m 0) s n a.state here in
+unrolls_first f start first old new s n states a j =
+    let here : (m : Model) → shows m new s n ≡ reached_from f start first m 0 = λ m. a.same m in
+    let one = without_number f new (λ m. reached_from f start first m 0) s n a.state here in
     record {
       grown = a.grown;
       states = record {
         count = ap length j;
         each = λ k t h.
             let p = one_state s t k (ap (λ ss. slice_get ss k) (sym j) ∙ h) in
-            subst (λ q. ShowsAt f new (λ m. reached f first m q) t) (sym p.0) (subst (ShowsAt f new (λ m. reached f first m 0)) p.1 one);
+            subst (λ q. ShowsAt f new (λ m. reached_from f start first m q) t) (sym p.0) (subst (ShowsAt f new (λ m. reached_from f start first m 0)) p.1 one);
       };
       last = λ t h m. let p = one_state s t 0 (ap (λ ss. slice_get ss 0) (sym j) ∙ h) in ap (λ x. shows m new x n) (sym p.1) ∙ here m;
     }
@@ -245,18 +267,18 @@ last_get xs x n h = ap (slice_get (xs ++ x ∷ [])) (sym h) ∙ at_end xs x
     at_end [] y = refl
     at_end (z ∷ ys) y = at_end ys y
 
-pub unrolls_more : (f : Flat) (first : ℕ) (old now new : List Node) (turn number after : ℕ) (states more run : List SymState) (s t : SymState)
-    → Unrolls f first old now turn states number
+pub unrolls_more : (f : Flat) (start : Start) (first : ℕ) (old now new : List Node) (turn number after : ℕ) (states more run : List SymState) (s t : SymState)
+    → Unrolls f start first old now turn states number
     → run ≡ states → s ≡ get_or run turn s → StepsAs now new (cell_types f) (after_step f) s number t after → more ≡ states ++ t ∷ []
-    → Unrolls f first old new (turn + 1) more after
+    → Unrolls f start first old new (turn + 1) more after
 unfolding seen
-unrolls_more f first old now new turn number after states more run s t u q j a k =
+unrolls_more f start first old now new turn number after states more run s t u q j a k =
     let grown = grows_on old now new u.grown a.grown in
     let own : slice_get states turn ≡ Some s = slice_get-get_or states turn s (omega (arith, u.states.count)) ∙ ap Some (sym (j ∙ ap (λ ss. get_or ss turn s) q)) in
-    let here : (m : Model) → shows m new t after ≡ reached f first m (turn + 1) = λ m.
-    a.same m ∙ ap (after_step f m) (u.last s own m) ∙ ap (reached f first m) (sym (add-one turn)) in
-    let one = without_number f new (λ m. reached f first m (turn + 1)) t after a.state here in
-    let rest = states_grow now new f first turn states a.grown u.states in
+    let here : (m : Model) → shows m new t after ≡ reached_from f start first m (turn + 1) = λ m.
+    a.same m ∙ ap (after_step f m) (u.last s own m) ∙ ap (reached_from f start first m) (sym (add-one turn)) in
+    let one = without_number f new (λ m. reached_from f start first m (turn + 1)) t after a.state here in
+    let rest = states_grow now new f start first turn states a.grown u.states in
     record {
       grown = grown;
       states = record {
@@ -266,7 +288,7 @@ unrolls_more f first old now new turn number after states more run s t u q j a k
               | inl r ↦ rest.each p x r.1
               | inr r ↦
                   let at : p ≡ turn + 1 = omega (arith, r.0, u.states.count) in
-                  subst (λ y. ShowsAt f new (λ m. reached f first m y) x) (sym at) (subst (ShowsAt f new (λ m. reached f first m (turn + 1))) r.1 one)
+                  subst (λ y. ShowsAt f new (λ m. reached_from f start first m y) x) (sym at) (subst (ShowsAt f new (λ m. reached_from f start first m (turn + 1))) r.1 one)
             ];
       };
       last = λ x h m.
@@ -275,39 +297,43 @@ unrolls_more f first old now new turn number after states more run s t u q j a k
     }
 
 -- the last state, by its place
-pub last_state : (f : Flat) (first : ℕ) (old now : List Node) (n number : ℕ) (states run : List SymState) (s : SymState) → Unrolls f first old now n states number → run ≡ states → s ≡ get_or run n s → slice_get states n ≡ Some s
-last_state f first old now n number states run s u q j = slice_get-get_or states n s (omega (arith, u.states.count)) ∙ ap Some (sym (j ∙ ap (λ ss. get_or ss n s) q))
+pub last_state : (f : Flat) (start : Start) (first : ℕ) (old now : List Node) (n number : ℕ) (states run : List SymState) (s : SymState) → Unrolls f start first old now n states number → run ≡ states → s ≡ get_or run n s → slice_get states n ≡ Some s
+last_state f start first old now n number states run s u q j = slice_get-get_or states n s (omega (arith, u.states.count)) ∙ ap Some (sym (j ∙ ap (λ ss. get_or ss n s) q))
 
 pub both_there : (old a b : List Node) (path fails : ℕ) (v : Model → Value) → IsTruth old path → Grows old a → IsTerm a b fails Bool v → ((path < length b) × (fails < length b)) × ((type_at b path ≡ Bool) × (type_at b fails ≡ Bool))
 both_there old a b path fails v p g q =
     let h = truth_grows old b path (grows_on old a b g q.grown) p in
     ((h.there, q.there), (h.typed, q.typed))
 
-pub refuted_is : (old a b c new : List Node) (f : Flat) (x : Formula) (axioms truth fails broken all : ℕ) (s : SymState) (cells : List ℕ)
-    → IsTruth old axioms → IsSeen old (cell_types f) s → cells ≡ s.cells
+pub refuted_is : (old a b c d new : List Node) (f : Flat) (x : Formula) (axioms assumed truth fails unmet broken all : ℕ) (s : SymState) (cells : List ℕ)
+    → IsTruth old axioms → IsTruth old assumed → IsSeen old (cell_types f) s → cells ≡ s.cells
     → IsTerm old a truth Bool (λ m. formula_in f x m (map (value m old) cells))
     → IsTerm a b fails Bool (λ m. Boolean (not (truth_of (value m a truth))))
-    → IsTerm b c broken Bool (λ m. Boolean (truth_of (value m b s.path) && truth_of (value m b fails)))
-    → IsTerm c new all Bool (λ m. Boolean (truth_of (value m c axioms) && truth_of (value m c broken)))
-    → IsTerm old new all Bool (λ m. Boolean (holds m old axioms && (holds m old s.path && not (holds_in f x m (map (value m old) s.cells)))))
-refuted_is old a b c new f x axioms truth fails broken all s cells h g i p q r t =
+    → IsTerm b c unmet Bool (λ m. Boolean (truth_of (value m b assumed) && truth_of (value m b fails)))
+    → IsTerm c d broken Bool (λ m. Boolean (truth_of (value m c s.path) && truth_of (value m c unmet)))
+    → IsTerm d new all Bool (λ m. Boolean (truth_of (value m d axioms) && truth_of (value m d broken)))
+    → IsTerm old new all Bool (λ m. Boolean (holds m old axioms && (holds m old s.path && (holds m old assumed && not (holds_in f x m (map (value m old) s.cells))))))
+refuted_is old a b c d new f x axioms assumed truth fails unmet broken all s cells h z g i p q o r t =
     let ob = grows_on old a b p.grown q.grown in
-    let oc = grows_on old b c ob r.grown in
+    let oc = grows_on old b c ob o.grown in
+    let od = grows_on old c d oc r.grown in
     record {
-      grown = grows_on old c new oc t.grown;
+      grown = grows_on old d new od t.grown;
       there = t.there;
       typed = t.typed;
       means = λ m.
           t.means m
-          ∙ ap (λ v. Boolean (truth_of v && truth_of (value m c broken))) (grows_value old c oc m axioms h.there)
+          ∙ ap (λ v. Boolean (truth_of v && truth_of (value m d broken))) (grows_value old d od m axioms h.there)
           ∙ ap (λ v. Boolean (holds m old axioms && truth_of v)) (r.means m)
-          ∙ ap (λ v. Boolean (holds m old axioms && (truth_of v && truth_of (value m b fails)))) (grows_value old b ob m s.path g.path.there)
-          ∙ ap (λ v. Boolean (holds m old axioms && (holds m old s.path && truth_of v))) (q.means m)
-          ∙ ap (λ v. Boolean (holds m old axioms && (holds m old s.path && not (truth_of v)))) (p.means m ∙ ap (λ ts. formula_in f x m (map (value m old) ts)) i);
+          ∙ ap (λ v. Boolean (holds m old axioms && (truth_of v && truth_of (value m c unmet)))) (grows_value old c oc m s.path g.path.there)
+          ∙ ap (λ v. Boolean (holds m old axioms && (holds m old s.path && truth_of v))) (o.means m)
+          ∙ ap (λ v. Boolean (holds m old axioms && (holds m old s.path && (truth_of v && truth_of (value m b fails))))) (grows_value old b ob m assumed z.there)
+          ∙ ap (λ v. Boolean (holds m old axioms && (holds m old s.path && (holds m old assumed && truth_of v)))) (q.means m)
+          ∙ ap (λ v. Boolean (holds m old axioms && (holds m old s.path && (holds m old assumed && not (truth_of v))))) (p.means m ∙ ap (λ ts. formula_in f x m (map (value m old) ts)) i);
     }
 
-pub goal_ready : (a b : List Node) (f : Flat) (first n number : ℕ) (states run : List SymState) (s : SymState) → Unrolls f first a b n states number → run ≡ states → s ≡ get_or run n s → IsSeen b (cell_types f) s
-goal_ready a b f first n number states run s u q j = (u.states.each n s (last_state f first a b n number states run s u q j)).state
+pub goal_ready : (a b : List Node) (f : Flat) (start : Start) (first n number : ℕ) (states run : List SymState) (s : SymState) → Unrolls f start first a b n states number → run ≡ states → s ≡ get_or run n s → IsSeen b (cell_types f) s
+goal_ready a b f start first n number states run s u q j = (u.states.each n s (last_state f start first a b n number states run s u q j)).state
 
 pub formula_fine : (f : Flat) (types all : List Ty) (x : Formula) → IsFormula f x → types ≡ cell_types f → all ≡ repeated x.copies types → IsTyped all x.condition
 formula_fine f types all x h i j = subst (λ ts. IsTyped ts x.condition) (sym (j ∙ ap (repeated x.copies) i)) h.test.typed

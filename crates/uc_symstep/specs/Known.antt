@@ -15,6 +15,8 @@ use Rattle.uc_flat.specs.declared.flat.Flat.{Flat}
 use Rattle.uc_flat.specs.declared.flat.Formula.{Formula}
 use Rattle.uc_flat.specs.Fine.{IsInside, ReadsTyped}
 use Rattle.uc_flat.specs.Flats.{cell_types, init_types}
+use Rattle.uc_flat_copies.specs.declared.trace.Start.{Start}
+use Rattle.uc_flat_copies.specs.declared.trace.Start.TheVariants.{Initially, Anywhere}
 use Rattle.uc_symstep.specs.declared.state.Symbolic.{Symbolic}
 use Rattle.uc_symstep.specs.declared.state.SymState.{SymState}
 use Rattle.uc_symstep.specs.declared.branch.Open.{Open}
@@ -55,10 +57,15 @@ constants_typed f = map (λ c. c.ty) f.constants
 abbrev pub step_types : Flat → List Ty
 step_types f = draw_types (cell_types f ++ cell_types f) f.step
 
--- The types of the symbols of the state after n steps, by number: those of the constants, those of the cells of the state, what the init code draws, and n times what a step draws.
-unfoldable pub supply_after : Flat → ℕ → List Ty
-supply_after f zero = (constants_typed f ++ cell_types f) ++ draw_types (init_types f) f.init
-supply_after f (suc n) = supply_after f n ++ step_types f
+-- The types of the symbols of a state to begin with, by number: those of the constants, those of its cells, and those that the init code draws, if it is an initial state.
+abbrev pub supply_at : Flat → Start → List Ty
+supply_at f Initially = (constants_typed f ++ cell_types f) ++ draw_types (init_types f) f.init
+supply_at f Anywhere = constants_typed f ++ cell_types f
+
+-- the same of the state after n steps: behind them is n times what a step draws
+unfoldable pub supply_from : Flat → Start → ℕ → List Ty
+supply_from f start zero = supply_at f start
+supply_from f start (suc n) = supply_from f start n ++ step_types f
 
 -- every constant that the design reads is read at its own type
 pub record ReadsOwnTypes (f : Flat) : Type 0 where

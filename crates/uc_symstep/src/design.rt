@@ -9,14 +9,16 @@ ghost use Rattle.uc_flat.specs.declared.flat.Formula.{Formula as AFormula};
 ghost use Rattle.uc_flat.specs.Flats.{cell_types, init_types, repeated, IsSound, IsFormula};
 ghost use Rattle.uc_flat.specs.Unrolled.{initial, after_step, formula_in};
 ghost use Rattle.uc_flat.specs.Fine.{ReadsTyped};
+ghost use Rattle.uc_flat_copies.specs.declared.trace.Start.TheVariants.{Initially, Anywhere};
+ghost use Rattle.uc_flat_copies.specs.Places.{loose};
 ghost use Rattle.uc_symstep.specs.Growing.{Grows, IsTerm, AreCells};
 ghost use Rattle.uc_symstep.specs.Unrolled.{IsSeen, StartsAs, StepsAs};
 ghost use Rattle.uc_symstep.specs.Designs.{IsInitialWhereTaken, HasEachInitial, IsStepWhereTaken, HasEachStep};
-ghost use Rattle.uc_symstep.specs.Known.{IsKnown, CodeReadsTyped, draw_types, constants_typed, step_types, supply_after, KnowsState};
+ghost use Rattle.uc_symstep.specs.Known.{IsKnown, CodeReadsTyped, draw_types, constants_typed, step_types, supply_from, KnowsState};
 
 use crate::formula::sym_expression;
-use crate::state::{Fresh, SymState};
-use crate::unroll::{start, step_on};
+use crate::state::{Fresh, SymState, Symbolic};
+use crate::unroll::{begin, start, step_on};
 use std::alloc::{AllocError, Global};
 use uc_flat::{Flat, Formula, repeat_types, twice_types, types_of_cells};
 use uc_items::Items;
@@ -83,7 +85,7 @@ pub fn sym_init(
     ensures ok { IfOk result (λ s. StartsAs terms.old terms.new (cell_types f.now) (initial f.now fresh.old.next) s fresh.new.next) }
     ensures initial { IfOk result (λ s. IsInitialWhereTaken f.now terms.new s) }
     ensures each { IfOk result (λ s. HasEachInitial f.now fresh.old.next terms.new s) }
-    ensures known { IfOk result (λ s. All (ReadsTyped (constants_typed f.now)) f.now.further → CodeReadsTyped (constants_typed f.now) f.now.init → fresh.old.next ≡ length f.now.constants → KnowsState (supply_after f.now 0) terms.new s fresh.new.next) }
+    ensures known { IfOk result (λ s. All (ReadsTyped (constants_typed f.now)) f.now.further → CodeReadsTyped (constants_typed f.now) f.now.init → fresh.old.next ≡ length f.now.constants → KnowsState (supply_from f.now Initially 0) terms.new s fresh.new.next) }
     ensures grown { Grows terms.old terms.new }
     ensures err { OnErr result (fresh.new ≡ fresh.old) }
 {
@@ -91,6 +93,38 @@ pub fn sym_init(
     let (state, next) = start_of(terms, alloc, f, types.as_slice(), fresh.next)?;
     fresh.next = next;
     Ok(state)
+}
+
+/// Any state of a design: each cell is a new symbol, from `fresh` on.
+pub fn sym_any(
+    terms: &mut Terms,
+    alloc: Global,
+    f: &Flat,
+    fresh: &mut Fresh,
+) -> Result<SymState, AllocError>
+    requires sound { IsSound f.now }
+    ensures ok { IfOk result (λ s. StartsAs terms.old terms.new (cell_types f.now) (loose f.now fresh.old.next) s fresh.new.next) }
+    ensures known { IfOk result (λ s. fresh.old.next ≡ length f.now.constants → KnowsState (supply_from f.now Anywhere 0) terms.new s fresh.new.next) }
+    ensures grown { Grows terms.old terms.new }
+    ensures err { OnErr result (fresh.new ≡ fresh.old) }
+{
+    let types = types_of_cells(alloc, f)?;
+    let first = begin(terms, alloc, types.as_slice(), fresh.next)?;
+    let Symbolic {
+        cells,
+        path,
+        taken: _,
+        choices: _,
+        sites,
+        next,
+    } = first;
+    fresh.next = next;
+    Ok(SymState {
+        cells,
+        path,
+        sites,
+        choices: Items::new(alloc),
+    })
 }
 
 /// The state after a step of a design: each free value is a new symbol, from `fresh` on.

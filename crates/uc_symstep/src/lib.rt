@@ -12,6 +12,6 @@ mod unroll;
 
 pub use build::{both, literal, negated};
 pub use code::sym_code;
-pub use design::{sym_formula, sym_init, sym_step};
+pub use design::{sym_any, sym_formula, sym_init, sym_step};
 pub use formula::sym_expression;
 pub use state::{Choice, Fresh, Hit, SymState, Symbolic};

@@ -1,13 +1,19 @@
 -- How runs on files end.
 use Rattle.std.proofs.Common.{◌≡◌, ◌⊎◌, inl, inr, ℕ, zero, suc, ◌<◌, ◌≤◌, Bool, true, false, List, [], ◌∷◌, length, get_or, slice_get, Option, Some, refl, sym, ap, subst, ◌∙◌, arith}
-use Rattle.std.specs.Prelude.{if◌then◌else◌, ◌||◌, option_map}
-use Rattle.std.specs.List.{list_any, All}
+use Rattle.std.specs.Prelude.{if◌then◌else◌, ◌||◌, ◌&&◌, ◌++◌, nat_le, option_map, None}
+use Rattle.std.specs.List.{list_any, list_all, All}
+use Rattle.std.proofs.lemmas.Bool.Decides.{nat_tests}
 use Rattle.std.proofs.lemmas.Option.{slice_get_within, get_or_from_slice_get, slice_get-map}
 use Rattle.uc_io.specs.Faults.{Rose}
+use Rattle.uc_syntax.specs.declared.declaration.Command.{Command}
+use Rattle.uc_syntax.specs.declared.declaration.Command.TheVariants.{Run}
+use Rattle.uc_syntax.specs.declared.declaration.WrittenRun.TheVariants.{Induction}
+use Rattle.uc_values.proofs.Shapes.{and_true}
 use Rattle.uc_meaning.specs.declared.line.Line.{Line}
 use Rattle.uc_meaning.specs.declared.line.Trace.{Trace}
 use Rattle.uc_meaning.specs.Lookup.{System}
-use Rattle.uc_meaning.specs.Lines.{all_lines, Refutes}
+use Rattle.uc_meaning.specs.Lines.{main_declarations, commands_of, all_lines, Refutes}
+use Rattle.uc_laws.specs.Laws.{depth_of}
 use Rattle.uc_report.specs.declared.report.Report.{Report}
 use Rattle.uc_report.specs.declared.report.Verdict.{Verdict}
 use Rattle.uc_report.specs.declared.report.Verdict.TheVariants.{Passed, Failed, Undef}
@@ -15,7 +21,9 @@ use Rattle.uc_report.specs.declared.report.LineResult.{LineResult}
 use Rattle.uc_report.specs.Reports.{status, is_passed, is_failed, is_undecided}
 use Rattle.uc_report.specs.Verdicts.{IsRightVerdict}
 use Rattle.uc_judge.specs.Reports.{IsReport}
+use Rattle.uc_runnable.specs.Commands.{is_judged, runs}
 use Rattle.uc_runnable.specs.Runnable.{IsRunnable}
+use Rattle.uc_judge.proofs.Controls.{all_run}
 use Rattle.uc_front.specs.Denotes.{IsAccepted}
 use Rattle.uclid.specs.declared.answer.Session.{Session}
 use Rattle.uclid.specs.declared.answer.Answer.{Answer}
@@ -23,11 +31,11 @@ use Rattle.uclid.specs.declared.answer.Answer.TheVariants.{Usage, Refused, Repor
 use Rattle.uclid.specs.declared.top.Outcome.{Outcome}
 use Rattle.uclid.specs.Answers.{is_form, line_budget, IsFilesAnswer, IsAnswerFor, IsAnswer, status_of}
 use Rattle.uclid.specs.Runs.{TextsSeen, SinkSeen, IsWritten, EndsBy, EndsEarly, Ends}
-use Rattle.uclid_laws.specs.Laws.{AllPassed, AcceptedRuns, RefusedRuns, UnrollingsHold, CleanRun, FailedRun}
+use Rattle.uclid_laws.specs.Laws.{AllPassed, AcceptedRuns, RefusedRuns, UnrollingsHold, InductionsHold, CleanRun, FailedRun}
 use Rattle.uclid_laws.proofs.Designs.{one_design, never_both}
 use Rattle.uclid_laws.proofs.Refusals.{one_refusal}
 use Rattle.uclid_laws.proofs.Apart.{running_apart}
-use Rattle.uclid_laws.proofs.Passed.{passed_unroll}
+use Rattle.uclid_laws.proofs.Passed.{passed_induction, passed_unroll}
 
 -- ---- answers to files
 
@@ -139,11 +147,33 @@ unrollings_hold : (system : System) (budget : ℕ) (report : Report) → IsRunna
 unrollings_hold system budget report runs is e place name depth before after commands checked =
     passed_unroll system budget report place name depth before after (running_apart system runs) commands checked is (all_passed report (length before) e)
 
+-- the depth of an induction of a design that runs
+induction_deep : (depth : Option ℕ) → is_judged (Induction depth) ≡ true → 1 ≤ depth_of depth
+induction_deep None h = omega arith
+induction_deep (Some k) h = let low : nat_le 1 k ≡ true = (and_true h).0 in grind (arith, nat_tests)
+
+-- what all commands meet, one among them meets
+one_runs : (before after : List Command) (c : Command) → list_all runs (before ++ (c ∷ after)) ≡ true → runs c ≡ true
+one_runs [] after c h = (and_true h).0
+one_runs (b ∷ before) after c h = one_runs before after c (and_true h).1
+
+inductions_hold : (system : System) (budget : ℕ) (report : Report) → IsRunnable system → IsReport system budget report → status report ≡ 0 → InductionsHold system
+inductions_hold system budget report can is e place name depth before after commands checked =
+    let all : list_all runs (commands_of system) ≡ true = all_run system can (main_declarations system) (commands_of system) refl refl in
+    let own : is_judged (Induction depth) ≡ true = one_runs before after (Run place name (Induction depth)) (ap (list_all runs) (sym commands) ∙ all) in
+    passed_induction system budget report place name depth before after (running_apart system can) (induction_deep depth own) commands checked is (all_passed report (length before) e)
+
 pub clean_run : CleanRun
 clean_run files texts sink o told ends clean =
     let r = reports files texts sink o told ends (omega (arith, clean)) in
     let accepted = reported_accepted files texts.held r.session r.right in
-    (r.session.design, accepted, unrollings_hold r.session.design line_budget r.session.report accepted.2.runnable (reported_right files texts.held r.session r.right) (r.status ∙ clean))
+    let right = reported_right files texts.held r.session r.right in
+    let status_0 = r.status ∙ clean in (
+      r.session.design,
+      accepted,
+      unrollings_hold r.session.design line_budget r.session.report accepted.2.runnable right status_0,
+      inductions_hold r.session.design line_budget r.session.report accepted.2.runnable right status_0,
+    )
 
 -- ---- status 1
 

@@ -102,11 +102,17 @@ UnrollingsHold system =
     (place : Place) (name : Option Identifier) (depth : ℕ) (before after : List Command) →
     commands_of system ≡ before ++ (Run place name (Unroll depth) ∷ after) → list_any is_check after ≡ true → HoldsUpTo system depth
 
--- Where a run on texts that tell their bytes ends with status 0, these are accepted as a design, and all its unrollings hold.
+-- every induction of a design that a later `check` follows is right: everything holds in all runs, however long
+abbrev pub InductionsHold : System → Type 0
+InductionsHold system =
+    (place : Place) (name : Option Identifier) (depth : Option ℕ) (before after : List Command) →
+    commands_of system ≡ before ++ (Run place name (Induction depth) ∷ after) → list_any is_check after ≡ true → HoldsAlways system
+
+-- Where a run on texts that tell their bytes ends with status 0, these are accepted as a design, and all its unrollings and inductions hold.
 abbrev pub CleanRun : Type 0
 CleanRun =
     (files : List (List ℕ)) (texts : TextsSeen) (sink : SinkSeen) (o : Outcome) → texts.tells ≡ true → Ends texts files sink o → o.status ≡ 0 →
-    (system : System) × IsAccepted texts.held files system × UnrollingsHold system
+    (system : System) × IsAccepted texts.held files system × UnrollingsHold system × InductionsHold system
 
 -- Where such a run ends with status 1, the texts are accepted as a design, and a trace refutes one of its lines.
 abbrev pub FailedRun : Type 0

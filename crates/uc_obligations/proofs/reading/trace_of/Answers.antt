@@ -1,4 +1,4 @@
-use Rattle.std.proofs.Common.{ℕ, sym, subst}
+use Rattle.std.proofs.Common.{ℕ, [], ◌∷◌, ◌++◌, sym, ap, ◌∙◌, subst}
 use Rattle.std.specs.Prelude.{Err}
 use Rattle.std.proofs.lemmas.Result.{err_from_is_err_and}
 use Rattle.uc_linear.specs.declared.exact.Wide.{Wide}
@@ -16,8 +16,8 @@ returns-then-not-is_true-clause-told c =
 
 pub returns-clause-told : goal.returns-clause-told
 returns-clause-told c =
-    trace_is c.args.f.now c.args.terms.now c.args.goal _ c.args.states.now c.in-Some.constants _ _ _ _ _ c.args.model _ _ (subst (AreConstantsOf c.args.f.now c.args.model) c.in-Some.is c.in_ok-constants.ensures)
-    c.as_slice.ensures c.in_ok-model.ensures c.len.ensures.len c.in_ok-all.ensures c.as_slice-2.ensures c.in_ok-values.ensures.ok c.as_slice-all_values.ensures.value c.requires (sym c.if-not-is_true.ensures) c.in_ok-positions.ensures
+    trace_is c.args.f.now c.args.terms.now c.args.goal _ c.args.states.now c.in-Some.constants _ _ _ _ _ c.args.model _ _ _ (subst (AreConstantsOf c.args.f.now c.args.model) c.in-Some.is c.in_ok-constants.ensures)
+    c.as_slice.ensures c.in_ok-model.ensures c.len.ensures.len c.in_ok-all.ensures c.as_slice-2.ensures c.in_ok-values.ensures.ok c.as_slice-all_values.ensures.value c.requires (sym c.if-not-is_true.ensures) c.in_ok-positions.ensures (c.in_ok-push.ensures.ok ∙ ap (λ cs. cs ++ c.in_ok-positions.positions ∷ []) c.new-copies.ensures)
 
 pub returns-in_err-values-clause-wide : goal.returns-in_err-values-clause-wide
 returns-in_err-values-clause-wide c =

@@ -1,6 +1,6 @@
 use Rattle.std.proofs.Common.{◌≡◌, drop}
 use Rattle.std.specs.List.{list_all}
-use Rattle.uc_runnable.specs.Outside.{is_own_path}
+use Rattle.uc_runnable.specs.Commands.{is_own_path}
 use Rattle.uc_runnable.proofs.commands.all_own_paths.Given as goal
 
 abbrev pub invariant-loop-path : goal.invariant-loop-path

@@ -7,7 +7,7 @@ use Rattle.uc_runnable.proofs.runnable.over_cells.Goals as goal
 
 pub returns-in-Ok-clause-flat : goal.returns-in-Ok-clause-flat
 returns-in-Ok-clause-flat c =
-    let plain = c.in_ok-is_only_plain.ensures.0 c.if-not-branch.false in
+    let plain = c.is_only_plain.ensures.0 c.if-not-is_only_plain.false in
     made_runs c.args.tables.now c.flat_design.result c.in-Ok.flat (subst (λ (s : System). IsOnlyPlain s.main s.modules) c.system-system.ensures plain) c.in-Ok.is c.flat_design.ensures
 
 pub returns-in-Err-NotBuilt-clause-none : goal.returns-in-Err-NotBuilt-clause-none

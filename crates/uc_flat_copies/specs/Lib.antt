@@ -1,0 +1,4 @@
+pub mod Traces
+pub mod Places
+pub mod Laws
+pub mod Lines

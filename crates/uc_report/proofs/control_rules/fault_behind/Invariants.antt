@@ -1,0 +1,11 @@
+use Rattle.std.proofs.Common.{◌≡◌, ◌++◌, take}
+use Rattle.std.specs.List.{list_any, flat_map}
+use Rattle.uc_meaning.specs.Lines.{commands_in, is_check}
+use Rattle.uc_report.specs.Described.{described}
+use Rattle.uc_report.proofs.ControlForms.{IsWalked}
+use Rattle.uc_report.proofs.control_rules.fault_behind.Given as goal
+
+abbrev pub invariant-loop-place : goal.invariant-loop-place
+invariant-loop-place l =
+    IsWalked (described l.d) (flat_map commands_in l.others) l.commands l.place
+    × (l.checked ≡ list_any is_check (flat_map commands_in l.others ++ take l.place l.commands))
