@@ -188,15 +188,15 @@ pub transferred_start : (shared by : ℕ) (from begin : List Node) (listed : Lis
 transferred_start shared by from begin listed copies place w e = record { grown = Grows-none begin; well = w; within = omega (arith, e); few = omega (arith, e); each = λ j l h. absurd (omega (arith, e, l, h)) }
 
 -- the term before it has one too
-pub transferred_turn : (shared by : ℕ) (from begin now new : List Node) (listed : List ℕ) (copies after : ℕ → Option ℕ) (place term r : ℕ) → WellTyped new → Grows now new → length new ≤ length now + 1 → term ≡ slice_index listed place
+pub transferred_turn : (shared by : ℕ) (from begin now new : List Node) (listed : List ℕ) (copies after : ℕ → Option ℕ) (place term r : ℕ) → WellTyped new → Grows now new → length new ≤ length now + 1 → place < length listed → term ≡ get_or listed place term
     → IsCopy shared by new r from term → ((q : ℕ) → after q ≡ cond (nat_eq term q) (Some r) (copies q)) → Transferred shared by from begin now listed copies (place + 1) → Transferred shared by from begin new listed after place
-transferred_turn shared by from begin now new listed copies after place term r w g short at c u b = record {
+transferred_turn shared by from begin now new listed copies after place term r w g short l e c u b = record {
   grown = Grows-trans begin now new b.grown g;
   well = w;
   within = omega (arith, b.within);
   few = omega (arith, short, b.few);
-  each = λ j l h. elim (leb_tells (suc j) (place + 1)) [
-    | inl x ↦ let here : j ≡ place = omega (arith, x.1, l) in subst (IsCopied shared by new from after) (at ∙ ap (slice_index listed) (sym here)) own
+  each = λ j low h. elim (leb_tells (suc j) (place + 1)) [
+    | inl x ↦ let here : j ≡ place = omega (arith, x.1, low) in subst (IsCopied shared by new from after) (sym (place_of listed place term l (sym e)) ∙ ap (slice_index listed) (sym here)) own
     | inr x ↦ other (slice_index listed j) (b.each j (omega (arith, x.1)) h)
   ];
 }
@@ -215,12 +215,12 @@ transferred_turn shared by from begin now new listed copies after place term r w
         by_test false e = record { copy = d.copy; has = u q ∙ ap (λ t. cond t (Some r) (copies q)) e ∙ d.has; is = IsCopy-grows shared by from now new d.copy q b.well g d.is }
 
 -- what is listed is there
-pub listed_there : (from : List Node) (roots listed : List ℕ) (place term : ℕ) → WellTyped from → All (λ t. t < length from) roots → AreBelow from roots listed → place < length listed → term ≡ slice_index listed place → term < length from
+pub listed_there : (from : List Node) (roots listed : List ℕ) (place term : ℕ) → WellTyped from → All (λ t. t < length from) roots → AreBelow from roots listed → place < length listed → term ≡ get_or listed place term → term < length from
 listed_there from roots listed place term w h a l e = below_there from roots term w h (a.sound term (place, l, sym e))
 
 -- the parts of the term before the place have copies, as they stand behind it
 pub parts_transferred : (shared by : ℕ) (from begin now : List Node) (roots listed : List ℕ) (copies : ℕ → Option ℕ) (place term : ℕ) → WellTyped from → All (λ t. t < length from) roots → AreBelow from roots listed → place < length listed
-    → term ≡ slice_index listed place → Transferred shared by from begin now listed copies (place + 1) → All (IsCopied shared by now from copies) (parts_at from term)
+    → term ≡ get_or listed place term → Transferred shared by from begin now listed copies (place + 1) → All (IsCopied shared by now from copies) (parts_at from term)
 parts_transferred shared by from begin now roots listed copies place term w h a l e b k d i =
     let p = get_or (parts_at from term) k d in
     let c : Contains (parts_at from term) p = Contains-get_or (parts_at from term) k d i in
@@ -228,7 +228,8 @@ parts_transferred shared by from begin now roots listed copies place term w h a 
     let at : Contains listed p = a.complete p (record { root = own.root; listed = own.listed; below = deeper term p own.below c }) in
     let before : p < term = part_before from term p w (listed_there from roots listed place term w h a l e) c in
     let found : slice_index listed at.0 ≡ p = place_of listed at.0 p at.1 at.2 in
-    let behind = falls_behind listed place at.0 a.falls l at.1 (omega (arith, found, e, before)) in
+    let here : slice_index listed place ≡ term = place_of listed place term l (sym e) in
+    let behind = falls_behind listed place at.0 a.falls l at.1 (omega (arith, found, here, before)) in
     subst (IsCopied shared by now from copies) found (b.each at.0 (omega (arith, behind)) at.1)
 
 -- and so do the roots at the end
@@ -253,7 +254,7 @@ roots_answered shared by from begin now roots listed copies place (Ok rs) a z b 
 pub roots_few : {A E : Type 0} (shared by : ℕ) (from begin now : List Node) (roots listed : List ℕ) (copies : ℕ → Option ℕ) (place : ℕ) (o : Result A E) → WellTyped from → All (λ t. t < length from) roots → AreBelow from roots listed → place ≡ 0
     → Transferred shared by from begin now listed copies place → IfOk o (λ r. (n : ℕ) → All (λ t. t < n) roots → length now ≤ length begin + n)
 roots_few shared by from begin now roots listed copies place (Err e) w h a z b = tt
-roots_few shared by from begin now roots listed copies place (Ok r) w h a z b n u =
+roots_few shared by from begin now roots listed copies place (Ok r) w h a z b = λ n u.
     let few : length listed ≤ n = falls_few listed n a.falls (λ k c. below_under from roots k n w h u (a.sound k c)) in
     omega (arith, z, b.few, few)
 

@@ -37,36 +37,37 @@ one_listed x y c = elim (listed_cases x y [] c) [ inl e ↦ sym e | inr d ↦ ab
 
 inserted : (xs : List ℕ) (k n : ℕ) → Contains (insert_key nat_cmp xs k) n → Contains xs n ⊎ (n ≡ k)
 inserted [] k n c = inr (one_listed k n c)
-inserted (x ∷ xs) k n c = by_case (nat_cmp k x) (ranked k x (nat_cmp k x) refl) c
+inserted (x ∷ xs) k n c = by_case (inserted xs k n) (nat_cmp k x) (ranked k x (nat_cmp k x) refl) c
   where
-    by_case : (o : Ordering) → MatchOrdering o (k < x) (k ≡ x) (x < k) → Contains (match_ordering o (k ∷ x ∷ xs) (x ∷ xs) (x ∷ insert_key nat_cmp xs k)) n → Contains (x ∷ xs) n ⊎ (n ≡ k)
-    by_case Less h d = elim (listed_cases k n (x ∷ xs) d) [ inl e ↦ inr (sym e) | inr r ↦ inl r ]
-    by_case Equal h d = inl d
-    by_case Greater h d = elim (listed_cases x n (insert_key nat_cmp xs k) d) [
+    by_case : (Contains (insert_key nat_cmp xs k) n → Contains xs n ⊎ (n ≡ k)) → (o : Ordering) → MatchOrdering o (k < x) (k ≡ x) (x < k) → Contains (match_ordering o (k ∷ x ∷ xs) (x ∷ xs) (x ∷ insert_key nat_cmp xs k)) n
+        → Contains (x ∷ xs) n ⊎ (n ≡ k)
+    by_case rest Less h d = elim (listed_cases k n (x ∷ xs) d) [ inl e ↦ inr (sym e) | inr r ↦ inl r ]
+    by_case rest Equal h d = inl d
+    by_case rest Greater h d = elim (listed_cases x n (insert_key nat_cmp xs k) d) [
       | inl e ↦ inl (subst (Contains (x ∷ xs)) e (first_listed x xs))
-      | inr r ↦ elim (inserted xs k n r) [ inl y ↦ inl (later_listed x n xs y) | inr y ↦ inr y ]
+      | inr r ↦ elim (rest r) [ inl y ↦ inl (later_listed x n xs y) | inr y ↦ inr y ]
     ]
 
 stays_inserted : (xs : List ℕ) (k n : ℕ) → Contains xs n → Contains (insert_key nat_cmp xs k) n
 stays_inserted [] k n c = absurd (none_listed n c)
-stays_inserted (x ∷ xs) k n c = by_case (nat_cmp k x)
+stays_inserted (x ∷ xs) k n c = by_case (stays_inserted xs k n) (nat_cmp k x)
   where
-    by_case : (o : Ordering) → Contains (match_ordering o (k ∷ x ∷ xs) (x ∷ xs) (x ∷ insert_key nat_cmp xs k)) n
-    by_case Less = later_listed k n (x ∷ xs) c
-    by_case Equal = c
-    by_case Greater = elim (listed_cases x n xs c) [
+    by_case : (Contains xs n → Contains (insert_key nat_cmp xs k) n) → (o : Ordering) → Contains (match_ordering o (k ∷ x ∷ xs) (x ∷ xs) (x ∷ insert_key nat_cmp xs k)) n
+    by_case rest Less = later_listed k n (x ∷ xs) c
+    by_case rest Equal = c
+    by_case rest Greater = elim (listed_cases x n xs c) [
       | inl e ↦ subst (Contains (x ∷ insert_key nat_cmp xs k)) e (first_listed x (insert_key nat_cmp xs k))
-      | inr d ↦ later_listed x n (insert_key nat_cmp xs k) (stays_inserted xs k n d)
+      | inr d ↦ later_listed x n (insert_key nat_cmp xs k) (rest d)
     ]
 
 is_inserted : (xs : List ℕ) (k : ℕ) → Contains (insert_key nat_cmp xs k) k
 is_inserted [] k = first_listed k []
-is_inserted (x ∷ xs) k = by_case (nat_cmp k x) (ranked k x (nat_cmp k x) refl)
+is_inserted (x ∷ xs) k = by_case (is_inserted xs k) (nat_cmp k x) (ranked k x (nat_cmp k x) refl)
   where
-    by_case : (o : Ordering) → MatchOrdering o (k < x) (k ≡ x) (x < k) → Contains (match_ordering o (k ∷ x ∷ xs) (x ∷ xs) (x ∷ insert_key nat_cmp xs k)) k
-    by_case Less h = first_listed k (x ∷ xs)
-    by_case Equal h = subst (Contains (x ∷ xs)) (sym h) (first_listed x xs)
-    by_case Greater h = later_listed x k (insert_key nat_cmp xs k) (is_inserted xs k)
+    by_case : Contains (insert_key nat_cmp xs k) k → (o : Ordering) → MatchOrdering o (k < x) (k ≡ x) (x < k) → Contains (match_ordering o (k ∷ x ∷ xs) (x ∷ xs) (x ∷ insert_key nat_cmp xs k)) k
+    by_case rest Less h = first_listed k (x ∷ xs)
+    by_case rest Equal h = subst (Contains (x ∷ xs)) (sym h) (first_listed x xs)
+    by_case rest Greater h = later_listed x k (insert_key nat_cmp xs k) rest
 
 pub joins_one : (before now : List ℕ) (k : ℕ) → now ≡ insert_key nat_cmp before k → Joins before (k ∷ []) now
 joins_one before now k e = record {
@@ -133,7 +134,7 @@ unfolding above
 above_least [] n h = omega arith
 above_least (x ∷ xs) n h = omega (arith, h x (first_listed x xs), above_least xs n (λ k c. h k (later_listed x k xs c)))
 
-taken_listed : (old rest : List ℕ) (n : ℕ) → old ≡ rest ++ n ∷ [] → Contains old n
+pub taken_listed : (old rest : List ℕ) (n : ℕ) → old ≡ rest ++ n ∷ [] → Contains old n
 taken_listed old rest n e = subst (λ xs. Contains xs n) (sym e) (Contains-push rest n)
 
 pub above_falls : (old rest now parts : List ℕ) (n : ℕ) → old ≡ rest ++ n ∷ [] → All (λ k. k < n) rest → Joins rest parts now → All (λ k. k < n) parts → above now < above old
