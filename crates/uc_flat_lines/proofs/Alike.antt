@@ -32,7 +32,7 @@ use Rattle.uc_solver.specs.declared.answer.Answer.TheVariants.{Model as Found, R
 use Rattle.uc_solver.specs.declared.answer.SolveError.{SolveError}
 use Rattle.uc_solver.specs.declared.answer.SolveError.TheVariants.{NoMemory, Budget}
 use Rattle.uc_solver.specs.Answers.{IsRight, IsCause}
-use Rattle.uc_flat_lines.specs.Deciding.{IsSolution, IsSpentFor, solution_of, IsOpenedFor}
+use Rattle.uc_flat_lines.specs.Deciding.{IsSolution, IsSpentFor, solution_of, IsOpenedIn}
 
 data IsKind (op : Op) : Type 0 where
   symbol : (number : ℕ) (ty : Ty) → op ≡ Symbol number ty → IsKind op
@@ -145,7 +145,7 @@ spent_is nodes goal opened here budget before after (Err Budget) l h = h.rose
 spent_is nodes goal opened here budget before after (Err NoMemory) l h = l
 
 pub opened_is : (nodes : List Node) (goal : ℕ) (opened : Option Question) (here budget before after : ℕ) (r : Result Answer SolveError) → IfErr r (IsCause nodes goal opened here budget before after)
-    → IfErr (solution_of r) (IsOpenedFor nodes goal opened here budget)
+    → IfErr (solution_of r) (IsOpenedIn nodes goal opened here budget)
 opened_is nodes goal opened here budget before after (Ok (Found m)) h = tt
 opened_is nodes goal opened here budget before after (Ok (Refuted log)) h = tt
 opened_is nodes goal opened here budget before after (Err Budget) h = (h.stands, h.all)

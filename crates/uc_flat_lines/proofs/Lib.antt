@@ -3,3 +3,4 @@ pub mod Outcomes
 pub mod Judged
 pub mod Below
 pub mod Supplied
+pub mod Alone

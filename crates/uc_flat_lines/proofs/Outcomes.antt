@@ -1,16 +1,12 @@
 -- From what is found of a goal to what refutes a formula.
-use Rattle.std.proofs.Common.{◌≡◌, ℕ, ◌<◌, ◌≤◌, List, length, Option, Some, None, ap, ◌∙◌, slice_get}
+use Rattle.std.proofs.Common.{◌≡◌, ℕ, ◌≤◌, List, Option, Some, None, ◌∙◌, slice_get}
 use Rattle.std.specs.Prelude.{Result, Ok, Err, IfOk, IfErr}
-use Rattle.uc_values.specs.Values.{truth_of}
 use Rattle.uc_ops.specs.declared.model.Model.{Model}
 use Rattle.uc_ops.specs.declared.node.Node.{Node}
 use Rattle.uc_ops.specs.Typing.{AllValid}
 use Rattle.uc_flat.specs.declared.flat.Flat.{Flat}
 use Rattle.uc_flat.specs.declared.flat.Formula.{Formula}
-use Rattle.uc_symstep.specs.Growing.{Grows}
 use Rattle.uc_symstep.specs.Known.{IsKnown, supply_from}
-use Rattle.uc_symstep.proofs.Grown.{grows_value}
-use Rattle.uc_symstep.proofs.Known.{known_grows}
 use Rattle.uc_flat.specs.Traces.{constant_types}
 use Rattle.uc_flat_copies.specs.declared.trace.FlatCopies.{FlatCopies}
 use Rattle.uc_flat_copies.specs.declared.trace.Start.{Start}
@@ -18,7 +14,6 @@ use Rattle.uc_flat_copies.specs.Traces.{RefutesCopies}
 use Rattle.uc_flat_copies.specs.Lines.{line_over}
 use Rattle.uc_log.specs.Problems.{Question}
 use Rattle.uc_obligations.specs.Goals.{IsGoal, IsObligation, IsTold}
-use Rattle.uc_obligations.proofs.Goaled.{goal_grows}
 use Rattle.uc_flat_lines.specs.declared.line.FlatWhy.{FlatWhy}
 use Rattle.uc_flat_lines.specs.declared.line.FlatWhy.TheVariants.{Memory, Budget}
 use Rattle.uc_flat_lines.specs.Deciding.{IsSolution, IsOutcome, IsSpentFor, IsSpentOn, IsHonestFor, IsHonestAfter, IsOpenedFor, IsOpenedAfter, IsOpenedOn, verdict_of}
@@ -30,24 +25,23 @@ pub none_all : (f : Flat) (start : Start) (k n : ℕ) (nodes : List Node) (goal 
 none_all f start k n nodes goal o never x at t r = let m = (o x at).found t r in never m.0 m.1
 
 -- the trace that is built of a model refutes it
-pub one_all : (f : Flat) (start : Start) (k n : ℕ) (old new : List Node) (goal : ℕ) (t : FlatCopies) → Grows old new → goal < length old → ((x : Formula) → slice_get f.formulas k ≡ Some x → x.copies ≡ 1) → ((x : Formula) → slice_get f.formulas k ≡ Some x → IsGoal f start x n old goal)
-    → ((x : Formula) → x.copies ≡ 1 → IsGoal f start x n new goal → RefutesCopies f (line_over f start n x) t) → (x : Formula) → slice_get f.formulas k ≡ Some x → IsOutcome f start x n (Some t)
-one_all f start k n old new goal t grown l single g built x at = built x (single x at) (goal_grows f start x n old new goal grown l (g x at))
+pub one_all : (f : Flat) (start : Start) (k n : ℕ) (nodes : List Node) (goal : ℕ) (t : FlatCopies) → ((x : Formula) → slice_get f.formulas k ≡ Some x → x.copies ≡ 1) → ((x : Formula) → slice_get f.formulas k ≡ Some x → IsGoal f start x n nodes goal)
+    → ((x : Formula) → x.copies ≡ 1 → IsGoal f start x n nodes goal → RefutesCopies f (line_over f start n x) t) → (x : Formula) → slice_get f.formulas k ≡ Some x → IsOutcome f start x n (Some t)
+one_all f start k n nodes goal t single g built x at = built x (single x at) (g x at)
 
 pub honest_after : (f : Flat) (start : Start) (budget n : ℕ) (nodes : List Node) (goal : ℕ) (why : FlatWhy) → IsKnown (supply_from f start n) nodes goal → IsHonestFor budget nodes goal why → IsHonestAfter f start budget n why
 honest_after f start budget n nodes goal Budget k h = h (supply_from f start n) k
 honest_after f start budget n nodes goal Memory k h = tt
 
 -- the problem of a goal is that of its formula
-pub opened_after : (f : Flat) (start : Start) (k n : ℕ) (old new : List Node) (goal : ℕ) (opened : Option Question) (here budget : ℕ) (why : FlatWhy) → Grows old new → goal < length old
-    → ((x : Formula) → slice_get f.formulas k ≡ Some x → IsGoal f start x n old goal) → IsOpenedFor new goal opened here budget why → IsOpenedAfter f start k n new opened here budget why
-opened_after f start k n old new goal opened here budget Budget g l is h = (goal, (λ x at. goal_grows f start x n old new goal g l (is x at)), h.0, h.1)
-opened_after f start k n old new goal opened here budget Memory g l is h = tt
+pub opened_after : (f : Flat) (start : Start) (k n : ℕ) (nodes : List Node) (goal : ℕ) (opened : Option Question) (here budget : ℕ) (why : FlatWhy) → ((x : Formula) → slice_get f.formulas k ≡ Some x → IsGoal f start x n nodes goal)
+    → IsOpenedFor nodes goal opened here budget why → IsOpenedAfter f start k n opened here budget why
+opened_after f start k n nodes goal opened here budget Budget is h = (h.0.table, h.0.term, (λ x at m. h.0.same m ∙ is x at m), h.0.stands, h.1)
+opened_after f start k n nodes goal opened here budget Memory is h = tt
 
 -- a model of a known goal tells a trace
-pub never_untold : (f : Flat) (start : Start) (n : ℕ) (old new : List Node) (goal : ℕ) (m : Model) → Grows old new → goal < length old → IsSolution old goal (Some m) → IsKnown (supply_from f start n) old goal → AllValid (constant_types f)
-    → IsTold f start n new goal m None → ⊥
-never_untold f start n old new goal m g l s k valid t = t valid (known_grows (supply_from f start n) old new g goal k) (ap truth_of (grows_value old new g m goal l) ∙ s)
+pub never_untold : (f : Flat) (start : Start) (n : ℕ) (nodes : List Node) (goal : ℕ) (m : Model) → IsSolution nodes goal (Some m) → IsKnown (supply_from f start n) nodes goal → AllValid (constant_types f) → IsTold f start n nodes goal m None → ⊥
+never_untold f start n nodes goal m s k valid t = t valid k s
 
 -- from what is found of a formula to its verdict
 pub verdict_right : (f : Flat) (start : Start) (x : Formula) (n k : ℕ) (r : Result (Option FlatCopies) FlatWhy) → IfOk r (λ o. (y : Formula) → slice_get f.formulas k ≡ Some y → IsOutcome f start y n o) → slice_get f.formulas k ≡ Some x
@@ -67,8 +61,8 @@ verdict_honest f start budget n (Ok (Some t)) h = tt
 verdict_honest f start budget n (Err Budget) h = h
 verdict_honest f start budget n (Err Memory) h = tt
 
-pub verdict_opened : (f : Flat) (start : Start) (k n : ℕ) (nodes : List Node) (opened : Option Question) (here budget : ℕ) (r : Result (Option FlatCopies) FlatWhy) → IfErr r (IsOpenedAfter f start k n nodes opened here budget)
-    → IsOpenedOn f start k n nodes opened here budget (verdict_of r)
-verdict_opened f start k n nodes opened here budget (Ok None) h = tt
-verdict_opened f start k n nodes opened here budget (Ok (Some t)) h = tt
-verdict_opened f start k n nodes opened here budget (Err why) h = h
+pub verdict_opened : (f : Flat) (start : Start) (k n : ℕ) (opened : Option Question) (here budget : ℕ) (r : Result (Option FlatCopies) FlatWhy) → IfErr r (IsOpenedAfter f start k n opened here budget)
+    → IsOpenedOn f start k n opened here budget (verdict_of r)
+verdict_opened f start k n opened here budget (Ok None) h = tt
+verdict_opened f start k n opened here budget (Ok (Some t)) h = tt
+verdict_opened f start k n opened here budget (Err why) h = h

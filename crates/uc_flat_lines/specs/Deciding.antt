@@ -3,6 +3,7 @@ use Rattle.std.specs.Prelude.{◌≡◌, ℕ, ◌+◌, ◌<◌, ◌≤◌, ◌^�
 use Rattle.uc_values.specs.declared.ty.Ty.{Ty}
 use Rattle.uc_ops.specs.declared.model.Model.{Model}
 use Rattle.uc_ops.specs.declared.node.Node.{Node}
+use Rattle.uc_terms.specs.Laws.{SameUnderEveryModel}
 use Rattle.uc_flat.specs.declared.flat.Flat.{Flat}
 use Rattle.uc_flat.specs.declared.flat.Formula.{Formula}
 use Rattle.uc_symstep.specs.Stands.{holds}
@@ -59,19 +60,31 @@ IsHonestAfter f start budget n Budget = budget < 2 ^ free_bits f start n
 IsHonestAfter f start budget n Memory = Unit {0}
 
 -- A goal is undecided by its budget: the opened problem stands for it, and the budget was spent on that problem.
+abbrev pub IsOpenedIn : List Node → ℕ → Option Question → ℕ → ℕ → FlatWhy → Type 0
+IsOpenedIn nodes goal opened here budget Budget = OpenedStands nodes goal opened × (here ≡ budget)
+IsOpenedIn nodes goal opened here budget other = Unit {0}
+
+-- the problem stands for a term, of whatever table, that has the goal's value under every model
+pub record StandsElsewhere (nodes : List Node) (goal : ℕ) (opened : Option Question) : Type 0 where
+  pub table : List Node
+  pub term : ℕ
+  pub same : SameUnderEveryModel table term nodes goal
+  pub stands : OpenedStands table term opened
+
+-- So is a goal that was asked in a table of its own.
 abbrev pub IsOpenedFor : List Node → ℕ → Option Question → ℕ → ℕ → FlatWhy → Type 0
-IsOpenedFor nodes goal opened here budget Budget = OpenedStands nodes goal opened × (here ≡ budget)
+IsOpenedFor nodes goal opened here budget Budget = StandsElsewhere nodes goal opened × (here ≡ budget)
 IsOpenedFor nodes goal opened here budget other = Unit {0}
 
--- So is formula k after n steps: the problem stands for a term that is its goal.
-abbrev pub IsOpenedAfter : Flat → Start → ℕ → ℕ → List Node → Option Question → ℕ → ℕ → FlatWhy → Type 0
-IsOpenedAfter f start k n nodes opened here budget Budget =
-    (goal : ℕ) × ((x : Formula) → slice_get f.formulas k ≡ Some x → IsGoal f start x n nodes goal) × OpenedStands nodes goal opened × (here ≡ budget)
-IsOpenedAfter f start k n nodes opened here budget other = Unit {0}
+-- So is formula k after n steps: the problem stands for a term, of whatever table, that is its goal.
+abbrev pub IsOpenedAfter : Flat → Start → ℕ → ℕ → Option Question → ℕ → ℕ → FlatWhy → Type 0
+IsOpenedAfter f start k n opened here budget Budget =
+    (nodes : List Node) × (goal : ℕ) × ((x : Formula) → slice_get f.formulas k ≡ Some x → IsGoal f start x n nodes goal) × OpenedStands nodes goal opened × (here ≡ budget)
+IsOpenedAfter f start k n opened here budget other = Unit {0}
 
-abbrev pub IsOpenedOn : Flat → Start → ℕ → ℕ → List Node → Option Question → ℕ → ℕ → FlatVerdict → Type 0
-IsOpenedOn f start k n nodes opened here budget (Undef why) = IsOpenedAfter f start k n nodes opened here budget why
-IsOpenedOn f start k n nodes opened here budget other = Unit {0}
+abbrev pub IsOpenedOn : Flat → Start → ℕ → ℕ → Option Question → ℕ → ℕ → FlatVerdict → Type 0
+IsOpenedOn f start k n opened here budget (Undef why) = IsOpenedAfter f start k n opened here budget why
+IsOpenedOn f start k n opened here budget other = Unit {0}
 
 -- what an answer of the solver says of a goal: there is a model, there is none, or the same cause why neither is known
 abbrev pub solution_of : Result Answer SolveError → Result (Option Model) FlatWhy

@@ -21,7 +21,7 @@ use uc_obligations::{Unrolling, build, goal};
 use uc_terms::Terms;
 
 /// The verdict on formula `k`, which speaks of one copy, after so many steps. Where it is undecided by its budget, that was spent on the
-/// problem that is open at the meter, which stands for the formula's goal.
+/// problem that is open at the meter, which stands for the formula's goal in a table of its own.
 pub fn judge<M: Meter>(
     alloc: Global,
     terms: &mut Terms,
@@ -43,7 +43,7 @@ pub fn judge<M: Meter>(
     ensures right { (x : AFormula) → slice_get f.now.formulas k ≡ Some x → IsFlatVerdict f.now run.now.start x steps result }
     ensures spent { IsSpentOn budget (M.total meter.old) (M.total meter.new) result }
     ensures honest { IsHonestVerdict f.now run.now.start budget steps result }
-    ensures opened { IsOpenedOn f.now run.now.start k steps terms.new (M.opened meter.new) (M.here meter.new) budget result }
+    ensures opened { IsOpenedOn f.now run.now.start k steps (M.opened meter.new) (M.here meter.new) budget result }
     ensures few { M.total meter.new ≤ M.total meter.old + 2 ^ 32 }
     ensures within { M.total meter.new ≤ M.total meter.old + budget }
     ensures grown { Grows terms.old terms.new }
@@ -85,7 +85,7 @@ fn refutation<M: Meter>(
     ensures outcome { IfOk result (λ o. (x : AFormula) → slice_get f.now.formulas k ≡ Some x → IsOutcome f.now run.now.start x steps o) }
     ensures cause { IfErr result (IsSpentFor budget (M.total meter.old) (M.total meter.new)) }
     ensures honest { IfErr result (IsHonestAfter f.now run.now.start budget steps) }
-    ensures opened { IfErr result (IsOpenedAfter f.now run.now.start k steps terms.new (M.opened meter.new) (M.here meter.new) budget) }
+    ensures opened { IfErr result (IsOpenedAfter f.now run.now.start k steps (M.opened meter.new) (M.here meter.new) budget) }
     ensures later { M.total meter.old ≤ M.total meter.new }
     ensures few { M.total meter.new ≤ M.total meter.old + 2 ^ 32 }
     ensures within { M.total meter.new ≤ M.total meter.old + budget }

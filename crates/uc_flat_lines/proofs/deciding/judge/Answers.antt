@@ -17,5 +17,5 @@ returns-clause-honest g c = subst (IsHonestVerdict c.args.f.now c.args.run.now.s
     (verdict_honest c.args.f.now c.args.run.now.start c.args.budget c.args.steps c.refutation-outcome.result c.refutation-outcome.ensures.honest)
 
 pub returns-clause-opened : goal.returns-clause-opened
-returns-clause-opened g c = subst (IsOpenedOn c.args.f.now c.args.run.now.start c.args.k c.args.steps c.refutation-outcome.new.terms (g.M.Meter.opened c.refutation-outcome.new.meter) (g.M.Meter.here c.refutation-outcome.new.meter) c.args.budget) (sym c.verdict_of.ensures)
-    (verdict_opened c.args.f.now c.args.run.now.start c.args.k c.args.steps _ _ _ c.args.budget c.refutation-outcome.result c.refutation-outcome.ensures.opened)
+returns-clause-opened g c = subst (IsOpenedOn c.args.f.now c.args.run.now.start c.args.k c.args.steps (g.M.Meter.opened c.refutation-outcome.new.meter) (g.M.Meter.here c.refutation-outcome.new.meter) c.args.budget) (sym c.verdict_of.ensures)
+    (verdict_opened c.args.f.now c.args.run.now.start c.args.k c.args.steps _ _ c.args.budget c.refutation-outcome.result c.refutation-outcome.ensures.opened)

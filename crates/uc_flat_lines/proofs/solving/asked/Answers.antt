@@ -1,6 +1,6 @@
 use Rattle.std.proofs.Common.{subst, sym}
 use Rattle.std.specs.Prelude.{IfOk, IfErr}
-use Rattle.uc_flat_lines.specs.Deciding.{IsSolution, IsSpentFor, IsHonestFor, IsOpenedFor}
+use Rattle.uc_flat_lines.specs.Deciding.{IsSolution, IsSpentFor, IsHonestFor, IsOpenedIn}
 use Rattle.uc_flat_lines.proofs.Alike.{solution_is, spent_is, opened_is}
 use Rattle.uc_flat_lines.proofs.Supplied.{honest_is}
 use Rattle.uc_flat_lines.proofs.solving.asked.Goals as goal
@@ -19,5 +19,5 @@ returns-clause-honest g c = subst (λ r. IfErr r (IsHonestFor c.args.budget c.ar
     (honest_is _ c.args.goal c.args.budget c.solve-answer.result c.len-shared.ensures.well c.len-shared.ensures.shared c.requires.there c.solve-answer.ensures.enough)
 
 pub returns-clause-opened : goal.returns-clause-opened
-returns-clause-opened g c = subst (λ r. IfErr r (IsOpenedFor c.solve-answer.new.terms c.args.goal (g.M.Meter.opened c.solve-answer.new.meter) (g.M.Meter.here c.solve-answer.new.meter) c.args.budget)) (sym c.solution_of.ensures)
+returns-clause-opened g c = subst (λ r. IfErr r (IsOpenedIn c.solve-answer.new.terms c.args.goal (g.M.Meter.opened c.solve-answer.new.meter) (g.M.Meter.here c.solve-answer.new.meter) c.args.budget)) (sym c.solution_of.ensures)
     (opened_is _ c.args.goal _ _ c.args.budget _ _ c.solve-answer.result c.solve-answer.ensures.cause)

@@ -1,5 +1,5 @@
 use Rattle.uc_obligations.proofs.KnownTerms.{known_even}
-use Rattle.uc_flat_lines.proofs.solving.solution.Goals as goal
+use Rattle.uc_flat_lines.proofs.solving.decided.Goals as goal
 
 pub asked-requires-clause-even : goal.asked-requires-clause-even
 asked-requires-clause-even g c =

@@ -1,0 +1,20 @@
+-- The terms at and below some terms, and the numbers that wait while these are listed.
+use Rattle.std.specs.Prelude.{◌≡◌, ◌⊎◌, ℕ, ◌<◌, List, length, slice_index, Contains}
+use Rattle.uc_ops.specs.declared.node.Node.{Node}
+use Rattle.uc_terms.specs.Subterms.{IsBelow}
+
+-- the numbers fall
+abbrev pub Falls : List ℕ → Type 0
+Falls numbers = (i j : ℕ) → i < j → j < length numbers → slice_index numbers j < slice_index numbers i
+
+-- the numbers are those of the terms at and below the roots, and fall: so each stands once, and before those of its parts
+pub record AreBelow (nodes : List Node) (roots numbers : List ℕ) : Type 0 where
+  pub sound : (k : ℕ) → Contains numbers k → IsBelow nodes roots k
+  pub complete : (k : ℕ) → IsBelow nodes roots k → Contains numbers k
+  pub falls : Falls numbers
+
+-- what was among the numbers is, and so are these, and nothing else
+pub record Joins (before more now : List ℕ) : Type 0 where
+  pub kept : (n : ℕ) → Contains before n → Contains now n
+  pub added : (n : ℕ) → Contains more n → Contains now n
+  pub only : (n : ℕ) → Contains now n → Contains before n ⊎ Contains more n
