@@ -42,5 +42,4 @@ returns-clause-copies c =
 pub returns-clause-few : goal.returns-clause-few
 returns-clause-few c =
     let below = subst (AreBelow c.args.from.now c.args.roots.now) (sym c.as_slice-terms.ensures) c.in_ok-listed.ensures in
-    roots_few c.args.shared c.args.by c.args.from.now c.args.into.now c.walk.into c.args.roots.now c.as_slice-terms.result.now (get nat_eq c.walk.copies) c.walk.place c.copies_of.result c.len-count.ensures.well
-    c.requires.there below (omega (arith, c.walk-test.false)) c.walk.invariant
+    roots_few c.args.shared c.args.by c.args.from.now c.args.into.now c.walk.into c.args.roots.now c.as_slice-terms.result.now (get nat_eq c.walk.copies) c.walk.place c.copies_of.result below (omega (arith, c.walk-test.false)) c.walk.invariant
