@@ -12,16 +12,16 @@ use Rattle.uc_ops.specs.Meaning.{apply}
 use Rattle.uc_terms.specs.Tables.{WellTyped, Makes, Adds, Holds, node_of, parts_at}
 use Rattle.uc_terms.specs.Values.{value, values_at}
 use Rattle.uc_terms.specs.Laws.{SameUnderEveryModel}
-use Rattle.uc_terms.specs.Subterms.{IsBelow, itself, deeper}
+use Rattle.uc_terms.specs.Subterms.{itself, deeper}
 use Rattle.uc_terms.proofs.Grown.{type-keeps, type-node, parts-node}
 use Rattle.uc_terms.proofs.Sharing.{made-within, made-type}
 use Rattle.uc_terms.proofs.Values.{value-keeps, value-node}
 use Rattle.uc_simplify_steps.specs.Features.{Feature, symbol, function, integer, array, difference, Shows, Brings, OneBrings, BringsNoMore}
 use Rattle.uc_simplify_steps.proofs.Features.{part_before, brings-keeps, brings-below, brings-made}
-use Rattle.uc_compose.specs.Below.{AreBelow}
+use Rattle.uc_compose.specs.Below.{AreBelow, AddsNoMore}
 use Rattle.uc_compose.specs.Copies.{Grows, IsCopy, ComesFrom, AreCopies, none, one, IsCopied, moved, moved_op, moved_feature, read_by}
 use Rattle.uc_compose.proofs.Moved.{moved_apply, moved_type, moved_suits, moved_shows}
-use Rattle.uc_compose.proofs.Listing.{below_there, below_under, falls_few, falls_behind}
+use Rattle.uc_compose.proofs.Listing.{below_there, falls_behind}
 
 pub Grows-none : (nodes : List Node) → Grows nodes nodes
 Grows-none nodes = record { more = []; is = sym (append-nil nodes) }
@@ -250,13 +250,11 @@ pub roots_answered : {E : Type 0} (shared by : ℕ) (from begin now : List Node)
 roots_answered shared by from begin now roots listed copies place (Err e) a z b h = tt
 roots_answered shared by from begin now roots listed copies place (Ok rs) a z b h = all_copied shared by now from copies rs roots (roots_transferred shared by from begin now roots listed copies place a z b) h
 
--- there are at most as many terms more as the roots reach
-pub roots_few : {A E : Type 0} (shared by : ℕ) (from begin now : List Node) (roots listed : List ℕ) (copies : ℕ → Option ℕ) (place : ℕ) (o : Result A E) → WellTyped from → All (λ t. t < length from) roots → AreBelow from roots listed → place ≡ 0
-    → Transferred shared by from begin now listed copies place → IfOk o (λ r. (n : ℕ) → All (λ t. t < n) roots → length now ≤ length begin + n)
-roots_few shared by from begin now roots listed copies place (Err e) w h a z b = tt
-roots_few shared by from begin now roots listed copies place (Ok r) w h a z b = λ n u.
-    let few : length listed ≤ n = falls_few listed n a.falls (λ k c. below_under from roots k n w h u (a.sound k c)) in
-    omega (arith, z, b.few, few)
+-- there is at most one term more for each that is listed
+pub roots_few : {A E : Type 0} (shared by : ℕ) (from begin now : List Node) (roots listed : List ℕ) (copies : ℕ → Option ℕ) (place : ℕ) (o : Result A E) → AreBelow from roots listed → place ≡ 0
+    → Transferred shared by from begin now listed copies place → IfOk o (λ r. AddsNoMore from roots begin now)
+roots_few shared by from begin now roots listed copies place (Err e) a z b = tt
+roots_few shared by from begin now roots listed copies place (Ok r) a z b = record { terms = listed; below = a; few = omega (arith, z, b.few) }
 
 one_copy : (shared by : ℕ) (new old : List Node) (rs : List ℕ) (t : ℕ) → AreCopies shared by new old rs (t ∷ []) → (r : ℕ) × (rs ≡ r ∷ []) × IsCopy shared by new r old t
 one_copy shared by new old _ t (one r _ _ _ c none) = (r, refl, c)
@@ -308,7 +306,3 @@ first_slice new old rs own t r a i h =
     let x = one_copy 0 0 new old rs t a in
     let same : r ≡ x.0 = h ∙ ap (λ xs. get_or xs 0 r) (i ∙ x.1) in
     subst (λ k. IsSlice new k old t) (sym same) (slice_of new old x.0 t x.2)
-
--- a table that began without terms has as many as were added
-pub from_nothing : (begin new : List Node) (t : ℕ) → begin ≡ [] → ((n : ℕ) → All (λ k. k < n) (t ∷ []) → length new ≤ length begin + n) → length new ≤ t + 1
-from_nothing begin new t e h = omega (arith, ap length e, h (t + 1) (All-cons (λ k. k < t + 1) t [] (omega arith) (All-nil (λ k. k < t + 1))))

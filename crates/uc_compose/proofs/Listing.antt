@@ -1,5 +1,5 @@
 -- How the terms at and below some terms are listed.
-use Rattle.std.specs.Prelude.{◌≡◌, ◌⊎◌, ℕ, ◌+◌, ◌<◌, ◌≤◌, max, Bool, true, false, Option, Some, None, MatchOption, IsSome, IfSome, ◌↔◌, List, [], ◌∷◌, ◌++◌, take, length, slice_index, All, Contains, zero, suc}
+use Rattle.std.specs.Prelude.{◌≡◌, ◌⊎◌, ℕ, ◌+◌, ◌<◌, ◌≤◌, max, true, false, Option, Some, None, MatchOption, IsSome, IfSome, ◌↔◌, List, [], ◌∷◌, ◌++◌, take, length, slice_index, All, Contains, zero, suc}
 use Rattle.std.proofs.Common.{refl, sym, ap, ◌∙◌, arith, subst, inl, inr, length-append, get_or}
 use Rattle.std.specs.declared.cmp.Ordering.{Ordering}
 use Rattle.std.specs.declared.cmp.Ordering.TheVariants.{Less, Equal, Greater}
@@ -161,17 +161,6 @@ falls_push xs n f h i j l b =
           omega (arith, first, second, h (slice_index xs i) (Contains-get_or xs i 0 (omega (arith, l, last))))
     ]
 
-falls_by : (xs : List ℕ) → Falls xs → (i : ℕ) → i < length xs → slice_index xs i + i ≤ slice_index xs 0
-falls_by xs f zero l = omega arith
-falls_by xs f (suc i) l = omega (arith, falls_by xs f i (omega (arith, l)), f i (suc i) (omega arith) l)
-
--- falling numbers below a bound are no more than the bound
-pub falls_few : (xs : List ℕ) (n : ℕ) → Falls xs → ((k : ℕ) → Contains xs k → k < n) → length xs ≤ n
-falls_few [] n f h = omega arith
-falls_few (x ∷ xs) n f h =
-    let last : length xs < length (x ∷ xs) = omega arith in
-    omega (arith, falls_by (x ∷ xs) f (length xs) last, h x (first_listed x xs))
-
 -- of two numbers of the list, the smaller one stands behind
 pub falls_behind : (xs : List ℕ) (i j : ℕ) → Falls xs → i < length xs → j < length xs → slice_index xs j < slice_index xs i → i < j
 falls_behind xs i j f li lj h = elim (leb_tells (suc i) j) [
@@ -189,12 +178,6 @@ pub below_there : (nodes : List Node) (roots : List ℕ) (k : ℕ) → WellTyped
 below_there nodes roots k w h b =
     let root = All-contains (λ t. t < length nodes) roots b.root h b.listed in
     omega (arith, root, sub-below nodes b.root w root k b.below)
-
--- and no number is greater than that of its root
-pub below_under : (nodes : List Node) (roots : List ℕ) (k n : ℕ) → WellTyped nodes → All (λ t. t < length nodes) roots → All (λ t. t < n) roots → IsBelow nodes roots k → k < n
-below_under nodes roots k n w h u b =
-    let root = All-contains (λ t. t < length nodes) roots b.root h b.listed in
-    omega (arith, All-contains (λ t. t < n) roots b.root u b.listed, sub-below nodes b.root w root k b.below)
 
 -- What is listed and what waits is at or below the roots. The parts of what is listed are listed or wait, and what waits is smaller.
 pub record Walking (nodes : List Node) (roots listed waiting : List ℕ) : Type 0 where

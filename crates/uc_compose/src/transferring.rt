@@ -1,11 +1,12 @@
 //! Terms of one table in another.
 
-ghost use Rattle.std.specs.Prelude.{◌≡◌, ℕ, ◌+◌, ◌<◌, ◌≤◌, [], nat_eq, length, map, IfOk, IsSome, All, Some};
+ghost use Rattle.std.specs.Prelude.{◌≡◌, ◌+◌, ◌<◌, ◌≤◌, [], ◌∷◌, nat_eq, length, map, IfOk, IsSome, All, Some};
 ghost use Rattle.indexmap.specs.IndexMap.{get};
 ghost use Rattle.uc_ops.specs.Typing.{type_at};
 ghost use Rattle.uc_terms.specs.Tables.{WellTyped, parts_at};
 ghost use Rattle.uc_terms.specs.Laws.{SameUnderEveryModel};
 ghost use Rattle.uc_simplify_steps.specs.Features.{BringsNoMore};
+ghost use Rattle.uc_compose.specs.Below.{AddsNoMore};
 ghost use Rattle.uc_compose.specs.Copies.{Grows, IsCopy, AreCopies, IsCopied};
 
 use crate::below::below;
@@ -27,7 +28,7 @@ pub fn transfer(
 ) -> Result<Items<TermId>, AllocError>
     requires there { All (λ t. t < length from.now) roots.now }
     ensures copies { IfOk result (λ rs. AreCopies shared by into.new from.now rs roots.now) }
-    ensures few { IfOk result (λ _. (n : ℕ) → All (λ t. t < n) roots.now → length into.new ≤ length into.old + n) }
+    ensures few { IfOk result (λ _. AddsNoMore from.now roots.now into.old into.new) }
     ensures grown { Grows into.old into.new }
 {
     let _count = from.len();
@@ -108,7 +109,7 @@ pub fn slice(alloc: Global, terms: &Terms, t: TermId, own: &mut Terms) -> Result
     ensures same { IfOk result (λ r. SameUnderEveryModel own.new r terms.now t) }
     ensures ty { IfOk result (λ r. type_at own.new r ≡ type_at terms.now t) }
     ensures features { IfOk result (λ r. BringsNoMore own.new r terms.now t) }
-    ensures few { IfOk result (λ _. length own.new ≤ t + 1) }
+    ensures few { IfOk result (λ _. AddsNoMore terms.now (t ∷ []) own.old own.new) }
 {
     let copies = transfer(alloc, terms, own, &[t], 0, 0)?;
     let all = copies.as_slice();

@@ -1,4 +1,4 @@
-use Rattle.std.proofs.Common.{◌≡◌, ◌∙◌, ◌∷◌, [], ◌++◌, ◌<◌, length, ap, sym, subst, inr, All}
+use Rattle.std.proofs.Common.{◌∙◌, ◌∷◌, [], ◌++◌, ◌<◌, length, ap, sym, subst, inr, All}
 use Rattle.uc_terms.specs.Tables.{parts_at}
 use Rattle.uc_compose.proofs.Listing.{walking_start, walking_turn, walking_end, above_falls, below_there, taken_listed}
 use Rattle.uc_compose.proofs.below.below.Goals as goal
