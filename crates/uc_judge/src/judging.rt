@@ -94,7 +94,15 @@ fn judge_run<M: Meter>(
 {
     match run {
         WrittenRun::Unroll(depth) => {
-            judge_runs(alloc, d, number, Moment::Unrolled, depth as u32, budget, meter)
+            judge_runs(
+                alloc,
+                d,
+                number,
+                Moment::Unrolled,
+                depth as u32,
+                budget,
+                meter,
+            )
         }
         WrittenRun::Induction(None) => judge_induction(alloc, d, number, 1, budget, meter),
         WrittenRun::Induction(Some(depth)) => {
