@@ -1,4 +1,4 @@
-use Rattle.std.proofs.Common.{◌≡◌, ◌+◌, ◌++◌, ◌∷◌, [], length, take, arith, ap, sym, subst, ◌∙◌}
+use Rattle.std.proofs.Common.{◌≡◌, ◌<◌, ◌+◌, ◌++◌, ◌∷◌, [], length, take, arith, ap, sym, subst, ◌∙◌}
 use Rattle.uc_judge.specs.Judged.{lines_in, AreCounts, AreJudged}
 use Rattle.uc_judge.proofs.Controls.{run_there}
 use Rattle.uc_judge.proofs.Listed.{counts_begin, counts_more, counts_end}
@@ -17,7 +17,7 @@ judge_command-requires-clause-runs g c =
 
 pub loop-number-preserved : goal.loop-number-preserved
 loop-number-preserved g c =
-    let within = omega (arith, c.loop-number-test.true, c.requires.within) in
+    let within : c.loop-number.number < length c.args.commands.now = omega (arith, c.loop-number-test.true, c.requires.within) in
     let judged = commands_more c.args.d.now c.args.budget _ _ _ c.args.commands.now c.loop-number.number c.in_ok-own.own c.index-commands-number.result _ _ _ c.loop-number.invariant.0 c.in_ok-more.ensures.judged c.in_ok-append.ensures
     c.in_ok-own.ensures within c.index-commands-number.is in
     (judged, counts_more c.args.d.now c.args.commands.now c.loop-number.number _ _ _ c.loop-number.invariant.1 (counted c.args.d.now c.args.budget _ _ _ _ _ judged (c.in_ok-passed.ensures ∙ c.len-standing.ensures)) c.in_ok-push-2.ensures.ok)
