@@ -10,8 +10,8 @@ linked_by-linked-requires g c = is_linked_run c.args.run _ c.in-Induction.is c.r
 pub unreachable-requires : goal.unreachable-requires
 unreachable-requires g c = not_verified c.args.run _ c.in-Verify.is c.requires.judged
 
-pub returns-in-Unroll-clause-judged : goal.returns-in-Unroll-clause-judged
-returns-in-Unroll-clause-judged g c = unroll_told c.args.d.now c.args.number c.args.budget _ _ _ _ c.args.run _ c.in-Unroll.is c.steps_of-steps.ensures c.in_ok-lines.ensures.judged
+pub returns-in_ok-lines-in-Unroll-clause-judged : goal.returns-in_ok-lines-in-Unroll-clause-judged
+returns-in_ok-lines-in-Unroll-clause-judged g c = unroll_told c.args.d.now c.args.number c.args.budget _ _ _ _ c.args.run _ c.in-Unroll.is c.steps_of-steps.ensures c.in_ok-lines-in-Unroll.ensures.judged
 
-pub returns-in-Induction-clause-judged : goal.returns-in-Induction-clause-judged
-returns-in-Induction-clause-judged g c = induction_told c.args.d.now c.args.number c.args.budget _ _ _ _ c.args.run _ c.in-Induction.is c.linked_by-linked.ensures.linked c.in_ok-lines-2.ensures.judged
+pub returns-in_ok-lines-in-Induction-clause-judged : goal.returns-in_ok-lines-in-Induction-clause-judged
+returns-in_ok-lines-in-Induction-clause-judged g c = induction_told c.args.d.now c.args.number c.args.budget _ _ _ _ c.args.run _ c.in-Induction.is c.linked_by-linked.ensures.linked c.in_ok-lines-in-Induction.ensures.judged
