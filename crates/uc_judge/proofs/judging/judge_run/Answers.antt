@@ -9,5 +9,3 @@ linked_by-linked-requires g c = is_linked_run c.args.run _ c.in-Induction.is c.r
 
 pub unreachable-requires : goal.unreachable-requires
 unreachable-requires g c = not_verified c.args.run _ c.in-Verify.is c.requires.judged
-
-
