@@ -12,7 +12,7 @@ use Rattle.uc_lexer.specs.Text.{Tokens, FirstFault, IsLexError}
 use Rattle.uc_front.specs.declared.error.FrontError.{FrontError}
 use Rattle.uc_front.specs.declared.error.FrontError.TheVariants.{NoMemory, ReadFault, Refused}
 use Rattle.uc_front.specs.declared.lexing.Source.{Source}
-use Rattle.uc_front.specs.declared.refusal.Refusal.TheVariants.{NoFile, TooLong, BadByte, BadNumber, OpenComment, Syntax, TooDeep, TooManyNames, NoMain, BreaksRule, NotBuilt}
+use Rattle.uc_front.specs.declared.refusal.Refusal.TheVariants.{NoFile, TooLong, BadByte, BadNumber, OpenComment, Syntax, TooDeep, TooManyNames, NoMain, BreaksRule, BreaksControl, NotBuilt}
 use Rattle.uc_front.specs.Sources.{AreTexts, AreLexed, texts_of}
 use Rattle.uc_front.specs.Refused.{IsUnread, IsFirstFault, IsUnlexed}
 use Rattle.uc_front.specs.Errors.{IsFrontError, IsTextError, IsUnreadFile}
@@ -60,6 +60,7 @@ read_refused held files i room found file e at so_far limit h = by e h
     by (Refused (TooManyNames p)) h = absurd h
     by (Refused NoMain) h = absurd h
     by (Refused (BreaksRule fault)) h = absurd h
+    by (Refused (BreaksControl fault)) h = absurd h
     by (Refused (NotBuilt p)) h = absurd h
 
 -- the same of a source that tells its texts, after some of its calls

@@ -125,7 +125,7 @@ fn controlled(design: Design, main: u32) -> Result<Design, FrontError>
 /// The design by reference, as reports look at it.
 #[tactic(auto, using(crate::proofs::Controlled::seen))]
 fn view_of(design: &Design, main: u32) -> DesignView<'_>
-    ensures { described result.now ≡ system_of design.now main }
+    ensures { described result ≡ system_of design.now main }
 {
     DesignView {
         names: design.names(),
