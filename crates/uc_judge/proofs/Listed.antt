@@ -158,3 +158,7 @@ counts_more system cs n x counts more h long is = record {
 
 pub count_found : (system : System) (cs : List Command) (n k : ℕ) (counts : List ℕ) → AreCounts system cs n counts → k ≤ n → count_at counts k ≡ length (lines_in system 0 (take k cs))
 count_found system cs n k counts h low = ap (λ o. unwrap_or o 0) (h.each k low)
+
+-- the same counts by reference
+pub counts_are : (system : System) (cs : List Command) (n : ℕ) (counts same : List ℕ) → AreCounts system cs n counts → n ≡ followed cs → same ≡ counts → AreCounts system cs (followed cs) same
+counts_are system cs n counts same h long is = subst (λ m. AreCounts system cs m same) long (subst (AreCounts system cs n) (sym is) h)

@@ -3,7 +3,7 @@ use Rattle.std.proofs.Common.{◌≡◌, ℕ, ◌+◌, ◌^◌, ◌<◌, ◌≤�
 use Rattle.std.specs.Prelude.{All, Contains}
 use Rattle.std.proofs.lemmas.Bool.{cases_eq}
 use Rattle.std.proofs.lemmas.List.{append-nil, append_assoc, get_or_push, get_or_append_left, length-set, length_push, length-map}
-use Rattle.std.proofs.lemmas.List.Elements.{All-nil, All-contains}
+use Rattle.std.proofs.lemmas.List.Elements.{All-nil, All-contains, All-cons, All-weaker, Contains-get_or}
 use Rattle.uc_circuit.specs.declared.literal.Lit.{Lit}
 use Rattle.uc_circuit.specs.Values.{assign, IsFalse, IsFalsified, Forces}
 use Rattle.uc_log.specs.declared.entry.Entry.{Entry}
@@ -21,13 +21,13 @@ use Rattle.uc_learner.specs.declared.learn.Search.TheVariants.{Candidate, Refute
 use Rattle.uc_learner.specs.declared.learn.LearnError.{LearnError}
 use Rattle.uc_learner.specs.declared.state.Step.{Step}
 use Rattle.uc_learner.specs.declared.state.State.{State}
-use Rattle.uc_learner.specs.Trail.{values_at, NoneFalsified, DecisionsAreOpen, free, left}
+use Rattle.uc_learner.specs.Trail.{values_at, DecisionsAreSettled, free, left}
 use Rattle.uc_circuit.specs.Values.{IsSettled}
 use Rattle.uc_learner.specs.ClauseStates.{AllSettled}
 use Rattle.uc_learner.specs.Sound.{AreWatched, HasRoom}
 use Rattle.uc_learner.proofs.Linked.{watched_made}
 use Rattle.uc_learner.proofs.Guarded.{guarded_none}
-use Rattle.uc_learner.specs.Walked.{Shape}
+use Rattle.uc_learner.specs.Teaching.{Teaches}
 use Rattle.uc_learner.specs.Learns.{Learns}
 use Rattle.uc_learner.specs.Moves.{Cut, Ready, NoDecision, SettledOnce, left_of}
 use Rattle.uc_learner.specs.Learned.{LearnedBy}
@@ -36,7 +36,6 @@ use Rattle.uc_learner.specs.Recorded.{IsRecorded, LearntFits, Extends, KeepsReco
 use Rattle.uc_learner.proofs.Opening.{meet_of}
 use Rattle.uc_learner.specs.Answered.{NoneEmpty, Holds, HoldsFor, GoesOn, Concluded, UnitRefutable, inputs_count}
 use Rattle.uc_learner.proofs.Walk.{assign_here, assign_elsewhere}
-use Rattle.uc_learner.proofs.Learning.{DecidedAt, decided_at, shape_false_at}
 use Rattle.uc_learner.proofs.Steps.{open_at}
 
 -- the clause of a conflict is not among the clauses
@@ -45,16 +44,18 @@ not_held s [] hints target ready none learns has =
     none has.0 has.1 has.2
 not_held s (l ∷ rest) hints target ready none learns has =
     let n : ℕ = length s.inputs.items in
-    let shape : Shape s.trail.items n 0 l rest target = learns.shape in
-    let at : DecidedAt s shape.place shape.decided = decided_at s shape.place shape.decided ready.sound shape.decision in
-    let d : Step = record { literal = shape.decided; reason = None } in
-    let false' : IsFalsified (assign (values_at n s.trail.items shape.place) shape.decided) (l ∷ rest) =
-    subst (λ (v : List (Option Bool)). IsFalsified v (l ∷ rest)) at.next (shape_false_at s 0 l rest target ready.sound shape) in
-    let open' : NoneFalsified s.clauses.items (assign (values_at n s.trail.items shape.place) (get_or s.trail.items shape.place d).literal) =
-    open_at s.clauses.items (replicate n None) s.trail.items shape.place d ready.are_open shape.decision.inside (shape.decision.reason d) in
-    let open'' : NoneFalsified s.clauses.items (assign (values_at n s.trail.items shape.place) shape.decided) =
-    subst (λ (k : Lit). NoneFalsified s.clauses.items (assign (values_at n s.trail.items shape.place) k)) (shape.decision.literal d) open' in
-    All-contains (λ (c : List Lit). IsFalsified (assign (values_at n s.trail.items shape.place) shape.decided) c → ⊥) s.clauses.items (l ∷ rest) open'' has false'
+    let shape : Teaches s l rest target = learns.teaches in
+    let w : List (Option Bool) = values_at n s.trail.items target in
+    let d : Step = record { literal = l; reason = None } in
+    let settled : All (IsSettled w) s.clauses.items = open_at s.clauses.items (replicate n None) s.trail.items target d ready.are_settled shape.decision.inside (shape.decision.reason d) in
+    let here : IsSettled w (l ∷ rest) = All-contains (IsSettled w) s.clauses.items (l ∷ rest) settled has in
+    here.not_unit l (record {
+      there = Contains-get_or (l ∷ rest) 0 l (omega arith);
+      unset = shape.unset;
+      rest =
+          All-cons (λ (k : Lit). (k ≡ l) ⊎ IsFalse w k) l rest (inl refl)
+          (All-weaker (IsFalse w) (λ (k : Lit). (k ≡ l) ⊎ IsFalse w k) (λ k f. inr f) rest shape.rest_false);
+    })
 
 pub new_learnt :
     (s : State) (nodes : List Node) (opened : Option Question) (here : ℕ) (log : List Entry) (clause clause' : List Lit) (hints hints' : List ℕ) (target : ℕ)
@@ -78,10 +79,10 @@ learnt_fits s opened log clause clause' hints hints' target holds learns same_cl
     subst (λ (x : List ℕ). IsLearnt (length k.circuit) k.clauses clause' x) (sym same_hints) c
 
 -- a learnt clause of some literals comes from a decision
-shape_decided : (s : State) (l : Lit) (rest : List Lit) (target : ℕ) → Shape s.trail.items (length s.inputs.items) 0 l rest target → NoDecision s → ⊥
+shape_decided : (s : State) (l : Lit) (rest : List Lit) (target : ℕ) → Teaches s l rest target → NoDecision s → ⊥
 shape_decided s l rest target shape none =
-    let d : Step = record { literal = shape.decided; reason = None } in
-    none shape.place d shape.decision.inside (shape.decision.reason d)
+    let d : Step = record { literal = l; reason = None } in
+    none target d shape.decision.inside (shape.decision.reason d)
 
 none_empty_push : (clauses : List (List Lit)) (c : List Lit) → NoneEmpty clauses → 0 < length c → NoneEmpty (clauses ++ c ∷ [])
 none_empty_push clauses c none some n h is =
@@ -122,7 +123,7 @@ goes_on before after opened log log' (l ∷ rest) clause' hints hints' target ho
         subst NoneEmpty (sym learned.clauses) (none_empty_push before.clauses.items (l ∷ rest) none some),
         learned.left_less,
         learned.inputs,
-        shape_decided before l rest target learns.shape,
+        shape_decided before l rest target learns.teaches,
         waiting,
       );
     }
@@ -208,7 +209,7 @@ pub started : (s mid : State) → Cut s 0 mid → AreWatched s → HasRoom s →
 started s mid cut watched room = record {
   ready = record {
     sound = cut.sound;
-    are_open = subst (λ (k : List Step). DecisionsAreOpen mid.clauses.items (replicate (length mid.inputs.items) None) k) (sym cut.trail) tt;
+    are_settled = subst (λ (k : List Step). DecisionsAreSettled mid.clauses.items (replicate (length mid.inputs.items) None) k) (sym cut.trail) tt;
     watched = watched_made mid s.inputs.items s.clauses.items s.watches cut.inputs cut.clauses cut.watches watched;
     guarded = guarded_none (length mid.inputs.items) mid.trail.items mid.watches.watched.items cut.trail;
     room = omega (arith, room, ap length cut.inputs, cut.capacity);

@@ -13,10 +13,11 @@ use Rattle.uc_learner.specs.declared.state.Step.{Step}
 use Rattle.uc_learner.specs.declared.state.State.{State}
 use Rattle.uc_learner.specs.Trail.{values_after, values_at, IsImplied, IsInput, StepFits}
 use Rattle.uc_learner.specs.Sound.{Sound}
-use Rattle.uc_learner.specs.Walked.{IsDecision, HasShape, Walked}
+use Rattle.uc_learner.specs.Walked.{IsDecision, Shape, HasShape, Walked}
+use Rattle.uc_learner.specs.Teaching.{Teaches, CanTeach}
 use Rattle.uc_learner.specs.Learns.{Learns}
 use Rattle.uc_learner.proofs.Walk.{assign_here, walk_conflict}
-use Rattle.uc_learner.proofs.Steps.{length-values_at, values_at-next, fits_at, falsified_later}
+use Rattle.uc_learner.proofs.Steps.{length-values_at, values_at-next, fits_at, falsified_later, unset_at-earlier}
 
 -- the values at the end of the trail
 pub values_now : (s : State) → Sound s → s.values.items ≡ values_at (length s.inputs.items) s.trail.items (length s.trail.items)
@@ -99,6 +100,29 @@ shape_false s i (l ∷ rest) target sound shape =
 falsified_within : (w : List (Option Bool)) (n : ℕ) (c : List Lit) → length w ≡ n → IsFalsified w c → All (λ l. l.var < n) c
 falsified_within w n c same false' k d h = omega (arith, value_inside w _ _ (false' k d h), same)
 
+-- a clause of that shape may be taken over
+shape_teaches : (s : State) (l : Lit) (rest : List Lit) (target : ℕ) → Sound s → Shape s.trail.items (length s.inputs.items) 0 l rest target → Teaches s l rest target
+shape_teaches s l rest target sound shape =
+    let n : ℕ = length s.inputs.items in
+    let w : List (Option Bool) = values_at n s.trail.items target in
+    let at : DecidedAt s shape.place shape.decided = decided_at s shape.place shape.decided sound shape.decision in
+    let same : l.var ≡ shape.decided.var = ap (λ (k : Lit). k.var) shape.negates in
+    let early : get_or w shape.decided.var None ≡ None =
+    unset_at-earlier s.inputs.items s.clauses.items (replicate n None) s.trail.items target shape.place shape.decided.var sound.trail shape.target_le at.unset in
+    record {
+      undone = shape.undone;
+      decision = shape.target_decided;
+      inside = omega (arith, at.inside, same);
+      input = ap (λ x. get_or s.inputs.items x false) same ∙ at.input;
+      unset = ap (λ x. get_or w x None) same ∙ early;
+      rest_false = shape.rest_false;
+      first_open = shape.first_open;
+    }
+
+can_teach : (s : State) (kept : List Lit) (target : ℕ) → Sound s → HasShape s.trail.items (length s.inputs.items) 0 kept target → CanTeach s kept target
+can_teach s [] target sound shape = tt
+can_teach s (l ∷ rest) target sound shape = shape_teaches s l rest target sound shape
+
 pub walked_end :
     (s : State) (marks : List Bool) (kept : List Lit) (hints : List ℕ) (target : ℕ)
     → Sound s → Walked s 0 marks kept hints target → Learns s kept hints target
@@ -123,7 +147,7 @@ walked_end s marks kept hints target sound walked =
           });
         };
       };
-      shape = walked.shape;
+      teaches = can_teach s kept target sound walked.shape;
     }
 
 -- the start at what the code has made

@@ -18,3 +18,4 @@ pub mod Visiting
 pub mod Adding
 pub mod Starting
 pub mod Roaming
+pub mod Accepting

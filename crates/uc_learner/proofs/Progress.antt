@@ -10,7 +10,7 @@ use Rattle.uc_circuit.specs.Literals.{negate}
 use Rattle.uc_circuit.specs.Values.{assign, IsFalse, IsFalsified, HasNoValue, Forces}
 use Rattle.uc_learner.specs.declared.state.Step.{Step}
 use Rattle.uc_learner.specs.declared.state.State.{State}
-use Rattle.uc_learner.specs.Trail.{values_after, values_at, IsImplied, IsInput, StepFits, TrailFits, NoneFalsified, DecisionsAreOpen, one_if_free, left}
+use Rattle.uc_learner.specs.Trail.{values_after, values_at, IsImplied, IsInput, StepFits, TrailFits, DecisionsAreSettled, one_if_free, left}
 use Rattle.uc_log.specs.Refutes.{AllWithin}
 use Rattle.uc_learner.specs.Sound.{Sound}
 use Rattle.uc_learner.specs.Moves.{Pushed, Cut, Ready, Onward, NoDecision, SettledOnce, left_of, unset_count}
@@ -163,12 +163,12 @@ cut_same before target s after i c v t w capacity cut = record {
 pub open_made :
     (s : State) (inputs : List Bool) (clauses : List (List Lit)) (trail : List Step)
     → s.inputs.items ≡ inputs → s.clauses.items ≡ clauses → s.trail.items ≡ trail
-    → DecisionsAreOpen clauses (replicate (length inputs) None) trail
-    → DecisionsAreOpen s.clauses.items (replicate (length s.inputs.items) None) s.trail.items
-open_made s inputs clauses trail i c t are_open =
-    subst (λ (k : List Step). DecisionsAreOpen s.clauses.items (replicate (length s.inputs.items) None) k) (sym t)
-    (subst (λ (k : List (List Lit)). DecisionsAreOpen k (replicate (length s.inputs.items) None) trail) (sym c)
-    (subst (λ (k : List Bool). DecisionsAreOpen clauses (replicate (length k) None) trail) (sym i) are_open))
+    → DecisionsAreSettled clauses (replicate (length inputs) None) trail
+    → DecisionsAreSettled s.clauses.items (replicate (length s.inputs.items) None) s.trail.items
+open_made s inputs clauses trail i c t are_settled =
+    subst (λ (k : List Step). DecisionsAreSettled s.clauses.items (replicate (length s.inputs.items) None) k) (sym t)
+    (subst (λ (k : List (List Lit)). DecisionsAreSettled k (replicate (length s.inputs.items) None) trail) (sym c)
+    (subst (λ (k : List Bool). DecisionsAreSettled clauses (replicate (length k) None) trail) (sym i) are_settled))
 
 pub left_made :
     (s : State) (inputs : List Bool) (trail : List Step) → s.inputs.items ≡ inputs → s.trail.items ≡ trail
@@ -226,7 +226,7 @@ step_taken :
     (s after : State) (step : Step)
     → Ready s → Pushed s step after
     → StepFits s.inputs.items s.clauses.items (values_after (replicate (length s.inputs.items) None) s.trail.items) step
-    → MatchOption step.reason (NoneFalsified s.clauses.items (assign (values_after (replicate (length s.inputs.items) None) s.trail.items) step.literal)) (λ _. Unit {0})
+    → MatchOption step.reason (All (IsSettled (values_after (replicate (length s.inputs.items) None) s.trail.items)) s.clauses.items) (λ _. Unit {0})
     → left s.inputs.items (replicate (length s.inputs.items) None) (s.trail.items ++ step ∷ []) ≤ left_of s
     → DecisionsAreGuarded (length s.inputs.items) (s.trail.items ++ step ∷ []) s.watches.watched.items
     → Stepped s after
@@ -246,9 +246,9 @@ step_taken s after step ready pushed fits is_open le guarded =
           sound =
               sound_made after s.inputs.items s.clauses.items (assign s.values.items step.literal) (s.trail.items ++ step ∷ []) pushed.inputs pushed.clauses pushed.values pushed.trail values
               (fits_push s.inputs.items s.clauses.items none s.trail.items step ready.sound.trail fits) ready.sound.within ready.sound.numbered ready.sound.variables;
-          are_open =
+          are_settled =
               open_made after s.inputs.items s.clauses.items (s.trail.items ++ step ∷ []) pushed.inputs pushed.clauses pushed.trail
-              (open_push s.clauses.items none s.trail.items step ready.are_open is_open);
+              (open_push s.clauses.items none s.trail.items step ready.are_settled is_open);
           watched = watched_made after s.inputs.items s.clauses.items s.watches pushed.inputs pushed.clauses pushed.watches ready.watched;
           guarded = guarded_made after s.inputs.items (s.trail.items ++ step ∷ []) s.watches.watched.items pushed.inputs pushed.trail (ap (λ (w : Watches). w.watched.items) pushed.watches) guarded;
           room = omega (arith, ready.room, ap length pushed.inputs, pushed.capacity);
@@ -277,44 +277,9 @@ implied_step s after step n ready pushed reason h forces =
       unset = forces'.unset;
       cause = subst (λ (r : Option ℕ). MatchOption r (IsInput s.inputs.items step.literal) (IsImplied s.clauses.items w step.literal)) (sym reason) (h, forces');
     })
-    (subst (λ (r : Option ℕ). MatchOption r (NoneFalsified s.clauses.items (assign w step.literal)) (λ _. Unit {0})) (sym reason) tt)
+    (subst (λ (r : Option ℕ). MatchOption r (All (IsSettled w) s.clauses.items) (λ _. Unit {0})) (sym reason) tt)
     (left_implied s.inputs.items none s.trail.items step n reason inside' forces'.unset)
     (guarded_implied (length s.inputs.items) s.trail.items step s.watches.watched.items n reason ready.guarded)
-
--- a clause that is false once a literal is made true was false before, or forced its negation
-falsified_by :
-    (v : List (Option Bool)) (l : Lit) (xs : List Lit) → l.var < length v → IsFalsified (assign v l) xs
-    → IsFalsified v xs ⊎ (Contains xs (negate l) × All (λ m. (m ≡ negate l) ⊎ IsFalse v m) xs)
-falsified_by v l [] inside all = inl (All-nil (IsFalse v))
-falsified_by v l (m ∷ xs) inside all =
-    let head : IsFalse (assign v l) m = All-head (IsFalse (assign v l)) m xs all in
-    let rest : IsFalsified v xs ⊎ (Contains xs (negate l) × All (λ (k : Lit). (k ≡ negate l) ⊎ IsFalse v k) xs) = falsified_by v l xs inside (All-tail (IsFalse (assign v l)) m xs all) in
-    let weak : (ys : List Lit) → IsFalsified v ys → All (λ (k : Lit). (k ≡ negate l) ⊎ IsFalse v k) ys =
-    λ ys is. All-weaker (IsFalse v) (λ (k : Lit). (k ≡ negate l) ⊎ IsFalse v k) (λ k f. inr f) ys is in
-    elim (cases_eq m.var l.var) [
-      | inl same ↦
-          let e : Some (not l.neg) ≡ Some m.neg = sym (get_or-set_same v l.var (Some (not l.neg)) None inside) ∙ ap (λ k. get_or (assign v l) k None) (sym same) ∙ head in
-          let sign : m.neg ≡ not l.neg = cc in
-          let is : m ≡ negate l = literal_from_parts m (negate l) same sign in
-          let all' : All (λ (k : Lit). (k ≡ negate l) ⊎ IsFalse v k) xs = elim rest [ inl f ↦ weak xs f | inr p ↦ p.1 ] in
-          inr (
-            subst (λ (k : Lit). Contains (m ∷ xs) k) is (Contains-get_or (m ∷ xs) 0 m (omega arith)),
-            All-cons (λ (k : Lit). (k ≡ negate l) ⊎ IsFalse v k) m xs (inl is) all',
-          )
-      | inr ne ↦
-          let before : IsFalse v m = sym (get_or-set_other v l.var m.var (Some (not l.neg)) None ne) ∙ head in
-          elim rest [
-            | inl f ↦ inl (All-cons (IsFalse v) m xs before f)
-            | inr p ↦ inr (Contains-append_right (m ∷ []) xs (negate l) p.0, All-cons (λ (k : Lit). (k ≡ negate l) ⊎ IsFalse v k) m xs (inr before) p.1)
-          ]
-    ]
-
-pub settled_open : (v : List (Option Bool)) (l : Lit) (c : List Lit) → l.var < length v → HasNoValue v l → IsSettled v c → IsFalsified (assign v l) c → ⊥
-settled_open v l c inside unset settled all =
-    elim (falsified_by v l c inside all) [
-      | inl f ↦ settled.not_false f
-      | inr p ↦ settled.not_unit (negate l) (record { there = p.0; unset = unset; rest = p.1 })
-    ]
 
 pub decided_step :
     (s after : State) (step : Step)
@@ -334,8 +299,7 @@ decided_step s after step ready pushed reason input inside unset settled guards 
       unset = unset';
       cause = subst (λ (r : Option ℕ). MatchOption r (IsInput s.inputs.items step.literal) (IsImplied s.clauses.items w step.literal)) (sym reason) input;
     })
-    (subst (λ (r : Option ℕ). MatchOption r (NoneFalsified s.clauses.items (assign w step.literal)) (λ _. Unit {0})) (sym reason)
-    (λ k d h all. settled_open w step.literal (get_or s.clauses.items k d) inside' unset' (settled' k d h) all))
+    (subst (λ (r : Option ℕ). MatchOption r (All (IsSettled w) s.clauses.items) (λ _. Unit {0})) (sym reason) settled')
     (omega (arith, left_decided s.inputs.items none s.trail.items step reason input inside' unset'))
     (guarded_decided (length s.inputs.items) s.trail.items step s.watches.watched.items
     (subst (λ (v : List (Option Bool)). AllGuard v v s.watches.watched.items) ready.sound.values guards) ready.guarded)

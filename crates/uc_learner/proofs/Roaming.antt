@@ -10,7 +10,7 @@ use Rattle.uc_rings.specs.Watched.{Linked}
 use Rattle.uc_learner.specs.Learners.{input_flags}
 use Rattle.uc_learner.specs.declared.state.Step.{Step}
 use Rattle.uc_learner.specs.declared.state.State.{State}
-use Rattle.uc_learner.specs.Trail.{values_after, DecisionsAreOpen, free, left}
+use Rattle.uc_learner.specs.Trail.{values_after, DecisionsAreSettled, free, left}
 use Rattle.uc_learner.specs.Sound.{AreWatched, HasRoom}
 use Rattle.uc_learner.specs.Moves.{Cut, NoDecision}
 use Rattle.uc_learner.specs.Answered.{Holds, HoldsFor, NoneEmpty, one_if, inputs_count}
@@ -44,7 +44,7 @@ turned s mid after choices cut head watched room long c i v t w h capacity =
         sound =
             sound_bare after choices mid.clauses.items i c (v ∙ no_values ∙ ap (λ m. replicate m None) (sym many)) no_steps
             (subst (λ m. AllWithin m mid.clauses.items) (sym many) cut.sound.within) cut.sound.numbered (omega (arith, many, cut.sound.variables));
-        are_open = subst (λ (k : List Step). DecisionsAreOpen after.clauses.items (replicate (length after.inputs.items) None) k) (sym no_steps) tt;
+        are_settled = subst (λ (k : List Step). DecisionsAreSettled after.clauses.items (replicate (length after.inputs.items) None) k) (sym no_steps) tt;
         watched =
             watched_made after choices s.clauses.items s.watches i (c ∙ cut.clauses) (w ∙ cut.watches)
             (subst (λ m. Linked s.clauses.items m s.watches) (sym long) watched);

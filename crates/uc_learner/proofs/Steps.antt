@@ -1,12 +1,12 @@
 -- The trail, step by step.
 use Rattle.std.proofs.Common.{◌≡◌, ℕ, zero, suc, ◌+◌, ◌<◌, ◌≤◌, Bool, not, List, [], ◌∷◌, ◌++◌, Option, None, Some, length, get_or, take, replicate, refl, sym, ◌∙◌, ap, subst, arith}
-use Rattle.std.specs.Prelude.{Contains, MatchOption}
+use Rattle.std.specs.Prelude.{All, MatchOption}
 use Rattle.std.proofs.lemmas.List.{length-set, length-append, length-replicate, take_more, get_or_append_left}
-use Rattle.std.proofs.lemmas.List.Elements.{All-push, All-contains}
+use Rattle.std.proofs.lemmas.List.Elements.{All-push}
 use Rattle.uc_circuit.specs.declared.literal.Lit.{Lit}
-use Rattle.uc_circuit.specs.Values.{assign, IsFalse, IsFalsified, HasNoValue, Forces}
+use Rattle.uc_circuit.specs.Values.{assign, IsFalse, IsFalsified, IsSettled, HasNoValue, Forces}
 use Rattle.uc_learner.specs.declared.state.Step.{Step}
-use Rattle.uc_learner.specs.Trail.{values_after, values_at, IsImplied, IsInput, StepFits, TrailFits, NoneFalsified, DecisionsAreOpen}
+use Rattle.uc_learner.specs.Trail.{values_after, values_at, IsImplied, IsInput, StepFits, TrailFits, DecisionsAreSettled}
 use Rattle.uc_learner.proofs.Walk.{assign_keeps}
 
 pub length-values_after : (v : List (Option Bool)) (xs : List Step) → length (values_after v xs) ≡ length v
@@ -106,43 +106,41 @@ pub falsified_later :
 falsified_later inputs clauses v xs i j c fits le false' k d h =
     values_at-later inputs clauses v xs i j _ _ fits le (false' k d h)
 
--- no clause is false just after any decision
+-- each clause was settled just before any decision
 pub open_at :
     (clauses : List (List Lit)) (v : List (Option Bool)) (xs : List Step) (i : ℕ) (d : Step)
-    → DecisionsAreOpen clauses v xs → i < length xs → (get_or xs i d).reason ≡ None
-    → NoneFalsified clauses (assign (values_after v (take i xs)) (get_or xs i d).literal)
-open_at clauses v [] i d are_open h is = absurd (omega arith)
-open_at clauses v (s ∷ xs) zero d are_open h is =
-    subst (λ (r : Option ℕ). MatchOption r (NoneFalsified clauses (assign v s.literal)) (λ _. Unit {0})) is are_open.0
-open_at clauses v (s ∷ xs) (suc i) d are_open h is = open_at clauses (assign v s.literal) xs i d are_open.1 (omega arith) is
+    → DecisionsAreSettled clauses v xs → i < length xs → (get_or xs i d).reason ≡ None
+    → All (IsSettled (values_after v (take i xs))) clauses
+open_at clauses v [] i d are_settled h is = absurd (omega arith)
+open_at clauses v (s ∷ xs) zero d are_settled h is =
+    subst (λ (r : Option ℕ). MatchOption r (All (IsSettled v) clauses) (λ _. Unit {0})) is are_settled.0
+open_at clauses v (s ∷ xs) (suc i) d are_settled h is = open_at clauses (assign v s.literal) xs i d are_settled.1 (omega arith) is
 
 pub open_push :
     (clauses : List (List Lit)) (v : List (Option Bool)) (xs : List Step) (s : Step)
-    → DecisionsAreOpen clauses v xs
-    → MatchOption s.reason (NoneFalsified clauses (assign (values_after v xs) s.literal)) (λ _. Unit {0})
-    → DecisionsAreOpen clauses v (xs ++ s ∷ [])
-open_push clauses v [] s are_open step = (step, tt)
-open_push clauses v (x ∷ xs) s are_open step = (are_open.0, open_push clauses (assign v x.literal) xs s are_open.1 step)
+    → DecisionsAreSettled clauses v xs
+    → MatchOption s.reason (All (IsSettled (values_after v xs)) clauses) (λ _. Unit {0})
+    → DecisionsAreSettled clauses v (xs ++ s ∷ [])
+open_push clauses v [] s are_settled step = (step, tt)
+open_push clauses v (x ∷ xs) s are_settled step = (are_settled.0, open_push clauses (assign v x.literal) xs s are_settled.1 step)
 
 pub open_take :
     (clauses : List (List Lit)) (v : List (Option Bool)) (i : ℕ) (xs : List Step)
-    → DecisionsAreOpen clauses v xs → DecisionsAreOpen clauses v (take i xs)
-open_take clauses v zero xs are_open = tt
-open_take clauses v (suc i) [] are_open = tt
-open_take clauses v (suc i) (s ∷ xs) are_open = (are_open.0, open_take clauses (assign v s.literal) i xs are_open.1)
+    → DecisionsAreSettled clauses v xs → DecisionsAreSettled clauses v (take i xs)
+open_take clauses v zero xs are_settled = tt
+open_take clauses v (suc i) [] are_settled = tt
+open_take clauses v (suc i) (s ∷ xs) are_settled = (are_settled.0, open_take clauses (assign v s.literal) i xs are_settled.1)
 
--- a clause with a literal whose variable has no value on the whole trail may be added
+-- a clause that was settled just before each decision may be added
 pub open_more :
-    (inputs : List Bool) (clauses : List (List Lit)) (c : List Lit) (l : Lit) (v : List (Option Bool)) (xs : List Step)
-    → TrailFits inputs clauses v xs → Contains c l → HasNoValue (values_after v xs) l
-    → DecisionsAreOpen clauses v xs → DecisionsAreOpen (clauses ++ c ∷ []) v xs
-open_more inputs clauses c l v [] fits has unset are_open = tt
-open_more inputs clauses c l v (s ∷ xs) fits has unset are_open =
-    let not_false : IsFalsified (assign v s.literal) c → ⊥ =
-    λ all. let e : get_or (values_after (assign v s.literal) xs) l.var None ≡ Some l.neg = values_stay inputs clauses (assign v s.literal) xs l.var l.neg fits.1 (All-contains (IsFalse (assign v s.literal)) c l all has) in let f : Some l.neg ≡ None = sym e ∙ unset in cc in (
-      elim s.reason as (λ r. MatchOption r (NoneFalsified clauses (assign v s.literal)) (λ _. Unit {0}) → MatchOption r (NoneFalsified (clauses ++ c ∷ []) (assign v s.literal)) (λ _. Unit {0})) [
-        | None ↦ λ is. All-push (λ (k : List Lit). IsFalsified (assign v s.literal) k → ⊥) clauses c is not_false
-        | Some n ↦ λ is. tt
-      ] are_open.0,
-      open_more inputs clauses c l (assign v s.literal) xs fits.1 has unset are_open.1,
-    )
+    (clauses : List (List Lit)) (c : List Lit) (v : List (Option Bool)) (xs : List Step)
+    → ((i : ℕ) → i < length xs → ((d : Step) → (get_or xs i d).reason ≡ None) → IsSettled (values_after v (take i xs)) c)
+    → DecisionsAreSettled clauses v xs → DecisionsAreSettled (clauses ++ c ∷ []) v xs
+open_more clauses c v [] settled are_settled = tt
+open_more clauses c v (s ∷ xs) settled are_settled = (
+  elim s.reason as (λ r. s.reason ≡ r → MatchOption r (All (IsSettled v) clauses) (λ _. Unit {0}) → MatchOption r (All (IsSettled v) (clauses ++ c ∷ [])) (λ _. Unit {0})) [
+    | None ↦ λ e is. All-push (IsSettled v) clauses c is (settled 0 (omega arith) (λ d. e))
+    | Some n ↦ λ e is. tt
+  ] refl are_settled.0,
+  open_more clauses c (assign v s.literal) xs (λ i h none. settled (suc i) (omega (arith, h)) none) are_settled.1,
+)

@@ -1,10 +1,10 @@
 -- Taking over a learnt clause.
 use Rattle.std.proofs.Common.{◌≡◌, ℕ, ◌+◌, ◌*◌, ◌^◌, ◌<◌, ◌≤◌, ◌⊎◌, inl, inr, Bool, false, List, [], ◌∷◌, ◌++◌, Option, None, Some, length, get_or, take, replicate, refl, sym, ◌∙◌, ap, subst, arith, vec_capacity}
 use Rattle.std.specs.Prelude.{All, MatchOption}
-use Rattle.std.proofs.lemmas.List.{get_or_push, length_push, length-take-le, take_at}
-use Rattle.std.proofs.lemmas.List.Elements.{All-push, All-cons, All-head, All-weaker, Contains-get_or}
+use Rattle.std.proofs.lemmas.List.{get_or_default, get_or_push, length_push, length-take-le, take_at}
+use Rattle.std.proofs.lemmas.List.Elements.{All-push, All-cons, All-head, All-tail, All-weaker, Contains-get_or}
 use Rattle.uc_circuit.specs.declared.literal.Lit.{Lit}
-use Rattle.uc_circuit.specs.Values.{assign, IsFalse, HasNoValue, Forces}
+use Rattle.uc_circuit.specs.Values.{assign, IsFalse, IsSettled, HasNoValue, Forces}
 use Rattle.uc_rings.specs.Lists.{place_of}
 use Rattle.uc_rings.specs.declared.watches.Watches.{Watches}
 use Rattle.uc_rings.specs.Pairs.{IsTrueIn}
@@ -13,9 +13,10 @@ use Rattle.uc_rings.proofs.Linking.{guards_more}
 use Rattle.uc_rings.proofs.Guarding.{guard_later}
 use Rattle.uc_learner.specs.declared.state.Step.{Step}
 use Rattle.uc_learner.specs.declared.state.State.{State}
-use Rattle.uc_learner.specs.Trail.{values_after, values_at, IsImplied, IsInput, StepFits, TrailFits, NoneFalsified, DecisionsAreOpen, left}
+use Rattle.uc_learner.specs.Trail.{values_after, values_at, IsImplied, IsInput, StepFits, TrailFits, DecisionsAreSettled, left}
 use Rattle.uc_learner.specs.Sound.{Sound, AreWatched}
-use Rattle.uc_learner.specs.Walked.{IsDecision, Shape}
+use Rattle.uc_learner.specs.Walked.{IsDecision}
+use Rattle.uc_learner.specs.Teaching.{Teaches}
 use Rattle.uc_learner.specs.Guarded.{DecisionsAreGuarded}
 use Rattle.uc_learner.specs.Moves.{Pushed, Cut, Ready}
 use Rattle.uc_learner.specs.Propagated.{passed, Waiting}
@@ -23,7 +24,7 @@ use Rattle.uc_learner.specs.Learned.{IsTaught, LearnedBy}
 use Rattle.uc_learner.proofs.Walk.{assign_here, assign_keeps}
 use Rattle.uc_learner.proofs.Linked.{watched_made, place_below}
 use Rattle.uc_learner.proofs.Guarded.{AmongFirst, among_first, guarded_made, guarded_implied, guarded_first, guarded_more}
-use Rattle.uc_learner.proofs.Learning.{DecidedAt, decided_at, length-values}
+use Rattle.uc_learner.proofs.Learning.{length-values}
 use Rattle.uc_learner.proofs.Steps.{length-values_at, fits_take, fits_push, fits_more, open_take, open_push, open_more, unset_at-earlier, values_after-append}
 use Rattle.uc_learner.proofs.Measure.{left_backjump_at}
 use Rattle.uc_learner.proofs.Progress.{sound_made, open_made, left_made, unset_and_steps}
@@ -34,20 +35,15 @@ pub record Asserts (s : State) (l : Lit) (rest : List Lit) (target : ℕ) : Type
   pub input : IsInput s.inputs.items l
   pub forces : Forces (values_at (length s.inputs.items) s.trail.items target) (l ∷ rest) l
 
-asserts : (s : State) (l : Lit) (rest : List Lit) (target : ℕ) → Sound s → Shape s.trail.items (length s.inputs.items) 0 l rest target → Asserts s l rest target
-asserts s l rest target sound shape =
-    let n : ℕ = length s.inputs.items in
-    let w : List (Option Bool) = values_at n s.trail.items target in
-    let at : DecidedAt s shape.place shape.decided = decided_at s shape.place shape.decided sound shape.decision in
-    let same : l.var ≡ shape.decided.var = ap (λ (k : Lit). k.var) shape.negates in
-    let early : get_or w shape.decided.var None ≡ None =
-    unset_at-earlier s.inputs.items s.clauses.items (replicate n None) s.trail.items target shape.place shape.decided.var sound.trail shape.target_le at.unset in
+asserts : (s : State) (l : Lit) (rest : List Lit) (target : ℕ) → Teaches s l rest target → Asserts s l rest target
+asserts s l rest target shape =
+    let w : List (Option Bool) = values_at (length s.inputs.items) s.trail.items target in
     record {
-      inside = omega (arith, at.inside, same);
-      input = ap (λ x. get_or s.inputs.items x false) same ∙ at.input;
+      inside = shape.inside;
+      input = shape.input;
       forces = record {
         there = Contains-get_or (l ∷ rest) 0 l (omega arith);
-        unset = ap (λ x. get_or w x None) same ∙ early;
+        unset = shape.unset;
         rest =
             All-cons (λ (k : Lit). (k ≡ l) ⊎ IsFalse w k) l rest (inl refl)
             (All-weaker (IsFalse w) (λ (k : Lit). (k ≡ l) ⊎ IsFalse w k) (λ k f. inr f) rest shape.rest_false);
@@ -68,7 +64,7 @@ same_literal o k m is is_k = let e : Some m ≡ Some k = sym is ∙ is_k in let 
 
 learnt_watches :
     (s : State) (l : Lit) (rest : List Lit) (target : ℕ) (o q : Option Lit)
-    → Shape s.trail.items (length s.inputs.items) 0 l rest target → Asserts s l rest target → WatchesFirst (l ∷ rest) o q → LearntWatches s l target o q
+    → Teaches s l rest target → Asserts s l rest target → WatchesFirst (l ∷ rest) o q → LearntWatches s l target o q
 learnt_watches s l [] target o q shape known fits = record {
   first = λ k e. absurd (no_literal o k fits.0 e);
   second = λ k e. absurd (no_literal q k fits.1 e);
@@ -89,16 +85,58 @@ learnt_watches s l (m ∷ rest) target o q shape known fits =
 not_false : (v : List (Option Bool)) (l : Lit) → HasNoValue v l → IsFalse v l → ⊥
 not_false v l unset f = let e : None ≡ Some l.neg = sym unset ∙ f in cc
 
+-- two different literals without a value settle a clause
+two_open : (v : List (Option Bool)) (l m : Lit) (rest : List Lit) → HasNoValue v l → HasNoValue v m → (l ≡ m → ⊥) → IsSettled v (l ∷ m ∷ rest)
+two_open v l m rest l_unset m_unset ne = record {
+  not_false = λ all. not_false v l l_unset (All-head (IsFalse v) l (m ∷ rest) all);
+  not_unit = λ k forces.
+      let tail : All (λ (x : Lit). (x ≡ k) ⊎ IsFalse v x) (m ∷ rest) = All-tail (λ (x : Lit). (x ≡ k) ⊎ IsFalse v x) l (m ∷ rest) forces.rest in
+      elim (All-head (λ (x : Lit). (x ≡ k) ⊎ IsFalse v x) l (m ∷ rest) forces.rest) [
+        | inl l_is ↦ elim (All-head (λ (x : Lit). (x ≡ k) ⊎ IsFalse v x) m rest tail) [
+          | inl m_is ↦ ne (l_is ∙ sym m_is)
+          | inr f ↦ not_false v m m_unset f
+        ]
+        | inr f ↦ not_false v l l_unset f
+      ];
+}
+
+settled_by :
+    (s : State) (l : Lit) (rest : List Lit) (target i : ℕ) (o : Lit)
+    → Ready s → Teaches s l rest target → AmongFirst s.trail.items (length s.inputs.items) target i o → HasNoValue (values_at (length s.inputs.items) s.trail.items i) l
+    → IsSettled (values_at (length s.inputs.items) s.trail.items i) (l ∷ rest)
+settled_by s l [] target i o ready shape at unset = absurd (let h : i < 0 = shape.first_open i o at.decision at.before in omega (arith, h))
+settled_by s l (m ∷ rest) target i o ready shape at unset =
+    let w : List (Option Bool) = values_at (length s.inputs.items) s.trail.items target in
+    let m_false : IsFalse w m = All-head (IsFalse w) m rest shape.rest_false in
+    let ne : l ≡ m → ⊥ = λ same. let e : None ≡ Some m.neg = sym shape.unset ∙ ap (λ (k : Lit). get_or w k.var None) same ∙ m_false in cc in
+    two_open (values_at (length s.inputs.items) s.trail.items i) l m rest unset (shape.first_open i o at.decision at.before) ne
+
+-- the learnt clause was settled just before each decision that stays
+learnt_settled :
+    (s : State) (l : Lit) (rest : List Lit) (target i : ℕ)
+    → Ready s → Teaches s l rest target → i < length (take target s.trail.items) → ((d : Step) → (get_or (take target s.trail.items) i d).reason ≡ None)
+    → IsSettled (values_after (replicate (length s.inputs.items) None) (take i (take target s.trail.items))) (l ∷ rest)
+learnt_settled s l rest target i ready shape h none =
+    let n : ℕ = length s.inputs.items in
+    let le : target ≤ length s.trail.items = omega (arith, shape.decision.inside) in
+    let d : Step = record { literal = l; reason = None } in
+    let o : Lit = (get_or (take target s.trail.items) i d).literal in
+    let is : IsDecision (take target s.trail.items) i o = record { inside = h; reason = none; literal = λ e. ap (λ (k : Step). k.literal) (get_or_default (take target s.trail.items) i e d h) } in
+    let at : AmongFirst s.trail.items n target i o = among_first s.trail.items n target i o le is in
+    let unset : HasNoValue (values_at n s.trail.items i) l =
+    unset_at-earlier s.inputs.items s.clauses.items (replicate n None) s.trail.items i target l.var ready.sound.trail (omega (arith, at.before)) shape.unset in
+    subst (λ (v : List (Option Bool)). IsSettled v (l ∷ rest)) (sym at.values) (settled_by s l rest target i o ready shape at unset)
+
 -- the decisions that stay are guarded with the learnt clause
 learnt_guarded :
     (s : State) (l : Lit) (rest : List Lit) (target : ℕ) (o q : Option Lit)
-    → Ready s → Shape s.trail.items (length s.inputs.items) 0 l rest target → Asserts s l rest target → LearntWatches s l target o q
+    → Ready s → Teaches s l rest target → Asserts s l rest target → LearntWatches s l target o q
     → DecisionsAreGuarded (length s.inputs.items) (take target s.trail.items) ((s.watches.watched.items ++ o ∷ []) ++ q ∷ [])
 learnt_guarded s l rest target o q ready shape known watches =
     let n : ℕ = length s.inputs.items in
     let trail : List Step = s.trail.items in
     let kept : List Step = take target trail in
-    let le : target ≤ length trail = omega (arith, shape.target_decided.inside) in
+    let le : target ≤ length trail = omega (arith, shape.decision.inside) in
     guarded_more n kept s.watches.watched.items o q (length s.clauses.items) ready.watched.slots
     (λ i d is k e f.
     let at : AmongFirst trail n target i d = among_first trail n target i d le is in
@@ -114,7 +152,7 @@ learnt_guarded s l rest target o q ready shape known watches =
 -- after the cut the queue goes on at the asserted literal
 learnt_waiting :
     (s : State) (l : Lit) (rest : List Lit) (step : Step) (target : ℕ) (o q : Option Lit)
-    → Ready s → Shape s.trail.items (length s.inputs.items) 0 l rest target → Asserts s l rest target → LearntWatches s l target o q
+    → Ready s → Teaches s l rest target → Asserts s l rest target → LearntWatches s l target o q
     → step.literal ≡ l
     → AllGuard (values_at (length s.inputs.items) s.trail.items target) (assign (values_at (length s.inputs.items) s.trail.items target) step.literal) ((s.watches.watched.items ++ o ∷ []) ++ q ∷ [])
 learnt_waiting s l rest step target o q ready shape known watches is_l =
@@ -125,7 +163,7 @@ learnt_waiting s l rest step target o q ready shape known watches is_l =
     let inside : step.literal.var < length w = omega (arith, known.inside, ap (λ (k : Lit). k.var) is_l, length-values_at n s.trail.items target) in
     let here : IsTrueIn now l = subst (IsTrueIn now) is_l (assign_here w step.literal inside) in
     guards_more w now s.watches.watched.items o q (length s.clauses.items) ready.watched.slots
-    (λ u. guard_later w w now s.watches.watched.items u (λ x b is. assign_keeps w step.literal x b unset is) (ready.guarded target shape.undone shape.target_decided u))
+    (λ u. guard_later w w now s.watches.watched.items u (λ x b is. assign_keeps w step.literal x b unset is) (ready.guarded target shape.undone shape.decision u))
     (λ k e f. absurd (not_false w l known.forces.unset (subst (IsFalse w) (watches.first k e) f)))
     (λ k e f. subst (OtherIsTrue now) (sym (watches.second k e)) here)
 
@@ -137,7 +175,7 @@ pub record TakenOver (before : State) (clause : List Lit) (after : State) : Type
 -- the cut, the new clause and the asserted literal, by the lists that they leave
 pub learned :
     (s after : State) (l : Lit) (rest : List Lit) (step : Step) (target : ℕ) (o q : Option Lit)
-    → Ready s → All (λ k. k.var < length s.inputs.items) (l ∷ rest) → Shape s.trail.items (length s.inputs.items) 0 l rest target
+    → Ready s → All (λ k. k.var < length s.inputs.items) (l ∷ rest) → Teaches s l rest target
     → step.literal ≡ l → step.reason ≡ Some (length s.clauses.items) → length s.clauses.items + 1 < 2 ^ 32
     → after.clauses.items ≡ s.clauses.items ++ (l ∷ rest) ∷ []
     → after.inputs.items ≡ s.inputs.items
@@ -155,7 +193,7 @@ learned s after l rest step target o q ready within shape is_l reason room claus
     let kept : List Step = take target s.trail.items in
     let w : List (Option Bool) = values_at n s.trail.items target in
     let all : List (List Lit) = s.clauses.items ++ (l ∷ rest) ∷ [] in
-    let known : Asserts s l rest target = asserts s l rest target ready.sound shape in
+    let known : Asserts s l rest target = asserts s l rest target shape in
     let watches : LearntWatches s l target o q = learnt_watches s l rest target o q shape known fits_first in
     let fits : TrailFits s.inputs.items all none kept =
     fits_more s.inputs.items s.clauses.items (l ∷ rest) none kept (fits_take s.inputs.items s.clauses.items none target s.trail.items ready.sound.trail) in
@@ -172,13 +210,15 @@ learned s after l rest step target o q ready within shape is_l reason room claus
       unset = unset;
       cause = subst (λ (r : Option ℕ). MatchOption r (IsInput s.inputs.items step.literal) (IsImplied all w step.literal)) (sym reason) (there, forces);
     } in
-    let are_open : DecisionsAreOpen all none kept =
-    open_more s.inputs.items s.clauses.items (l ∷ rest) l none kept (fits_take s.inputs.items s.clauses.items none target s.trail.items ready.sound.trail)
-    known.forces.there known.forces.unset (open_take s.clauses.items none target s.trail.items ready.are_open) in
+    let w' : List (Option Bool) = values_after none kept in
+    let are_settled : DecisionsAreSettled all none kept =
+    open_more s.clauses.items (l ∷ rest) none kept
+    (λ i h none'. learnt_settled s l rest target i ready shape h none')
+    (open_take s.clauses.items none target s.trail.items ready.are_settled) in
     let d : Step = record { literal = shape.undone; reason = None } in
     let less : left s.inputs.items none (kept ++ step ∷ []) + 1 ≤ left s.inputs.items none s.trail.items =
-    left_backjump_at s.inputs.items s.clauses.items none s.trail.items target d step number ready.sound.trail shape.target_decided.inside (shape.target_decided.reason d) reason input inside unset in
-    let le : target ≤ length s.trail.items = omega (arith, shape.target_decided.inside) in
+    left_backjump_at s.inputs.items s.clauses.items none s.trail.items target d step number ready.sound.trail shape.decision.inside (shape.decision.reason d) reason input inside unset in
+    let le : target ≤ length s.trail.items = omega (arith, shape.decision.inside) in
     let short : length kept ≡ target = length-take-le target s.trail.items le in
     let same : passed after after.head ≡ w =
     ap (passed after) head ∙ ap (λ (k : List Bool). values_at (length k) after.trail.items target) inputs
@@ -193,9 +233,9 @@ learned s after l rest step target o q ready within shape is_l reason room claus
               (fits_push s.inputs.items all none kept step fits step_fits)
               (All-push (λ (c : List Lit). All (λ (k : Lit). k.var < n) c) s.clauses.items (l ∷ rest) ready.sound.within within)
               (omega (arith, room, length_push s.clauses.items (l ∷ rest))) ready.sound.variables;
-          are_open =
+          are_settled =
               open_made after s.inputs.items all (kept ++ step ∷ []) inputs clauses trail
-              (open_push all none kept step are_open (subst (λ (r : Option ℕ). MatchOption r (NoneFalsified all (assign w step.literal)) (λ _. Unit {0})) (sym reason) tt));
+              (open_push all none kept step are_settled (subst (λ (r : Option ℕ). MatchOption r (All (IsSettled w') all) (λ _. Unit {0})) (sym reason) tt));
           watched = watched;
           guarded =
               guarded_made after s.inputs.items (kept ++ step ∷ []) ((s.watches.watched.items ++ o ∷ []) ++ q ∷ []) inputs trail slots
@@ -233,7 +273,7 @@ learned_by s mid pushed after (l ∷ rest) step target ready some taught cut mid
     ∙ ap (λ (k : List Bool). values_after (replicate (length k) None) (take target s.trail.items)) cut.inputs in
     let c : after.clauses.items ≡ s.clauses.items ++ (l ∷ rest) ∷ [] = push.clauses ∙ clauses ∙ ap (λ k. k ++ (l ∷ rest) ∷ []) cut.clauses in
     let i : after.inputs.items ≡ s.inputs.items = push.inputs ∙ inputs ∙ cut.inputs in
-    learned s after l rest step target added.first added.second ready taught.within taught.shape first reason room
+    learned s after l rest step target added.first added.second ready taught.within taught.teaches first reason room
     c i
     (push.trail ∙ ap (λ k. k ++ step ∷ []) (trail ∙ cut.trail))
     (push.values ∙ ap (λ k. assign k step.literal) (values ∙ now))
@@ -262,7 +302,7 @@ cut_places s mid clause target ready taught cut = λ k d h.
 pub cut_room : (s mid : State) (clause : List Lit) (target : ℕ) → Ready s → 0 < length clause → IsTaught s clause target → Cut s target mid → length mid.trail.items < vec_capacity mid.trail
 cut_room s mid [] target ready some taught cut = absurd (omega arith)
 cut_room s mid (l ∷ rest) target ready some taught cut =
-    let h : target < length s.trail.items = taught.shape.target_decided.inside in
+    let h : target < length s.trail.items = taught.teaches.decision.inside in
     let short : length (take target s.trail.items) ≡ target = length-take-le target s.trail.items (omega (arith, h)) in
     omega (arith, h, short, ap length cut.trail, cut.capacity, ready.room, unset_and_steps s ready.sound)
 

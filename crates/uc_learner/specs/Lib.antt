@@ -2,6 +2,8 @@ pub mod Trail
 pub mod Analysis
 pub mod Sound
 pub mod Walked
+pub mod Teaching
+pub mod Accepted
 pub mod Learns
 pub mod ClauseStates
 pub mod Guarded

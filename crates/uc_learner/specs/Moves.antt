@@ -3,7 +3,7 @@ use Rattle.std.specs.Prelude.{◌≡◌, ℕ, ◌+◌, ◌<◌, ◌≤◌, Bool,
 use Rattle.uc_circuit.specs.Values.{assign}
 use Rattle.uc_learner.specs.declared.state.State.{State}
 use Rattle.uc_learner.specs.declared.state.Step.{Step}
-use Rattle.uc_learner.specs.Trail.{DecisionsAreOpen, one_if_free, left}
+use Rattle.uc_learner.specs.Trail.{DecisionsAreSettled, one_if_free, left}
 use Rattle.uc_learner.specs.Sound.{Sound, AreWatched, HasRoom}
 use Rattle.uc_learner.specs.Guarded.{DecisionsAreGuarded}
 use Rattle.uc_learner.specs.ClauseStates.{AllSettled, ConflictIs}
@@ -33,10 +33,10 @@ abbrev pub unset_count : List (Option Bool) → ℕ
 unset_count [] = 0
 unset_count (v ∷ values) = one_if_free true v + unset_count values
 
--- between two steps: propagation was complete before each decision, and no clause was false just after it
+-- between two steps: before each decision propagation was complete, and each clause settled
 pub record Ready (s : State) : Type 0 where
   pub sound : Sound s
-  pub are_open : DecisionsAreOpen s.clauses.items (replicate (length s.inputs.items) None) s.trail.items
+  pub are_settled : DecisionsAreSettled s.clauses.items (replicate (length s.inputs.items) None) s.trail.items
   pub watched : AreWatched s
   pub guarded : DecisionsAreGuarded (length s.inputs.items) s.trail.items s.watches.watched.items
   pub room : HasRoom s

@@ -1,7 +1,7 @@
 -- The trail: the literals that were made true, in order, each decided or implied by a clause.
 use Rattle.std.specs.Prelude.{◌≡◌, ℕ, ◌+◌, ◌^◌, ◌<◌, Bool, true, false, List, [], ◌∷◌, Option, None, Some, length, take, replicate, All, slice_index_or, MatchOption}
 use Rattle.uc_circuit.specs.declared.literal.Lit.{Lit}
-use Rattle.uc_circuit.specs.Values.{assign, IsFalsified, HasNoValue, Forces}
+use Rattle.uc_circuit.specs.Values.{assign, IsSettled, HasNoValue, Forces}
 use Rattle.uc_learner.specs.declared.state.Step.{Step}
 
 -- the values after the steps
@@ -32,16 +32,12 @@ abbrev pub TrailFits : List Bool → List (List Lit) → List (Option Bool) → 
 TrailFits inputs clauses values [] = Unit {0}
 TrailFits inputs clauses values (s ∷ rest) = StepFits inputs clauses values s × TrailFits inputs clauses (assign values s.literal) rest
 
--- no clause is false
-abbrev pub NoneFalsified : List (List Lit) → List (Option Bool) → Type 0
-NoneFalsified clauses values = All (λ c. IsFalsified values c → ⊥) clauses
-
--- no clause is false just after a decision
-abbrev pub DecisionsAreOpen : List (List Lit) → List (Option Bool) → List Step → Type 0
-DecisionsAreOpen clauses values [] = Unit {0}
-DecisionsAreOpen clauses values (s ∷ rest) =
-    MatchOption s.reason (NoneFalsified clauses (assign values s.literal)) (λ _. Unit {0})
-    × DecisionsAreOpen clauses (assign values s.literal) rest
+-- each clause was settled just before a decision
+abbrev pub DecisionsAreSettled : List (List Lit) → List (Option Bool) → List Step → Type 0
+DecisionsAreSettled clauses values [] = Unit {0}
+DecisionsAreSettled clauses values (s ∷ rest) =
+    MatchOption s.reason (All (IsSettled values) clauses) (λ _. Unit {0})
+    × DecisionsAreSettled clauses (assign values s.literal) rest
 
 -- how many inputs have no value
 abbrev pub one_if_free : Bool → Option Bool → ℕ

@@ -8,7 +8,7 @@ ghost use Rattle.uc_learner.specs.Answered.{NoneEmpty, NoneEmptyAfter, IsEmptyAt
 ghost use Rattle.uc_learner.specs.Learners.{input_flags};
 ghost use Rattle.uc_learner.specs.Roamed.{Turned, Refreshed, Roamed, Spares};
 
-use crate::analysis::Analysis;
+use crate::acceptance::Lesson;
 use crate::state::{State, Step};
 use std::alloc::{AllocError, Global};
 use std::mem;
@@ -125,9 +125,9 @@ impl State {
     ghost use Rattle.uc_learner.specs.declared.learn.Search.TheVariants.{Candidate, Refuted};
     ghost use Rattle.uc_learner.specs.declared.learn.LearnError.TheVariants.{Budget};
 
-    /// Takes over a learnt clause, and asserts its first literal behind the steps that stay. The marked variables took part
-    /// in the conflict.
-    fn learn(&mut self, clause: &[Lit], marked: &[bool], target: usize) -> Result<(), AllocError>
+    /// Takes over a learnt clause, and asserts its first literal behind the steps that stay. The variables took part in the
+    /// conflict.
+    fn learn(&mut self, clause: &[Lit], variables: &[u32], target: usize) -> Result<(), AllocError>
         requires ready { Ready self.old }
         requires some { 0 < length clause.now }
         requires taught { IsTaught self.old clause.now target }
@@ -143,7 +143,7 @@ impl State {
         self.cut(target);
         self.watches.add(clause)?;
         self.clauses.push(copy)?;
-        self.preferences.raise(marked);
+        self.preferences.raise(variables);
         self.push(Step {
             literal: asserted,
             reason: Some(number as u32),
@@ -182,19 +182,18 @@ impl State {
         ensures ok { IfOk result (λ refuted. Concluded (input_flags (known_now (M.opened meter.old) log.old).circuit) self.old log.old (known_now (M.opened meter.old) log.new) self.new log.new refuted) }
     {
         let alloc = *self.clauses.allocator();
-        let Analysis {
-            marked,
-            hints,
+        let Lesson {
             kept,
+            hints,
             target,
-            ..
-        } = self.analyze(alloc, conflict)?;
+            variables,
+        } = self.teach(alloc, conflict)?;
         let clause = Clause::from_slice(alloc, kept.as_slice())?;
         record(terms, log, meter, clause, Items::from_vec(hints))?;
         if kept.is_empty() {
             return Ok(true);
         }
-        self.learn(kept.as_slice(), marked.as_slice(), target)?;
+        self.learn(kept.as_slice(), variables.as_slice(), target)?;
         Ok(false)
     }
 

@@ -9,18 +9,22 @@
 //! begins with its values.
 //!
 //! A variable is decided by its score, which rises with each conflict that it takes part in, and gets the value that it had last. A conflict
-//! teaches the clause of the last decision, not that of the first unique implication point. There are no further clauses and no deletion.
+//! teaches the clause of the first unique implication point that may be decided, without literals that follow from others. It is proposed
+//! without proof, and taken where the log's check accepts it by its hints and a look at the trail finds where it forces its first literal.
+//! Else the conflict teaches the clause of the last decision. There is no deletion.
 //!
-//! In the second part a decision takes a step for each input. In both it takes one for each clause without two different literals, and a
-//! conflict takes one for each variable and for each step of the trail, besides what propagation takes.
+//! In the second part a decision takes a step for each input. In both it takes one for each clause without two different literals. A
+//! conflict takes, besides propagation, a step for each literal that is resolved, and some memory for each variable, which is made anew.
 #![tactic(auto)]
 
+mod acceptance;
 mod analysis;
 mod learn;
 mod learner;
 mod order;
 mod preferences;
 mod propagation;
+mod proposal;
 mod state;
 
 pub use learn::{LearnError, Search};

@@ -9,11 +9,17 @@ pub struct Preferences {
     inputs: Vec<u32>,
     /// The value that each variable had last.
     phases: Vec<bool>,
+    /// The place of each variable on the trail, where it has a value.
+    places: Vec<usize>,
+    /// The place of the first decision on the trail. Where there is none, above all places.
+    root: usize,
     /// How often and how lately each variable took part in a conflict.
     order: Order,
     /// Whether any variable may be decided.
     is_free: bool,
-    /// How many conflicts there were since the search began anew.
+    /// How many conflicts there were.
+    seen: u64,
+    /// How many there were since the search began anew.
     conflicts: u64,
     /// Counts up where the lowest bit of it is the number below.
     stage: u64,
@@ -24,13 +30,19 @@ pub struct Preferences {
 /// How many conflicts the shortest wait for a new beginning takes.
 const UNIT: u64 = 256;
 
+/// In the first conflicts inputs alone are decided, which is best where a few of them decide all.
+const FIRST: u64 = 32;
+
 impl Preferences {
     pub fn new(alloc: Global) -> Preferences {
         Preferences {
             inputs: Vec::new(alloc),
             phases: Vec::new(alloc),
+            places: Vec::new(alloc),
+            root: usize::MAX,
             order: Order::new(alloc),
             is_free: false,
+            seen: 0,
             conflicts: 0,
             stage: 1,
             patience: 1,
@@ -51,6 +63,7 @@ impl Preferences {
             self.inputs.push(number)?;
         }
         self.phases.push(false)?;
+        self.places.push(0)?;
         self.order.add_variable()
     }
 
@@ -58,8 +71,9 @@ impl Preferences {
         self.inputs.as_slice()
     }
 
+    /// Whether the best of all variables is decided, and not that of the inputs.
     pub fn is_free(&self) -> bool {
-        self.is_free
+        self.is_free && self.seen >= FIRST
     }
 
     /// Whether any variable may be decided from now on.
@@ -95,6 +109,37 @@ impl Preferences {
         }
     }
 
+    /// For each variable its place on the trail. Of a variable without a value it tells nothing.
+    pub fn places(&self) -> &[usize] {
+        self.places.as_slice()
+    }
+
+    pub fn place(&self, variable: u32) -> usize {
+        self.places.get(variable as usize).copied().unwrap_or(0)
+    }
+
+    /// How many steps stand before the first decision. Where there is none, more than there are steps.
+    pub fn root(&self) -> usize {
+        self.root
+    }
+
+    /// Notes where the variable stands on the trail.
+    pub fn note_step(&mut self, variable: u32, place: usize, is_decision: bool) {
+        if let Some(slot) = self.places.get_mut(variable as usize) {
+            *slot = place;
+        }
+        if is_decision && place < self.root {
+            self.root = place;
+        }
+    }
+
+    /// Notes that so many steps stay.
+    pub fn note_cut(&mut self, steps: usize) {
+        if steps <= self.root {
+            self.root = usize::MAX;
+        }
+    }
+
     pub fn score(&self, variable: u32) -> u64 {
         self.order.score(variable)
     }
@@ -123,12 +168,11 @@ impl Preferences {
     }
 
     /// Raises the scores of the variables that took part in a conflict. Later conflicts weigh more.
-    pub fn raise(&mut self, marked: &[bool]) {
-        for (number, is_marked) in marked.iter().enumerate() {
-            if *is_marked && let Ok(variable) = u32::try_from(number) {
-                self.order.raise(variable);
-            }
+    pub fn raise(&mut self, variables: &[u32]) {
+        for variable in variables {
+            self.order.raise(*variable);
         }
+        self.seen = self.seen.saturating_add(1);
         self.conflicts = self.conflicts.saturating_add(1);
         self.order.end_conflict();
     }

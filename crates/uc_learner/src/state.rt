@@ -149,8 +149,11 @@ impl State {
         requires room { length self.old.trail.items < vec_capacity self.old.trail }
         ensures { Pushed self.old step self.new }
     {
+        let place = self.trail.len();
         self.trail.push_reserved(step);
         self.values[step.literal.var as usize] = Some(!step.literal.neg);
+        self.preferences
+            .note_step(step.literal.var, place, step.reason.is_none());
         self.preferences.pass_over(self.values.as_slice());
     }
 
@@ -170,6 +173,7 @@ impl State {
             }
         }
         self.head = self.trail.len();
+        self.preferences.note_cut(target);
     }
 }
 

@@ -19,7 +19,7 @@ const MOST_LINKED: u128 = 100;
 pub(crate) fn all_run(commands: &[Command]) -> bool
     ensures { result ≡ list_all runs commands.now }
 {
-    commands.iter().all(runs)
+    commands.iter().all(|command| runs(command))
 }
 
 /// The first word of the first command that does not run.

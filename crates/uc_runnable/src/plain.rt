@@ -35,7 +35,7 @@ fn is_plain_decl(decl: &Decl) -> bool
 fn are_plain(decls: &[Decl]) -> bool
     ensures { result ≡ list_all is_plain_decl decls.now }
 {
-    decls.iter().all(is_plain_decl)
+    decls.iter().all(|decl| is_plain_decl(decl))
 }
 
 /// Whether the declarations of a module are of the fragment that runs. It takes no memory.
