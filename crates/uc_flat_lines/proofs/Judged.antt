@@ -11,6 +11,9 @@ use Rattle.uc_flat.specs.declared.flat.Flat.{Flat}
 use Rattle.uc_flat.specs.declared.flat.Formula.{Formula}
 use Rattle.uc_flat.specs.Drawn.{listed_if}
 use Rattle.uc_flat_copies.specs.declared.trace.Start.{Start}
+use Rattle.uc_ops.specs.declared.node.Node.{Node}
+use Rattle.uc_obligations.specs.declared.unrolling.Unrolling.{Unrolling}
+use Rattle.uc_obligations.specs.Unrolling.{IsUnrolled}
 use Rattle.uc_flat_lines.specs.declared.line.FlatLine.{FlatLine}
 use Rattle.uc_flat_lines.specs.declared.line.FlatVerdict.{FlatVerdict}
 use Rattle.uc_flat_lines.specs.declared.line.FlatVerdict.TheVariants.{Passed, Failed, Undef}
@@ -144,3 +147,7 @@ lines_last f start budget a b c depth n ls ms all h low high g is =
 -- the lines of a run that began so
 pub begun_as : (f : Flat) (own start : Start) (budget a b : ℕ) (lines : List (ℕ × ℕ)) (ls : List FlatLine) → own ≡ start → AreFlatJudged f own budget a b lines ls → AreFlatJudged f start budget a b lines ls
 begun_as f own start budget a b lines ls is h = subst (λ s. AreFlatJudged f s budget a b lines ls) is h
+
+-- so many steps, however many they are
+pub unrolled_to : (f : Flat) (nodes : List Node) (n depth : ℕ) (u : Unrolling) → n ≡ depth → IsUnrolled f nodes n u → IsUnrolled f nodes depth u
+unrolled_to f nodes n depth u e h = subst (λ k. IsUnrolled f nodes k u) e h
