@@ -4,3 +4,4 @@ pub mod Judged
 pub mod Below
 pub mod Supplied
 pub mod Alone
+pub mod Gathering

@@ -12,7 +12,9 @@ ghost use Rattle.uc_flat_lines.specs.Lines.{speaks_of_one, lines_below, step_lin
 ghost use Rattle.uc_obligations.specs.Unrolling.{IsUnrolled};
 
 use crate::deciding::judge;
+use crate::joint::none_refuted;
 use crate::line::FlatLine;
+use crate::passing::all_passed;
 use std::alloc::{AllocError, Global};
 use uc_flat::Flat;
 use uc_flat_copies::Start;
@@ -95,8 +97,36 @@ fn linked(
     Ok(run)
 }
 
-/// The lines after so many steps.
+/// The lines after so many steps. Their goals are asked at once first, and one by one where that does not tell that none is refuted.
 fn judge_step<M: Meter>(
+    alloc: Global,
+    terms: &mut Terms,
+    f: &Flat,
+    run: &Unrolling,
+    steps: u32,
+    budget: u64,
+    meter: &mut M,
+) -> Result<Items<FlatLine>, AllocError>
+    requires sound { IsSound f.now }
+    requires own { ReadsOwnTypes f.now }
+    requires valid { AllValid (constant_types f.now) }
+    requires unrolled { IsUnrolled f.now terms.old steps run.now }
+    requires some { 1 ≤ budget }
+    requires total { M.total meter.old < 2 ^ 126 + 2 ^ 98 }
+    ensures judged { IfOk result (AreFlatJudged f.now run.now.start budget (M.total meter.old) (M.total meter.new) (step_lines f.now steps)) }
+    ensures later { M.total meter.old ≤ M.total meter.new }
+    ensures grown { Grows terms.old terms.new }
+{
+    if none_refuted(alloc, terms, f, run, steps, budget) {
+        let lines = all_passed(alloc, f, steps)?;
+        return Ok(lines);
+    }
+    let lines = judge_each(alloc, terms, f, run, steps, budget, meter)?;
+    Ok(lines)
+}
+
+/// The lines after so many steps, each by a question of its own.
+fn judge_each<M: Meter>(
     alloc: Global,
     terms: &mut Terms,
     f: &Flat,
