@@ -5,3 +5,4 @@ pub mod Below
 pub mod Supplied
 pub mod Alone
 pub mod Gathering
+pub mod Together

@@ -71,7 +71,7 @@ fn joint_goal(
 }
 
 /// A term that is true where the given one is and no goal of a formula is.
-fn without_goals(
+pub(crate) fn without_goals(
     alloc: Global,
     terms: &mut Terms,
     f: &Flat,
@@ -131,7 +131,7 @@ fn without_goal(
 }
 
 /// Whether it is found that no model makes a goal true.
-fn has_no_model(alloc: Global, terms: &Terms, goal: TermId, budget: u64) -> bool
+pub(crate) fn has_no_model(alloc: Global, terms: &Terms, goal: TermId, budget: u64) -> bool
     requires there { goal < length terms.now }
     requires boolean { type_at terms.now goal ≡ Bool }
     requires known { IsKnownBySome terms.now goal }
@@ -156,7 +156,6 @@ fn is_none(found: Result<Option<Model>, FlatWhy>) -> bool
 {
     match found {
         Ok(None) => true,
-        Ok(Some(_)) => false,
-        Err(_) => false,
+        Ok(Some(_)) | Err(_) => false,
     }
 }

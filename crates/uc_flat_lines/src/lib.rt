@@ -11,6 +11,7 @@ mod joint;
 mod judging;
 mod law;
 mod line;
+mod moments;
 mod passing;
 mod solving;
 

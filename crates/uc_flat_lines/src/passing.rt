@@ -1,15 +1,35 @@
 //! Lines that passed.
 
-ghost use Rattle.std.specs.Prelude.{ℕ, ◌<◌, length, slice_get, map, IfOk};
+ghost use Rattle.std.specs.Prelude.{ℕ, ◌+◌, ◌<◌, ◌≤◌, length, slice_get, map, IfOk};
 ghost use Rattle.uc_flat.specs.Drawn.{listed_if};
 ghost use Rattle.uc_flat_copies.specs.declared.trace.Start.{Start as AStart};
-ghost use Rattle.uc_flat_lines.specs.Lines.{speaks_of_one, step_lines, AreFlatJudged};
+ghost use Rattle.uc_flat_lines.specs.Lines.{speaks_of_one, lines_below, step_lines, AreFlatJudged};
 ghost use Rattle.uc_flat_lines.specs.Joint.{AreUnrefuted, IsUnrefuted};
 
 use crate::line::{FlatLine, FlatVerdict};
 use std::alloc::{AllocError, Global};
 use uc_flat::Flat;
 use uc_items::Items;
+
+/// The lines from an initial state after 0, 1 and so on up to `depth` steps, where no trace refutes a formula.
+pub(crate) fn passed_up_to(
+    alloc: Global,
+    f: &Flat,
+    depth: u32,
+) -> Result<Items<FlatLine>, AllocError>
+    ensures { IfOk result (λ ls. (start : AStart) → ((n : ℕ) → n ≤ depth → AreUnrefuted f.now start n) → (budget at : ℕ) → AreFlatJudged f.now start budget at at (lines_below f.now (depth + 1)) ls) }
+{
+    let mut lines = Items::new(alloc);
+    for steps in 0..depth {
+        let _room = lines.len();
+        let more = all_passed(alloc, f, steps)?;
+        lines.append(more)?;
+    }
+    let _room = lines.len();
+    let last = all_passed(alloc, f, depth)?;
+    lines.append(last)?;
+    Ok(lines)
+}
 
 /// The lines after so many steps, where no trace refutes a formula.
 pub(crate) fn all_passed(
