@@ -5,17 +5,17 @@ use Rattle.uc_obligations.proofs.Unrollings.{unrolled_grows}
 use Rattle.uc_flat_lines.proofs.Gathering.{all_hit}
 use Rattle.uc_flat_lines.proofs.joint.joint_goal.Goals as goal
 
-pub without_goals-none-requires-clause-unrolled : goal.without_goals-none-requires-clause-unrolled
-without_goals-none-requires-clause-unrolled c = unrolled_grows c.args.f.now _ _ c.args.steps c.args.run.now c.in_ok-all.ensures.grown c.requires.unrolled
+pub without_goals-requires-clause-unrolled : goal.without_goals-requires-clause-unrolled
+without_goals-requires-clause-unrolled c = unrolled_grows c.args.f.now _ _ c.args.steps c.args.run.now c.in_ok-all.ensures.grown c.requires.unrolled
 
-pub without_goals-none-requires-clause-given : goal.without_goals-none-requires-clause-given
-without_goals-none-requires-clause-given c = truth_is _ _ _ _ c.in_ok-all.ensures.ok
+pub without_goals-requires-clause-given : goal.without_goals-requires-clause-given
+without_goals-requires-clause-given c = truth_is _ _ _ _ c.in_ok-all.ensures.ok
 
-pub negated-any-requires-clause-there : goal.negated-any-requires-clause-there
-negated-any-requires-clause-there c = c.in_ok-none.ensures.truth.there
+pub negated-requires-clause-there : goal.negated-requires-clause-there
+negated-requires-clause-there c = c.in_ok-none.ensures.truth.there
 
-pub negated-any-requires-clause-boolean : goal.negated-any-requires-clause-boolean
-negated-any-requires-clause-boolean c = c.in_ok-none.ensures.truth.typed
+pub negated-requires-clause-boolean : goal.negated-requires-clause-boolean
+negated-requires-clause-boolean c = c.in_ok-none.ensures.truth.typed
 
 pub returns-clause-truth : goal.returns-clause-truth
 returns-clause-truth c = truth_is _ _ _ _ c.in_ok-any.ensures.ok

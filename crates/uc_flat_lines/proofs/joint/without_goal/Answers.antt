@@ -18,20 +18,20 @@ returns-then-formulas-k-ne1-clause-missed c =
 pub returns-then-formulas-k-ne1-clause-known : goal.returns-then-formulas-k-ne1-clause-known
 returns-then-formulas-k-ne1-clause-known c = λ reads h. h
 
-pub goal-own-requires-clause-single : goal.goal-own-requires-clause-single
-goal-own-requires-clause-single c = single_is c.args.f.now c.args.k _ (one_of c.args.f.now c.args.k c.index-formulas-k.result _ c.as_slice-formulas.ensures c.requires.there) c.if-formulas-k-ne1.false
+pub goal-requires-clause-single : goal.goal-requires-clause-single
+goal-requires-clause-single c = single_is c.args.f.now c.args.k _ (one_of c.args.f.now c.args.k c.index-formulas-k.result _ c.as_slice-formulas.ensures c.requires.there) c.if-formulas-k-ne1.false
 
-pub negated-holds-requires-clause-there : goal.negated-holds-requires-clause-there
-negated-holds-requires-clause-there c = c.in_ok-own.ensures.truth.there
+pub negated-requires-clause-there : goal.negated-requires-clause-there
+negated-requires-clause-there c = c.in_ok-own.ensures.truth.there
 
-pub negated-holds-requires-clause-boolean : goal.negated-holds-requires-clause-boolean
-negated-holds-requires-clause-boolean c = c.in_ok-own.ensures.truth.typed
+pub negated-requires-clause-boolean : goal.negated-requires-clause-boolean
+negated-requires-clause-boolean c = c.in_ok-own.ensures.truth.typed
 
-pub both-all-requires-clause-there : goal.both-all-requires-clause-there
-both-all-requires-clause-there c = (both_there _ _ _ _ _ _ c.requires.given c.in_ok-own.ensures.grown c.in_ok-holds.ensures.ok).0
+pub both-requires-clause-there : goal.both-requires-clause-there
+both-requires-clause-there c = (both_there _ _ _ _ _ _ c.requires.given c.in_ok-own.ensures.grown c.in_ok-holds.ensures.ok).0
 
-pub both-all-requires-clause-boolean : goal.both-all-requires-clause-boolean
-both-all-requires-clause-boolean c = (both_there _ _ _ _ _ _ c.requires.given c.in_ok-own.ensures.grown c.in_ok-holds.ensures.ok).1
+pub both-requires-clause-boolean : goal.both-requires-clause-boolean
+both-requires-clause-boolean c = (both_there _ _ _ _ _ _ c.requires.given c.in_ok-own.ensures.grown c.in_ok-holds.ensures.ok).1
 
 pub returns-clause-truth : goal.returns-clause-truth
 returns-clause-truth c = truth_is _ _ _ _ c.in_ok-all.ensures.ok

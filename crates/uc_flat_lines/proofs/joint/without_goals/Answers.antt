@@ -7,14 +7,14 @@ use Rattle.uc_flat_lines.proofs.joint.without_goals.Goals as goal
 pub loop-k-init : goal.loop-k-init
 loop-k-init c = record { gathered = gathered_begin c.args.f.now c.args.run.now.start c.args.steps c.args.terms.now c.args.given c.requires.given; known = λ reads h. h }
 
-pub without_goal-more-requires-clause-unrolled : goal.without_goal-more-requires-clause-unrolled
-without_goal-more-requires-clause-unrolled c = unrolled_grows c.args.f.now _ _ c.args.steps c.args.run.now c.loop-k.invariant.gathered.grown c.requires.unrolled
+pub without_goal-requires-clause-unrolled : goal.without_goal-requires-clause-unrolled
+without_goal-requires-clause-unrolled c = unrolled_grows c.args.f.now _ _ c.args.steps c.args.run.now c.loop-k.invariant.gathered.grown c.requires.unrolled
 
-pub without_goal-more-requires-clause-there : goal.without_goal-more-requires-clause-there
-without_goal-more-requires-clause-there c = omega (arith, c.loop-k-test.true, c.len-count.ensures)
+pub without_goal-requires-clause-there : goal.without_goal-requires-clause-there
+without_goal-requires-clause-there c = omega (arith, c.loop-k-test.true, c.len-count.ensures)
 
-pub without_goal-more-requires-clause-given : goal.without_goal-more-requires-clause-given
-without_goal-more-requires-clause-given c = c.loop-k.invariant.gathered.truth
+pub without_goal-requires-clause-given : goal.without_goal-requires-clause-given
+without_goal-requires-clause-given c = c.loop-k.invariant.gathered.truth
 
 pub loop-k-preserved : goal.loop-k-preserved
 loop-k-preserved c = record {

@@ -15,8 +15,8 @@ loop-steps-init c = record {
   gathered = moments_begin c.args.f.now _ _ _ (truth_is _ _ _ _ c.in_ok-all.ensures.ok) c.in_ok-all.ensures.known;
 }
 
-pub without_goals-more-requires-clause-given : goal.without_goals-more-requires-clause-given
-without_goals-more-requires-clause-given c = c.loop-steps.invariant.gathered.truth
+pub without_goals-requires-clause-given : goal.without_goals-requires-clause-given
+without_goals-requires-clause-given c = c.loop-steps.invariant.gathered.truth
 
 pub advance-requires-clause-unrolled : goal.advance-requires-clause-unrolled
 advance-requires-clause-unrolled c = unrolled_grows c.args.f.now _ _ c.loop-steps.steps _ c.in_ok-more.ensures.grown c.loop-steps.invariant.run
@@ -29,17 +29,17 @@ loop-steps-preserved c = record {
       (moments_turn c.args.f.now _ c.loop-steps.steps _ _ _ _ _ c.in_ok-run-2.ensures.grown c.in_ok-more.ensures.truth c.in_ok-more.ensures.kept c.in_ok-more.ensures.missed c.in_ok-more.ensures.known c.loop-steps.invariant.gathered);
 }
 
-pub without_goals-last-requires-clause-unrolled : goal.without_goals-last-requires-clause-unrolled
-without_goals-last-requires-clause-unrolled c = unrolled_to c.args.f.now _ c.loop-steps.steps c.args.depth _ (omega (arith, c.loop-steps.auto, c.loop-steps-test.false)) c.loop-steps.invariant.run
+pub without_goals-requires-2-clause-unrolled : goal.without_goals-requires-2-clause-unrolled
+without_goals-requires-2-clause-unrolled c = unrolled_to c.args.f.now _ c.loop-steps.steps c.args.depth _ (omega (arith, c.loop-steps.auto, c.loop-steps-test.false)) c.loop-steps.invariant.run
 
-pub without_goals-last-requires-clause-given : goal.without_goals-last-requires-clause-given
-without_goals-last-requires-clause-given c = c.loop-steps.invariant.gathered.truth
+pub without_goals-requires-2-clause-given : goal.without_goals-requires-2-clause-given
+without_goals-requires-2-clause-given c = c.loop-steps.invariant.gathered.truth
 
-pub negated-any-requires-clause-there : goal.negated-any-requires-clause-there
-negated-any-requires-clause-there c = c.in_ok-last.ensures.truth.there
+pub negated-requires-clause-there : goal.negated-requires-clause-there
+negated-requires-clause-there c = c.in_ok-last.ensures.truth.there
 
-pub negated-any-requires-clause-boolean : goal.negated-any-requires-clause-boolean
-negated-any-requires-clause-boolean c = c.in_ok-last.ensures.truth.typed
+pub negated-requires-clause-boolean : goal.negated-requires-clause-boolean
+negated-requires-clause-boolean c = c.in_ok-last.ensures.truth.typed
 
 pub returns-clause-truth : goal.returns-clause-truth
 returns-clause-truth c = truth_is _ _ _ _ c.in_ok-any.ensures.ok
