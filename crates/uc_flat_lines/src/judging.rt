@@ -127,12 +127,7 @@ pub fn judge_linked<M: Meter>(
 }
 
 /// So many steps from any state.
-fn linked(
-    alloc: Global,
-    terms: &mut Terms,
-    f: &Flat,
-    depth: u32,
-) -> Result<Unrolling, AllocError>
+fn linked(alloc: Global, terms: &mut Terms, f: &Flat, depth: u32) -> Result<Unrolling, AllocError>
     requires sound { IsSound f.now }
     ensures run { IfOk result (λ u. IsUnrolled f.now terms.new depth u) }
     ensures start { IfOk result (λ u. u.start ≡ Anywhere) }

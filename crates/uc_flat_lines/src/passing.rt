@@ -32,11 +32,7 @@ pub(crate) fn passed_up_to(
 }
 
 /// The lines after so many steps, where no trace refutes a formula.
-pub(crate) fn all_passed(
-    alloc: Global,
-    f: &Flat,
-    steps: u32,
-) -> Result<Items<FlatLine>, AllocError>
+pub(crate) fn all_passed(alloc: Global, f: &Flat, steps: u32) -> Result<Items<FlatLine>, AllocError>
     ensures { IfOk result (λ ls. (start : AStart) → AreUnrefuted f.now start steps → (budget at : ℕ) → AreFlatJudged f.now start budget at at (step_lines f.now steps) ls) }
 {
     let count = f.formulas.len();

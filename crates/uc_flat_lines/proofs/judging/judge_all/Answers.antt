@@ -15,7 +15,7 @@ loop-steps-preserved g c = (
   c.in_ok-run-2.ensures.ok,
   c.in_ok-run-2.ensures.start ∙ c.loop-steps.invariant.1,
   lines_more c.args.f.now Initially c.args.budget _ _ _ c.loop-steps.steps _ _ _ c.loop-steps.invariant.2
-  (begun_as c.args.f.now _ Initially c.args.budget _ _ _ _ c.loop-steps.invariant.1 c.in_ok-more.ensures.judged) c.in_ok-append.ensures,
+      (begun_as c.args.f.now _ Initially c.args.budget _ _ _ _ c.loop-steps.invariant.1 c.in_ok-more.ensures.judged) c.in_ok-append.ensures,
 )
 
 pub returns-clause-judged : goal.returns-clause-judged
