@@ -517,9 +517,9 @@ module _ (system : System) (code : Module) (f : Flat) (d : IsFlatOf system code 
       (fit, any.no_choices, continues p ps fit h.goes_on)
 
   -- every state fits
-  all_fit : (p : FlatPosition) (ps : List FlatPosition) → IsState system (state_of p.cells) → Continues system i (state_of p.cells) [] (map position ps) []
+  all_fit : (p : FlatPosition) (ps : List FlatPosition) (first : List Site) → IsState system (state_of p.cells) → Continues system i (state_of p.cells) first (map position ps) []
       → (k : ℕ) (q : FlatPosition) → slice_get (p ∷ ps) k ≡ Some q → IsState system (state_of q.cells)
-  all_fit p ps fit goes k q at = states_fit system code f d i own shares (state_of p.cells) p.choices [] [] (map position ps) fit goes k (position q) (mapped_some position (p ∷ ps) k q at)
+  all_fit p ps first fit goes k q at = states_fit system code f d i own shares (state_of p.cells) p.choices first [] (map position ps) fit goes k (position q) (mapped_some position (p ∷ ps) k q at)
 
   -- the states of a copy that starts so, and that all of them fit
   record Stood (start : Start) (ps : List FlatPosition) : Type 0 where
@@ -528,8 +528,8 @@ module _ (system : System) (code : Module) (f : Flat) (d : IsFlatOf system code 
   stood : (start : Start) (steps : ℕ) (ps : List FlatPosition) → IsLinked f own start steps ps → Stood start ps
   unfolding IsRunListing
   stood start steps [] h = absurd (omega (arith, h.count))
-  stood Initially steps (p ∷ ps) h = let r = run_there steps p ps h in record { fits = all_fit p ps r.0 r.3 }
-  stood Anywhere steps (p ∷ ps) h = let r = links_there steps p ps h in record { fits = all_fit p ps r.0 r.2 }
+  stood Initially steps (p ∷ ps) h = let r = run_there steps p ps h in record { fits = all_fit p ps r.1 r.0 r.3 }
+  stood Anywhere steps (p ∷ ps) h = let r = links_there steps p ps h in record { fits = all_fit p ps [] r.0 r.2 }
 
   is_run : (steps : ℕ) (ps : List FlatPosition) → IsLinked f own Initially steps ps → IsRun system i (positions_of ps)
   is_run steps [] h = absurd (omega (arith, h.count))

@@ -107,6 +107,7 @@ fn ordered(alloc: Global, typed: TypedDesign) -> Result<Design, FrontError>
 }
 
 /// The same design, if it keeps the rules on control blocks.
+#[tactic(auto, using(crate::proofs::Controlled::keeps_seen, crate::proofs::Controlled::broken_seen))]
 fn controlled(design: Design, main: u32) -> Result<Design, FrontError>
     ensures same { IfOk result (λ d. d ≡ design) }
     ensures kept { IsOk result → KeepsControl (system_of design main) }
@@ -122,6 +123,7 @@ fn controlled(design: Design, main: u32) -> Result<Design, FrontError>
 }
 
 /// The design by reference, as reports look at it.
+#[tactic(auto, using(crate::proofs::Controlled::seen))]
 fn view_of(design: &Design, main: u32) -> DesignView<'_>
     ensures { described result.now ≡ system_of design.now main }
 {

@@ -70,3 +70,7 @@ commands_more system budget a b c commands k own command ls ms all h g is number
 -- how many lines are judged
 pub counted : (system : System) (budget a b n : ℕ) (lines : List Line) (ls : List LineResult) → AreJudged system budget a b lines ls → n ≡ length ls → n ≡ length lines
 counted system budget a b n lines ls h long = long ∙ sym (length-map ls (λ (l : LineResult). l.line)) ∙ ap length h.are
+
+-- all commands that are asked for
+pub commands_end : (system : System) (budget a b : ℕ) (commands : List Command) (k count : ℕ) (ls : List LineResult) → k ≡ count → AreJudged system budget a b (lines_in system 0 (take k commands)) ls → AreJudged system budget a b (lines_in system 0 (take count commands)) ls
+commands_end system budget a b commands k count ls is h = subst (λ n. AreJudged system budget a b (lines_in system 0 (take n commands)) ls) is h

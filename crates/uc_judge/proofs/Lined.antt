@@ -1,16 +1,21 @@
 -- Judged lines over cells are right lines of the report.
 use Rattle.std.proofs.Common.{◌≡◌, ℕ, zero, suc, ◌+◌, ◌*◌, ◌≤◌, List, [], ◌∷◌, ◌++◌, map, length, Bool, true, false, refl, sym, ap, ◌∙◌, subst, Option, Some, None, arith}
-use Rattle.std.specs.Prelude.{◌^◌, cond, count_by, slice_get, nat_eq}
+use Rattle.std.specs.Prelude.{◌^◌, cond, count_by, slice_get, nat_eq, nat_le}
 use Rattle.std.specs.List.{All}
 use Rattle.std.proofs.lemmas.Bool.Decides.{nat_tests}
 use Rattle.std.proofs.lemmas.List.{length-map}
 use Rattle.std.proofs.lemmas.List.Sums.{sum_by-append}
 use Rattle.std.proofs.lemmas.List.Elements.{All-nil, All-cons, All-head, All-tail, All-append, All-map}
+use Rattle.uc_syntax.specs.declared.place.Identifier.{Identifier}
+use Rattle.uc_syntax.specs.declared.declaration.WrittenRun.{WrittenRun}
+use Rattle.uc_syntax.specs.declared.declaration.WrittenRun.TheVariants.{Unroll, Induction, Verify}
 use Rattle.uc_syntax.specs.declared.declaration.Module.{Module}
-use Rattle.uc_meaning.specs.declared.line.At.TheVariants.{Base, Step}
+use Rattle.uc_values.proofs.Shapes.{and_true}
+use Rattle.uc_meaning.specs.declared.line.At.TheVariants.{Exactly, Base, Step}
 use Rattle.uc_meaning.specs.declared.line.Line.{Line}
 use Rattle.uc_meaning.specs.Lookup.{System}
-use Rattle.uc_meaning.specs.Lines.{lines_at, lines_from, all_judged, step_sites, induction_lines}
+use Rattle.uc_meaning.specs.Lines.{lines_at, lines_from, all_judged, step_sites, induction_lines, lines_of}
+use Rattle.uc_meaning.specs.Fragment.{most_steps}
 use Rattle.uc_flat.specs.declared.flat.Flat.{Flat}
 use Rattle.uc_flat.specs.declared.flat.Formula.{Formula}
 use Rattle.uc_flat.specs.Drawn.{listed_if}
@@ -26,10 +31,11 @@ use Rattle.uc_flat_laws.specs.FlatVerdictsLaws.{design_line, IsRightOf}
 use Rattle.uc_flat_laws.proofs.Judged.{order_holds, linked_hold, verdict_holds}
 use Rattle.uc_report.specs.declared.report.LineResult.{LineResult}
 use Rattle.uc_report.specs.Verdicts.{IsRightVerdict, is_out_of_budget, out_of_budget}
+use Rattle.uc_runnable.specs.Commands.{most_linked, is_linked, is_judged}
 use Rattle.uc_runnable.specs.Runnable.{RunsOver}
 use Rattle.uc_judge.specs.declared.lines.Moment.{Moment}
 use Rattle.uc_judge.specs.declared.lines.Moment.TheVariants.{Unrolled, Based, Linked}
-use Rattle.uc_judge.specs.Lines.{verdict_as, at_moment, start_of, line_as}
+use Rattle.uc_judge.specs.Lines.{verdict_as, linked_by, at_moment, start_of, line_as}
 use Rattle.uc_judge.specs.Judged.{AreJudged}
 use Rattle.uc_judge.proofs.Honest.{honest_are}
 use Rattle.uc_judge.proofs.Joined.{both_judged}
@@ -179,3 +185,35 @@ pub induction_judged : (system : System) (command budget a b c depth before : �
     → AreJudged system budget b c (lines_at command (Step depth) (all_judged system (step_sites system))) ms → all ≡ ls ++ ms → AreJudged system budget a c (induction_lines system command depth) all
 induction_judged system command budget a b c depth before ls ms all e h g is =
     both_judged system budget a b c (lines_from system command Base 0 depth) (lines_at command (Step depth) (all_judged system (step_sites system))) ls ms all (subst (λ n. AreJudged system budget a b (lines_from system command Base 0 n) ls) e h) g is
+
+-- ---- the lines of a run
+
+pub unroll_told : (system : System) (number budget a b n k : ℕ) (run : WrittenRun) (ls : List LineResult) → run ≡ Unroll n → k ≡ n → AreJudged system budget a b (lines_from system number Exactly 0 (k + 1)) ls → AreJudged system budget a b (lines_of system number run) ls
+unroll_told system number budget a b n k run ls is e h =
+    subst (λ r. AreJudged system budget a b (lines_of system number r) ls) (sym is) (subst (λ m. AreJudged system budget a b (lines_from system number Exactly 0 (m + 1)) ls) e h)
+
+linked_lines_are : (system : System) (number : ℕ) (depth : Option ℕ) → induction_lines system number (linked_by depth) ≡ lines_of system number (Induction depth)
+linked_lines_are system number None = refl
+linked_lines_are system number (Some k) = refl
+
+pub induction_told : (system : System) (number budget a b k : ℕ) (depth : Option ℕ) (run : WrittenRun) (ls : List LineResult) → run ≡ Induction depth → k ≡ linked_by depth → AreJudged system budget a b (induction_lines system number k) ls
+    → AreJudged system budget a b (lines_of system number run) ls
+induction_told system number budget a b k depth run ls is e h =
+    subst (λ r. AreJudged system budget a b (lines_of system number r) ls) (sym is)
+    (subst (λ xs. AreJudged system budget a b xs ls) (linked_lines_are system number depth) (subst (λ m. AreJudged system budget a b (induction_lines system number m) ls) e h))
+
+-- a run that is judged is no verification, and its numbers are small
+pub not_verified : (run : WrittenRun) (p : Identifier) → run ≡ Verify p → is_judged run ≡ true → ⊥
+not_verified run p is h = let e : false ≡ true = ap is_judged (sym is) ∙ h in cc
+
+pub few_steps : (run : WrittenRun) (n : ℕ) → run ≡ Unroll n → is_judged run ≡ true → n ≤ most_steps
+few_steps run n is h = let e : nat_le n most_steps ≡ true = ap is_judged (sym is) ∙ h in grind (arith, nat_tests)
+
+pub is_linked_run : (run : WrittenRun) (depth : Option ℕ) → run ≡ Induction depth → is_judged run ≡ true → is_linked depth ≡ true
+is_linked_run run depth is h = ap is_judged (sym is) ∙ h
+
+pub linked_low : (k : ℕ) → is_linked (Some k) ≡ true → 1 ≤ k
+linked_low k h = let e : nat_le 1 k ≡ true = (and_true h).0 in grind (arith, nat_tests)
+
+pub linked_high : (k : ℕ) → is_linked (Some k) ≡ true → k ≤ most_linked
+linked_high k h = let e : nat_le k most_linked ≡ true = (and_true h).1 in grind (arith, nat_tests)

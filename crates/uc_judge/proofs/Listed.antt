@@ -162,3 +162,6 @@ count_found system cs n k counts h low = ap (λ o. unwrap_or o 0) (h.each k low)
 -- the same counts by reference
 pub counts_are : (system : System) (cs : List Command) (n : ℕ) (counts same : List ℕ) → AreCounts system cs n counts → n ≡ followed cs → same ≡ counts → AreCounts system cs (followed cs) same
 counts_are system cs n counts same h long is = subst (λ m. AreCounts system cs m same) long (subst (AreCounts system cs n) (sym is) h)
+
+pub counts_end : (system : System) (cs : List Command) (k n : ℕ) (counts : List ℕ) → k ≡ n → AreCounts system cs k counts → AreCounts system cs n counts
+counts_end system cs k n counts is h = subst (λ m. AreCounts system cs m counts) is h

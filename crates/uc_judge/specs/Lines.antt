@@ -1,5 +1,5 @@
 -- Lines over numbered cells as lines of the report.
-use Rattle.std.specs.Prelude.{ℕ}
+use Rattle.std.specs.Prelude.{ℕ, Option, None, Some}
 use Rattle.uc_meaning.specs.declared.line.At.{At}
 use Rattle.uc_meaning.specs.declared.line.At.TheVariants.{Exactly, Base, Step}
 use Rattle.uc_flat.specs.declared.flat.Flat.{Flat}
@@ -30,6 +30,11 @@ abbrev pub verdict_as : ℕ → FlatVerdict → Verdict
 verdict_as budget FlatPassed = Passed
 verdict_as budget (FlatFailed t) = Failed (trace_of t)
 verdict_as budget (FlatUndef why) = Undef (why_as budget why)
+
+-- how many states an induction links
+abbrev pub linked_by : Option ℕ → ℕ
+linked_by None = 1
+linked_by (Some k) = k
 
 -- the moment of so many steps
 abbrev pub at_moment : Moment → ℕ → At

@@ -2,7 +2,6 @@
 
 ghost use Rattle.std.specs.Prelude.{◌≡◌, ◌++◌, nat_eq, map, OnOk, IfOk};
 ghost use Rattle.std.specs.List.{list_any, flat_map, position_from};
-ghost use Rattle.uc_runnable.specs.Plain.{variables_by};
 ghost use Rattle.uc_report.specs.Prints.{declares};
 ghost use Rattle.uc_judge.specs.Prints.{own_ref, declared_refs, own_refs, place_or_first, named_refs, shown_refs};
 

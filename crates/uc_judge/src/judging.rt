@@ -6,8 +6,8 @@ ghost use Rattle.uc_meaning.specs.declared.line.At.TheVariants.{Step};
 ghost use Rattle.uc_meaning.specs.Fragment.{most_steps};
 ghost use Rattle.uc_meaning.specs.Lines.{lines_at, lines_from, all_judged, step_sites, induction_lines, lines_of, command_lines};
 ghost use Rattle.uc_flat_copies.specs.declared.trace.Start.TheVariants.{Initially};
-ghost use Rattle.uc_runnable.specs.Commands.{is_judged, runs};
-ghost use Rattle.uc_judge.specs.Lines.{at_moment, start_of};
+ghost use Rattle.uc_runnable.specs.Commands.{is_judged, is_linked, runs};
+ghost use Rattle.uc_judge.specs.Lines.{linked_by, at_moment, start_of};
 ghost use Rattle.uc_judge.specs.Judged.{lines_in, AreCounts, AreJudged};
 
 use crate::cells::word;
@@ -52,7 +52,9 @@ pub(crate) fn judge_commands<M: Meter>(
         let own = word(number)?;
         let more = judge_command(alloc, d, own, &commands[number], budget, meter)?;
         lines.append(more)?;
-        counts.push(word(lines.len())?)?;
+        let standing = lines.len();
+        let passed = word(standing)?;
+        counts.push(passed)?;
     }
     Ok(Judged { lines, counts })
 }
@@ -94,13 +96,36 @@ fn judge_run<M: Meter>(
 {
     match run {
         WrittenRun::Unroll(depth) => {
-            judge_runs(alloc, d, number, Moment::Unrolled, depth as u32, budget, meter)
+            let steps = steps_of(depth);
+            let lines = judge_runs(alloc, d, number, Moment::Unrolled, steps, budget, meter)?;
+            Ok(lines)
         }
-        WrittenRun::Induction(None) => judge_induction(alloc, d, number, 1, budget, meter),
-        WrittenRun::Induction(Some(depth)) => {
-            judge_induction(alloc, d, number, depth as u32, budget, meter)
+        WrittenRun::Induction(depth) => {
+            let linked = linked_by(depth);
+            let lines = judge_induction(alloc, d, number, linked, budget, meter)?;
+            Ok(lines)
         }
         WrittenRun::Verify(_) => unreachable!(),
+    }
+}
+
+/// The steps of an unrolling.
+fn steps_of(depth: u128) -> u32
+    requires { depth ≤ most_steps }
+    ensures { result ≡ depth }
+{
+    depth as u32
+}
+
+/// How many states an induction links.
+fn linked_by(depth: Option<u128>) -> u32
+    requires { is_linked depth ≡ true }
+    ensures linked { result ≡ linked_by depth }
+    ensures some { 1 ≤ result }
+{
+    match depth {
+        None => 1,
+        Some(depth) => depth as u32,
     }
 }
 
@@ -122,7 +147,8 @@ fn judge_runs<M: Meter>(
 {
     let f = d.flat();
     let judged = judge_flat(alloc, f, depth, budget, meter)?;
-    lines_as(alloc, f, number, moment, budget, judged)
+    let lines = lines_as(alloc, f, number, moment, budget, judged)?;
+    Ok(lines)
 }
 
 /// The lines after so many linked states.
@@ -141,7 +167,8 @@ fn judge_links<M: Meter>(
 {
     let f = d.flat();
     let judged = judge_linked(alloc, f, depth, budget, meter)?;
-    lines_as(alloc, f, number, Moment::Linked, budget, judged)
+    let lines = lines_as(alloc, f, number, Moment::Linked, budget, judged)?;
+    Ok(lines)
 }
 
 /// The lines of an induction: the base after fewer steps than states are linked, and then the step.

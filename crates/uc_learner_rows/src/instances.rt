@@ -10,7 +10,11 @@ use uc_items::Items;
 use uc_log::{Atom, Problem};
 
 /// The problem that the literal is to be true.
-pub(crate) fn problem_of(alloc: Global, circuit: Circuit, goal: Lit) -> Result<Problem, AllocError> {
+pub(crate) fn problem_of(
+    alloc: Global,
+    circuit: Circuit,
+    goal: Lit,
+) -> Result<Problem, AllocError> {
     if goal.var >= circuit.len() {
         return Err(AllocError);
     }

@@ -17,13 +17,15 @@ use Rattle.uc_words.proofs.TokenByToken.{one_list}
 use Rattle.uc_rules.specs.declared.fault.Fault.{Fault}
 use Rattle.uc_rules.specs.Faults.{IsFirst, IsIn}
 use Rattle.uc_rules.specs.Declarations.{design_faults}
-use Rattle.uc_order_rules.specs.Order.{order_faults}
+use Rattle.uc_order_rules.specs.Order.{order_faults, KeepsOrder}
+use Rattle.uc_report.specs.declared.control_rules.ControlFault.{ControlFault}
+use Rattle.uc_report.specs.ControlRules.{IsFirstControlFault}
 use Rattle.uc_meaning.specs.Lookup.{System}
 use Rattle.uc_front.specs.declared.lexing.Source.{Source}
 use Rattle.uc_front.specs.declared.refusal.Refusal.{Refusal}
-use Rattle.uc_front.specs.declared.refusal.Refusal.TheVariants.{NoFile, TooLong, BadByte, BadNumber, OpenComment, Syntax, TooDeep, TooManyNames, NoMain, BreaksRule, NotBuilt}
+use Rattle.uc_front.specs.declared.refusal.Refusal.TheVariants.{NoFile, TooLong, BadByte, BadNumber, OpenComment, Syntax, TooDeep, TooManyNames, NoMain, BreaksRule, BreaksControl, NotBuilt}
 use Rattle.uc_front.specs.Sources.{AreTexts, AreLexed, AreSources, texts_of}
-use Rattle.uc_front.specs.Denotes.{most_levels, most_names, names_of, HasAnswer, AreSpelled, main_in, main_name, contents_of, IsDesignOf, IsKept, IsFirstBroken, RunsToday}
+use Rattle.uc_front.specs.Denotes.{most_levels, most_names, names_of, HasAnswer, AreSpelled, main_in, main_name, contents_of, IsDesignOf, IsTyped, IsKept, IsFirstBroken, RunsToday}
 use Rattle.uc_front.specs.Refused.{IsUnread, IsFirstFault, IsUnlexed, refusal_of, IsUnspelled, IsUnbuilt}
 use Rattle.uclid_laws.specs.Laws.{OneDesign, NeverBoth}
 use Rattle.uclid_laws.proofs.Distinct.{names_distinct}
@@ -85,6 +87,7 @@ never_unread held files texts (TooDeep p) a h = h
 never_unread held files texts (TooManyNames p) a h = h
 never_unread held files texts NoMain a h = h
 never_unread held files texts (BreaksRule fault) a h = h
+never_unread held files texts (BreaksControl fault) a h = h
 never_unread held files texts (NotBuilt p) a h = h
 
 -- ---- lexing
@@ -138,6 +141,7 @@ never_unlexed sources (TooDeep p) a h = h
 never_unlexed sources (TooManyNames p) a h = h
 never_unlexed sources NoMain a h = h
 never_unlexed sources (BreaksRule fault) a h = h
+never_unlexed sources (BreaksControl fault) a h = h
 never_unlexed sources (NotBuilt p) a h = h
 
 -- ---- parsing
@@ -225,9 +229,18 @@ unfolding IsIn
 no_first fault fs none first = (subst (IsFirst fault) none first).0
 
 -- a design that keeps the rules breaks none first
+pub never_first : (system : System) (fault : Fault) → IsTyped system → KeepsOrder system → IsFirstBroken system fault → ⊥
+never_first system fault typed ordered (inl first) = no_first fault (design_faults (contents_of system) main_name) typed first
+never_first system fault typed ordered (inr first) = no_first fault (order_faults system) ordered first.1
+
 pub never_broken : (system : System) (fault : Fault) → IsKept system → IsFirstBroken system fault → ⊥
-never_broken system fault keeps (inl first) = no_first fault (design_faults (contents_of system) main_name) keeps.0 first
-never_broken system fault keeps (inr first) = no_first fault (order_faults system) keeps.1 first.1
+never_broken system fault keeps first = never_first system fault keeps.0 keeps.1 first
+
+-- nor one on control blocks
+pub never_uncontrolled : (system : System) (fault : ControlFault) → IsKept system → IsFirstControlFault system fault → ⊥
+never_uncontrolled system fault keeps first =
+    let e : None ≡ Some fault = sym keeps.2 ∙ first in
+    cc e
 
 never_unbuilt : (files : List (List ℕ)) (sources : List Source) (system : System) (r : Refusal) → IsDesignOf files sources system → IsKept system → RunsToday system → IsUnbuilt files sources r → ⊥
 never_unbuilt files sources system r d keeps runs h = by r h
@@ -247,6 +260,7 @@ never_unbuilt files sources system r d keeps runs h = by r h
         let e : Some system.main ≡ None = sym d.main_is ∙ (λ i. main_in (d.names_are i) (modules i)) ∙ h.2 in
         cc e
     by (BreaksRule fault) h = never_broken h.0 fault (subst IsKept (one_of_sources files sources system h.0 d h.1) keeps) h.2
+    by (BreaksControl fault) h = never_uncontrolled h.0 fault (subst IsKept (one_of_sources files sources system h.0 d h.1) keeps) h.4
     by (NotBuilt p) h = h.3 (subst RunsToday (one_of_sources files sources system h.0 d h.1) runs)
     by (NoFile n) h = h
     by (TooLong n) h = h

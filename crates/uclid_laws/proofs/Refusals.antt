@@ -12,18 +12,19 @@ use Rattle.uc_syntax.specs.Numbering.{AreDistinct}
 use Rattle.uc_rules.specs.declared.fault.Fault.{Fault}
 use Rattle.uc_rules.specs.Faults.{sooner, first_of, IsIn, NoneBefore, IsFirst}
 use Rattle.uc_rules.specs.Declarations.{design_faults}
-use Rattle.uc_order_rules.specs.Order.{order_faults}
+use Rattle.uc_order_rules.specs.Order.{order_faults, KeepsOrder}
+use Rattle.uc_report.specs.ControlRules.{IsFirstControlFault}
 use Rattle.uc_rules.proofs.Swaps.{any_order}
 use Rattle.uc_meaning.specs.Lookup.{System}
 use Rattle.uc_front.specs.declared.lexing.Source.{Source}
 use Rattle.uc_front.specs.declared.refusal.Refusal.{Refusal}
-use Rattle.uc_front.specs.declared.refusal.Refusal.TheVariants.{NoFile, TooLong, BadByte, BadNumber, OpenComment, Syntax, TooDeep, TooManyNames, NoMain, BreaksRule, NotBuilt}
+use Rattle.uc_front.specs.declared.refusal.Refusal.TheVariants.{NoFile, TooLong, BadByte, BadNumber, OpenComment, Syntax, TooDeep, TooManyNames, NoMain, BreaksRule, BreaksControl, NotBuilt}
 use Rattle.uc_front.specs.Sources.{AreTexts, texts_of}
-use Rattle.uc_front.specs.Denotes.{names_of, HasAnswer, AreSpelled, main_in, main_name, contents_of, IsDesignOf, IsKept, IsFirstBroken}
+use Rattle.uc_front.specs.Denotes.{names_of, HasAnswer, AreSpelled, main_in, main_name, contents_of, IsDesignOf, IsTyped, IsKept, IsFirstBroken}
 use Rattle.uc_front.specs.Refused.{IsUnread, IsFirstFault, IsUnlexed, refusal_of, IsUnspelled, IsLeftAt, IsUnbuilt}
 use Rattle.uclid_laws.specs.Laws.{OneRefusal}
 use Rattle.uclid_laws.proofs.Distinct.{names_distinct}
-use Rattle.uclid_laws.proofs.Designs.{one_texts, one_sources, answers_same, one_spelled, one_of_sources, never_unread, never_fault, never_unlexed, never_unspelled, never_broken, no_first}
+use Rattle.uclid_laws.proofs.Designs.{one_texts, one_sources, answers_same, one_spelled, one_of_sources, never_unread, never_fault, never_unlexed, never_unspelled, never_broken, never_first, never_uncontrolled, no_first}
 
 -- ---- fronts
 
@@ -174,6 +175,7 @@ one_broken system f g (inr a) (inr b) = one_first f g (order_faults system) a.1 
 abbrev IsLate : List (List ℕ) → List Source → Refusal → Type 0
 IsLate files sources NoMain = IsUnbuilt files sources NoMain
 IsLate files sources (BreaksRule fault) = IsUnbuilt files sources (BreaksRule fault)
+IsLate files sources (BreaksControl fault) = IsUnbuilt files sources (BreaksControl fault)
 IsLate files sources (NotBuilt p) = IsUnbuilt files sources (NotBuilt p)
 IsLate files sources other = ⊥
 
@@ -183,6 +185,7 @@ parsing_or_late files sources (TooDeep p) h = inl h
 parsing_or_late files sources (TooManyNames p) h = inl h
 parsing_or_late files sources NoMain h = inr h
 parsing_or_late files sources (BreaksRule fault) h = inr h
+parsing_or_late files sources (BreaksControl fault) h = inr h
 parsing_or_late files sources (NotBuilt p) h = inr h
 parsing_or_late files sources other h = absurd h
 
@@ -193,6 +196,7 @@ spells_design files sources system d = subst (λ ns. AreSpelled ns sources syste
 late_spelled : (files : List (List ℕ)) (sources : List Source) (r : Refusal) → IsLate files sources r → (modules : List Module) × AreSpelled (names_of files sources) sources modules
 late_spelled files sources NoMain h = (h.0, h.1)
 late_spelled files sources (BreaksRule fault) h = (h.0.modules, spells_design files sources h.0 h.1)
+late_spelled files sources (BreaksControl fault) h = (h.0.modules, spells_design files sources h.0 h.1)
 late_spelled files sources (NotBuilt p) h = (h.0.modules, spells_design files sources h.0 h.1)
 late_spelled files sources other h = absurd h
 
@@ -206,6 +210,7 @@ has_main files sources system d h =
 one_late : (files : List (List ℕ)) (sources : List Source) (r s : Refusal) → IsLate files sources r → IsLate files sources s → r ≡ s
 one_late files sources NoMain NoMain a b = refl
 one_late files sources NoMain (BreaksRule g) a b = absurd (has_main files sources b.0 b.1 a)
+one_late files sources NoMain (BreaksControl g) a b = absurd (has_main files sources b.0 b.1 a)
 one_late files sources NoMain (NotBuilt q) a b = absurd (has_main files sources b.0 b.1 a)
 one_late files sources NoMain other a b = absurd b
 one_late files sources (BreaksRule f) NoMain a b = absurd (has_main files sources a.0 a.1 b)
@@ -213,9 +218,24 @@ one_late files sources (BreaksRule f) (BreaksRule g) a b =
     let same = one_of_sources files sources b.0 a.0 b.1 a.1 in
     ap (λ x. BreaksRule x) (one_broken a.0 f g a.2 (subst (λ d. IsFirstBroken d g) same b.2))
 one_late files sources (BreaksRule f) (NotBuilt q) a b = absurd (never_broken a.0 f (subst IsKept (one_of_sources files sources b.0 a.0 b.1 a.1) b.2) a.2)
+one_late files sources (BreaksRule f) (BreaksControl g) a b =
+    let same = one_of_sources files sources b.0 a.0 b.1 a.1 in
+    absurd (never_first a.0 f (subst IsTyped same b.2) (subst KeepsOrder same b.3) a.2)
 one_late files sources (BreaksRule f) other a b = absurd b
+one_late files sources (BreaksControl f) NoMain a b = absurd (has_main files sources a.0 a.1 b)
+one_late files sources (BreaksControl f) (BreaksRule g) a b =
+    let same = one_of_sources files sources a.0 b.0 a.1 b.1 in
+    absurd (never_first b.0 g (subst IsTyped same a.2) (subst KeepsOrder same a.3) b.2)
+one_late files sources (BreaksControl f) (BreaksControl g) a b =
+    let right : IsFirstControlFault a.0 g = subst (λ d. IsFirstControlFault d g) (one_of_sources files sources b.0 a.0 b.1 a.1) b.4 in
+    let e : Some f ≡ Some g = sym a.4 ∙ right in
+    let one : f ≡ g = cc in
+    ap (λ x. BreaksControl x) one
+one_late files sources (BreaksControl f) (NotBuilt q) a b = absurd (never_uncontrolled a.0 f (subst IsKept (one_of_sources files sources b.0 a.0 b.1 a.1) b.2) a.4)
+one_late files sources (BreaksControl f) other a b = absurd b
 one_late files sources (NotBuilt p) NoMain a b = absurd (has_main files sources a.0 a.1 b)
 one_late files sources (NotBuilt p) (BreaksRule g) a b = absurd (never_broken b.0 g (subst IsKept (one_of_sources files sources a.0 b.0 a.1 b.1) a.2) b.2)
+one_late files sources (NotBuilt p) (BreaksControl g) a b = absurd (never_uncontrolled b.0 g (subst IsKept (one_of_sources files sources a.0 b.0 a.1 b.1) a.2) b.4)
 one_late files sources (NotBuilt p) (NotBuilt q) a b =
     let left : IsLeftAt a.0 q = subst (λ d. IsLeftAt d q) (one_of_sources files sources b.0 a.0 b.1 a.1) b.4 in
     ap (λ x. NotBuilt x) (a.4 ∙ sym left)

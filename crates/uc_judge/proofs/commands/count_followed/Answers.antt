@@ -7,7 +7,7 @@ loop-number-init c = followed_begin c.args.commands.now
 
 pub loop-number-preserved : goal.loop-number-preserved
 loop-number-preserved c =
-    followed_more c.args.commands.now c.loop-number.number c.index-commands-number.result c.loop-number.count c.last_check.result c.loop-number.invariant c.loop-number-test.true c.index-commands-number.is c.last_check.ensures
+    followed_more c.args.commands.now c.loop-number.number c.index-commands-number.result c.loop-number.count c.last_check-count.result c.loop-number.invariant c.loop-number-test.true c.index-commands-number.is c.last_check-count.ensures
 
 pub returns-clause-count : goal.returns-clause-count
 returns-clause-count c = followed_end c.args.commands.now c.loop-number.number c.loop-number.count c.loop-number-test.false c.loop-number.invariant

@@ -10,3 +10,6 @@ judge_linked-requires-clause-own g c = own_types_hold c.args.d.now c.flat-f.ensu
 
 pub judge_linked-requires-clause-valid : goal.judge_linked-requires-clause-valid
 judge_linked-requires-clause-valid g c = valid_constants_hold c.args.d.now c.flat-f.ensures.code c.flat-f.result.now c.flat-f.ensures.is_flat
+
+pub returns-clause-judged : goal.returns-clause-judged
+returns-clause-judged g c = links_judged c.args.d.now c.flat-f.result.now c.args.number c.args.budget _ _ c.args.depth _ _ c.flat-f.ensures c.in_ok-judged.ensures.judged c.in_ok-lines.ensures
