@@ -1,9 +1,8 @@
 -- Goals gathered into one term.
-use Rattle.std.specs.Prelude.{◌≡◌, ℕ, ◌+◌, ◌<◌, ◌≤◌, Bool, true, false, not, ◌&&◌, List, length, slice_get, get_or, Option, Some, None, Result, Ok, Err, IfOk}
-use Rattle.std.proofs.Common.{refl, sym, ap, ◌∙◌, subst, arith, inl, inr}
+use Rattle.std.specs.Prelude.{◌≡◌, ℕ, ◌+◌, ◌<◌, ◌≤◌, Bool, true, false, not, ◌&&◌, List, length, slice_get, Option, Some, None, Result, Ok, IfOk}
+use Rattle.std.proofs.Common.{refl, ap, ◌∙◌, subst, arith, inl, inr}
 use Rattle.std.proofs.lemmas.Bool.Decides.{leb_tells}
 use Rattle.uc_values.specs.declared.ty.Ty.TheVariants.{Bool as Truths}
-use Rattle.uc_values.specs.declared.value.Value.{Value}
 use Rattle.uc_values.specs.declared.value.Value.TheVariants.{Bool as Truth}
 use Rattle.uc_values.specs.Values.{truth_of}
 use Rattle.uc_ops.specs.declared.model.Model.{Model}
@@ -14,14 +13,11 @@ use Rattle.uc_flat.specs.declared.flat.Formula.{Formula}
 use Rattle.uc_symstep.specs.Growing.{Grows, IsTerm}
 use Rattle.uc_symstep.specs.Stands.{holds, IsTruth}
 use Rattle.uc_symstep.proofs.Grown.{grows_not, grows_on, grows_value}
-use Rattle.uc_flat_copies.specs.declared.trace.FlatCopies.{FlatCopies}
 use Rattle.uc_flat_copies.specs.declared.trace.Start.{Start}
-use Rattle.uc_flat_copies.specs.Traces.{RefutesCopies}
-use Rattle.uc_flat_copies.specs.Lines.{line_over}
 use Rattle.uc_obligations.specs.Goals.{IsObligation}
 use Rattle.uc_flat_lines.specs.declared.line.FlatWhy.{FlatWhy}
 use Rattle.uc_flat_lines.specs.Deciding.{IsSolution}
-use Rattle.uc_flat_lines.specs.Joint.{IsUnrefuted, IsHit, IsMissed, AreUnrefuted, AreHit, AreMissed, FalseToo}
+use Rattle.uc_flat_lines.specs.Joint.{IsMissed, AreUnrefuted, AreHit, AreMissed, FalseToo}
 use Rattle.uc_flat_lines.proofs.Judged.{single_is}
 
 none_and : (b : Bool) → (b && false) ≡ false

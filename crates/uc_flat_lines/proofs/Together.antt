@@ -1,6 +1,6 @@
 -- Goals of moments gathered into one term.
 use Rattle.std.specs.Prelude.{◌≡◌, ℕ, ◌+◌, ◌<◌, ◌≤◌, not, List, None}
-use Rattle.std.proofs.Common.{sym, ap, ◌∙◌, subst, arith, inl, inr}
+use Rattle.std.proofs.Common.{ap, ◌∙◌, subst, arith, inl, inr}
 use Rattle.std.proofs.lemmas.Bool.Decides.{leb_tells}
 use Rattle.uc_values.specs.declared.ty.Ty.{Ty}
 use Rattle.uc_values.specs.declared.ty.Ty.TheVariants.{Bool as Truths}
@@ -17,7 +17,7 @@ use Rattle.uc_symstep.proofs.Grown.{grows_value}
 use Rattle.uc_symstep.proofs.Known.{known_grows}
 use Rattle.uc_symstep.proofs.States.{truth_grows}
 use Rattle.uc_obligations.proofs.Knowing.{later_supply}
-use Rattle.uc_flat_lines.specs.Deciding.{IsKnownBySome, IsSolution}
+use Rattle.uc_flat_lines.specs.Deciding.{IsSolution}
 use Rattle.uc_flat_lines.specs.Joint.{AreUnrefuted, AreHit, AreMissed, FalseToo}
 use Rattle.uc_flat_lines.proofs.Gathering.{all_hit, all_unrefuted}
 

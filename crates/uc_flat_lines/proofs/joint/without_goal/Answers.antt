@@ -1,4 +1,3 @@
-use Rattle.std.proofs.Common.{refl}
 use Rattle.uc_symstep.specs.Known.{supply_from}
 use Rattle.uc_symstep.proofs.Grown.{grows_on}
 use Rattle.uc_symstep.proofs.Known.{known_grows}

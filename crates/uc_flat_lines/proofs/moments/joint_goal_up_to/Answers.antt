@@ -5,7 +5,7 @@ use Rattle.uc_symstep.proofs.Grown.{grows_not}
 use Rattle.uc_obligations.proofs.Terms.{truth_is}
 use Rattle.uc_obligations.proofs.Unrollings.{unrolled_grows}
 use Rattle.uc_flat_lines.proofs.Judged.{unrolled_to}
-use Rattle.uc_flat_lines.proofs.Together.{Moments, moments_begin, moments_turn, moments_as, moments_to, moments_hit}
+use Rattle.uc_flat_lines.proofs.Together.{moments_begin, moments_turn, moments_as, moments_to, moments_hit}
 use Rattle.uc_flat_lines.proofs.moments.joint_goal_up_to.Goals as goal
 
 pub loop-steps-init : goal.loop-steps-init
