@@ -20,6 +20,7 @@ use Rattle.uc_flat_lines.specs.declared.line.FlatVerdict.TheVariants.{Passed, Fa
 use Rattle.uc_flat_lines.specs.declared.line.FlatWhy.TheVariants.{Memory, Budget}
 use Rattle.uc_flat_lines.specs.Lines.{speaks_of_one, singles_below, lines_of, step_lines, lines_below, IsFlatVerdict, IsRightLine, is_out_of_budget, IsHonestVerdict, IsHonestLine, AreFlatJudged}
 use Rattle.uc_flat_lines.specs.Deciding.{IsSpentOn}
+use Rattle.uc_flat_lines.specs.Joint.{IsUnrefuted}
 
 abbrev out : FlatLine → Bool
 out l = is_out_of_budget l.verdict
@@ -94,6 +95,12 @@ one_judged f start budget before after steps k x v ls at single right spent few 
       within = omega (arith, within);
       honest = All-cons (IsHonestLine f start budget) (record { steps = steps; formula = k; verdict = v }) [] honest (All-nil (IsHonestLine f start budget));
     }))
+
+-- the line of one that no trace refutes
+pub passed_judged : (f : Flat) (start : Start) (budget at steps k : ℕ) (x : Formula) (ls : List FlatLine) → slice_get f.formulas k ≡ Some x → x.copies ≡ 1 → IsUnrefuted f start steps k
+    → ls ≡ record { steps = steps; formula = k; verdict = Passed } ∷ [] → AreFlatJudged f start budget at at (map (λ j. (steps, j)) (listed_if (speaks_of_one (slice_get f.formulas k)) k)) ls
+passed_judged f start budget at steps k x ls there single unrefuted is =
+    one_judged f start budget at at steps k x Passed ls there single (λ y h t r. unrefuted y h (single_is f k x there single y h) t r) (omega arith) (omega arith) (omega arith) tt is
 
 -- no line
 pub not_judged : (f : Flat) (start : Start) (budget at steps k : ℕ) (x : Formula) (ls : List FlatLine) → slice_get f.formulas k ≡ Some x → (x.copies ≡ 1 → ⊥) → ls ≡ []

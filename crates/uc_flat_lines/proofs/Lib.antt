@@ -4,3 +4,5 @@ pub mod Judged
 pub mod Below
 pub mod Supplied
 pub mod Alone
+pub mod Gathering
+pub mod Together

@@ -12,7 +12,10 @@ ghost use Rattle.uc_flat_lines.specs.Lines.{speaks_of_one, lines_below, step_lin
 ghost use Rattle.uc_obligations.specs.Unrolling.{IsUnrolled};
 
 use crate::deciding::judge;
+use crate::joint::none_refuted;
 use crate::line::FlatLine;
+use crate::moments::none_refuted_up_to;
+use crate::passing::{all_passed, passed_up_to};
 use std::alloc::{AllocError, Global};
 use uc_flat::Flat;
 use uc_flat_copies::Start;
@@ -40,16 +43,62 @@ pub fn judge_flat<M: Meter>(
     ensures later { M.total meter.old ≤ M.total meter.new }
 {
     let mut terms = Terms::new(alloc)?;
-    let mut run = begin(&mut terms, alloc, f, Start::Initially)?;
+    let lines = judge_up_to(alloc, &mut terms, f, depth, budget, meter)?;
+    Ok(lines)
+}
+
+/// These lines. All goals are asked at once first, and moment by moment where that does not tell that none is refuted.
+fn judge_up_to<M: Meter>(
+    alloc: Global,
+    terms: &mut Terms,
+    f: &Flat,
+    depth: u32,
+    budget: u64,
+    meter: &mut M,
+) -> Result<Items<FlatLine>, AllocError>
+    requires sound { IsSound f.now }
+    requires own { ReadsOwnTypes f.now }
+    requires valid { AllValid (constant_types f.now) }
+    requires some { 1 ≤ budget }
+    requires total { M.total meter.old < 2 ^ 126 + 2 ^ 97 }
+    ensures judged { IfOk result (AreFlatJudged f.now Initially budget (M.total meter.old) (M.total meter.new) (lines_below f.now (depth + 1))) }
+    ensures later { M.total meter.old ≤ M.total meter.new }
+{
+    if none_refuted_up_to(alloc, terms, f, depth, budget) {
+        let lines = passed_up_to(alloc, f, depth)?;
+        return Ok(lines);
+    }
+    let lines = judge_all(alloc, terms, f, depth, budget, meter)?;
+    Ok(lines)
+}
+
+/// These lines, moment by moment.
+fn judge_all<M: Meter>(
+    alloc: Global,
+    terms: &mut Terms,
+    f: &Flat,
+    depth: u32,
+    budget: u64,
+    meter: &mut M,
+) -> Result<Items<FlatLine>, AllocError>
+    requires sound { IsSound f.now }
+    requires own { ReadsOwnTypes f.now }
+    requires valid { AllValid (constant_types f.now) }
+    requires some { 1 ≤ budget }
+    requires total { M.total meter.old < 2 ^ 126 + 2 ^ 97 }
+    ensures judged { IfOk result (AreFlatJudged f.now Initially budget (M.total meter.old) (M.total meter.new) (lines_below f.now (depth + 1))) }
+    ensures later { M.total meter.old ≤ M.total meter.new }
+{
+    let mut run = begin(terms, alloc, f, Start::Initially)?;
     let mut lines = Items::new(alloc);
     for steps in 0..depth {
         let _room = lines.len();
-        let more = judge_step(alloc, &mut terms, f, &run, steps, budget, meter)?;
+        let more = judge_step(alloc, terms, f, &run, steps, budget, meter)?;
         lines.append(more)?;
-        run = advance(&mut terms, alloc, f, steps, run)?;
+        run = advance(terms, alloc, f, steps, run)?;
     }
     let _room = lines.len();
-    let last = judge_step(alloc, &mut terms, f, &run, depth, budget, meter)?;
+    let last = judge_step(alloc, terms, f, &run, depth, budget, meter)?;
     lines.append(last)?;
     Ok(lines)
 }
@@ -90,8 +139,36 @@ fn linked(alloc: Global, terms: &mut Terms, f: &Flat, depth: u32) -> Result<Unro
     Ok(run)
 }
 
-/// The lines after so many steps.
+/// The lines after so many steps. Their goals are asked at once first, and one by one where that does not tell that none is refuted.
 fn judge_step<M: Meter>(
+    alloc: Global,
+    terms: &mut Terms,
+    f: &Flat,
+    run: &Unrolling,
+    steps: u32,
+    budget: u64,
+    meter: &mut M,
+) -> Result<Items<FlatLine>, AllocError>
+    requires sound { IsSound f.now }
+    requires own { ReadsOwnTypes f.now }
+    requires valid { AllValid (constant_types f.now) }
+    requires unrolled { IsUnrolled f.now terms.old steps run.now }
+    requires some { 1 ≤ budget }
+    requires total { M.total meter.old < 2 ^ 126 + 2 ^ 98 }
+    ensures judged { IfOk result (AreFlatJudged f.now run.now.start budget (M.total meter.old) (M.total meter.new) (step_lines f.now steps)) }
+    ensures later { M.total meter.old ≤ M.total meter.new }
+    ensures grown { Grows terms.old terms.new }
+{
+    if none_refuted(alloc, terms, f, run, steps, budget) {
+        let lines = all_passed(alloc, f, steps)?;
+        return Ok(lines);
+    }
+    let lines = judge_each(alloc, terms, f, run, steps, budget, meter)?;
+    Ok(lines)
+}
+
+/// The lines after so many steps, each by a question of its own.
+fn judge_each<M: Meter>(
     alloc: Global,
     terms: &mut Terms,
     f: &Flat,

@@ -2,13 +2,17 @@
 //! so many states that are linked by steps from any state, in which the formulas hold.
 //!
 //! The states after each step become terms of one table, and the solver decides for each formula of one copy whether its goal
-//! is true under some model. A model that is found is read as a trace that refutes the formula.
+//! is true under some model. A model that is found is read as a trace that refutes the formula. The goals of several formulas are asked at
+//! once first, and one by one where that does not tell that all lines pass.
 #![tactic(auto)]
 
 mod deciding;
+mod joint;
 mod judging;
 mod law;
 mod line;
+mod moments;
+mod passing;
 mod solving;
 
 pub use deciding::judge;

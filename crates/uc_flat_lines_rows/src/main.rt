@@ -20,9 +20,13 @@ fn main(rt: HostRuntime) -> Result<(), Fail> {
         match &line.verdict {
             FlatVerdict::Passed => println!(rt; "after {steps} steps formula {formula} passed")?,
             FlatVerdict::Failed(trace) => {
-                let positions = trace.positions.len();
+                let run = match at(trace.copies.as_slice(), 0) {
+                    Some(only) => only.as_slice(),
+                    None => &[],
+                };
+                let positions = run.len();
                 let constant = word(at(trace.constants.as_slice(), 0));
-                let cell = match at(trace.positions.as_slice(), steps as usize) {
+                let cell = match at(run, steps as usize) {
                     Some(last) => word(at(last.cells.as_slice(), 0)),
                     None => "missing",
                 };

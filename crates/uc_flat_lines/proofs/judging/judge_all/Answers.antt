@@ -2,7 +2,7 @@ use Rattle.std.proofs.Common.{arith, ◌∙◌}
 use Rattle.uc_flat_copies.specs.declared.trace.Start.TheVariants.{Initially}
 use Rattle.uc_obligations.proofs.Unrollings.{unrolled_grows}
 use Rattle.uc_flat_lines.proofs.Judged.{lines_begin, lines_more, lines_last, begun_as}
-use Rattle.uc_flat_lines.proofs.judging.judge_flat.Goals as goal
+use Rattle.uc_flat_lines.proofs.judging.judge_all.Goals as goal
 
 pub loop-steps-init : goal.loop-steps-init
 loop-steps-init g c = (c.in_ok-run.ensures.ok, c.in_ok-run.ensures.start, lines_begin c.args.f.now Initially c.args.budget _ _ c.new-lines.ensures)
